@@ -63,8 +63,8 @@ pub record Written : Type 0 where
 abbrev pub is_short : {A : Type 0} → List A → Bool
 is_short xs = nat_lt (length xs) (2 ^ 32)
 
--- what is written in a list, from what is written in each of its members, with so many more items and parts
--- counted round them
+-- what is written in a list, from what is written in each of its members, with `items` more items and `parts`
+-- more parts counted round them; whether the list itself is short counts too
 abbrev pub written_round : ℕ → ℕ → List Written → Written
 written_round items parts ws = record {
   items = items + sum_by (λ w. w.items) ws;

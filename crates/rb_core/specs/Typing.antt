@@ -103,13 +103,13 @@ abbrev pub repeated : List Param → Option ℕ
 repeated = repeat_after []
 
 -- the binders of parameters in their order, where no token is given; else the fault that at this token a
--- variable stands twice
+-- variable stands for the second time
 abbrev pub twice_at : Option ℕ → List Param → Typing (List Binder)
 twice_at None ps = Ok (map binder_of ps)
 twice_at (Some at) ps = Err (VariableTwice at)
 
--- the binders of a whole pattern or parameter list in their order, or the fault at the first variable that
--- stands twice in it
+-- the binders of a whole pattern or parameter list in their order, or the fault at the first entry whose
+-- variable stands before it in the list
 abbrev pub distinct_binders : List Param → Typing (List Binder)
 distinct_binders ps = twice_at (repeated ps) ps
 
@@ -156,7 +156,7 @@ abbrev pub pattern_params : List DataDecl → Pat → PatternRule
 pattern_params types = fold-Pat PatternRule (pattern_step types)
 
 -- the binders of a whole pattern at a type, in their order, or its first fault: in its parts from left to
--- right, or else at a variable that stands twice
+-- right, or else at the first variable that stands before it in the pattern
 abbrev pub pattern_binders : List DataDecl → Pat → Ty → Typing (List Binder)
 pattern_binders types p t = and_then (pattern_params types p t) distinct_binders
 
