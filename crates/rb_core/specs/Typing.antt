@@ -156,7 +156,7 @@ abbrev pub pattern_params : List DataDecl → Pat → PatternRule
 pattern_params types = fold-Pat PatternRule (pattern_step types)
 
 -- the binders of a whole pattern at a type, in their order, or its first fault: in its parts from left to
--- right, or else at the first variable that stands before it in the pattern
+-- right, or else at the first variable that stands in the pattern for the second time
 abbrev pub pattern_binders : List DataDecl → Pat → Ty → Typing (List Binder)
 pattern_binders types p t = and_then (pattern_params types p t) distinct_binders
 
