@@ -1,8 +1,9 @@
 -- The words that may stand in a field, and the fronts of their texts.
-use Rattle.std.proofs.Common.{◌≡◌, ℕ, zero, suc, ◌+◌, ◌-◌, ◌*◌, ◌/◌, ◌%◌, ◌<◌, ◌≤◌, ◌^◌, List, [], ◌∷◌, ◌++◌, length, drop, nat_eq, nat_le, Bool, true, false, ◌||◌, ◌&&◌, nat_lt, ◌⊎◌, inl, inr, if◌then◌else◌, codes, Option, Some, None, refl, sym, ◌∙◌, ap, subst, arith, append_assoc, append-nil}
+use Rattle.std.proofs.Common.{◌≡◌, ℕ, zero, suc, ◌+◌, ◌-◌, ◌*◌, ◌/◌, ◌%◌, ◌<◌, ◌≤◌, ◌^◌, List, [], ◌∷◌, ◌++◌, length, drop, nat_eq, nat_le, Bool, true, false, cond, ◌||◌, ◌&&◌, nat_lt, ◌⊎◌, inl, inr, if◌then◌else◌, codes, Option, Some, None, refl, sym, ◌∙◌, ap, subst, arith, append_assoc, append-nil}
 use Rattle.std.specs.Fmt.{decimal}
 use Rattle.std.specs.Str.Parse.{digits_value}
-use Rattle.std.specs.List.{starts_with}
+use Rattle.std.specs.Prelude.{find}
+use Rattle.std.specs.List.{starts_with, list_any}
 use Rattle.std.specs.Cmp.Lexicographic.{pointwise, same_text}
 use Rattle.std.proofs.lemmas.Bool.Decides.{Decides-eqb}
 use Rattle.std.proofs.lemmas.Slice.Eq.{starts_is}
@@ -11,20 +12,20 @@ use Rattle.std.proofs.lemmas.Grind.{common_steps}
 use Rattle.std.proofs.lemmas.Option.{same_Some}
 use Rattle.rb_core.specs.Decimal.{is_numeral}
 use Rattle.rb_core.proofs.Decimals.{numeral_spelled, numeral-decimal, value-decimal}
-use Rattle.rb_target.specs.Text.{word_text}
+use Rattle.rb_target.specs.Text.{word_text, op_text}
 use Rattle.rb_target.specs.Spelled.{IsShort}
 use Rattle.rb_target.specs.Reading.{is_gap}
-use Rattle.rb_target.specs.Fields.{number_of, has, leads, is_open, named_word, numbered_word, word_in, named_front, numbered_front, is_word_front, InField}
+use Rattle.rb_target.specs.Fields.{number_of, has, leads, is_open, may_be, ops, op_of, op_word, named_word, numbered_word, word_in, named_front, numbered_front, is_word_front, key_bytes, keys, key_of}
+use Rattle.rb_target.specs.declared.instr.AluOp.{AluOp}
+use Rattle.rb_target.specs.declared.instr.AluOp.TheVariants.{Add, Sub, Mul, And, Or, Xor, Eq, Lt}
 use Rattle.rb_target.specs.declared.word.Word.{Word}
 use Rattle.rb_target.specs.declared.word.Word.TheVariants.{Number, Op, Dash, Of}
+use Rattle.rb_target.specs.declared.read.spot.Key.{Key}
 use Rattle.rb_target.specs.declared.read.spot.Field.{Field}
-use Rattle.rb_target.specs.declared.read.spot.Field.TheVariants.{Any, Upto, FromOne, Width, Align, OrDash, OrOf, Nothing}
+use Rattle.rb_target.specs.declared.read.spot.Field.TheVariants.{Upto, FromOne, Width, Align, Range, Operation, OrDash, OrOf, Nothing}
 
-pub in_open : (f : Field) (w : Word) → InField f w → is_open f ≡ true
-in_open Nothing (Number n) h = absurd (cc h)
-in_open Nothing (Op o) h = absurd h
-in_open Nothing Dash h = absurd h
-in_open Nothing Of h = absurd h
+pub in_open : (f : Field) (w : Word) → may_be f w ≡ true → is_open f ≡ true
+in_open Nothing w h = absurd (cc h)
 in_open f w h = refl
 
 pub both-left : (a b : Bool) → (a && b) ≡ true → a ≡ true
@@ -62,7 +63,7 @@ number_decimal n small = rw (numeral-decimal n small, value-decimal n small, wit
 -- what a word that is read is
 pub record Told (f : Field) (w : List ℕ) (x : Word) : Type 0 where
   pub text : w ≡ word_text x
-  pub may : InField f x
+  pub may : may_be f x ≡ true
   pub short : IsShort x
 
 if_told : (f : Field) (w text : List ℕ) (y x : Word) → (w ≡ text → Told f w y) → (if pointwise nat_eq w text then Some y else None) ≡ Some x → Told f w x
@@ -71,9 +72,35 @@ if_told f w text y x h e = elim (pointwise nat_eq w text) as (λ (b : Bool). b �
   | false ↦ λ k g. absurd (cc g)
 ] refl e
 
+-- a number that may stand there is a word that may
+pub number_may : (f : Field) (n : ℕ) → has f n ≡ true → may_be f (Number n) ≡ true
+number_may Nothing n h = absurd (cc h)
+number_may f n h = h
+
+may_number : (f : Field) (n : ℕ) → may_be f (Number n) ≡ true → has f n ≡ true
+may_number Nothing n h = absurd (cc h)
+may_number f n h = h
+
+find_told : {X : Type 0} (p : X → Bool) (xs : List X) (x : X) → find p xs ≡ Some x → p x ≡ true
+find_told p [] x e = cc
+find_told p (y ∷ ys) x e = elim (p y) as (λ (b : Bool). p y ≡ b → cond b (Some y) (find p ys) ≡ Some x → p x ≡ true) [
+  | true ↦ λ h g. let k : y ≡ x = cc in ap p (sym k) ∙ h
+  | false ↦ λ h g. find_told p ys x g
+] refl e
+
+pub key_told : (w : List ℕ) (k : Key) → key_of w ≡ Some k → key_bytes k ≡ w
+key_told w k e = same_text (key_bytes k) w (sym (find_told (λ j. pointwise nat_eq (key_bytes j) w) keys k e))
+
+op_told : (w : List ℕ) (o : Option AluOp) (x : Word) → op_of w ≡ o → op_word o ≡ Some x → Told Operation w x
+op_told w None x e g = absurd (cc g)
+op_told w (Some op) x e g =
+    let same : op_text op ≡ w = same_text (op_text op) w (sym (find_told (λ o. pointwise nat_eq (op_text o) w) ops op e)) in
+    subst (λ z. Told Operation w z) (same_Some (Op op) x g) (record { text = sym same; may = refl; short = tt })
+
 named_told : (f : Field) (w : List ℕ) (x : Word) → named_word f w ≡ Some x → Told f w x
-named_told OrDash w x e = if_told OrDash w (codes "-") Dash x (λ s. record { text = s; may = tt; short = tt }) e
-named_told OrOf w x e = if_told OrOf w (codes "of") Of x (λ s. record { text = s; may = tt; short = tt }) e
+named_told Operation w x e = op_told w (op_of w) x refl e
+named_told OrDash w x e = if_told OrDash w (codes "-") Dash x (λ s. record { text = s; may = refl; short = tt }) e
+named_told OrOf w x e = if_told OrOf w (codes "of") Of x (λ s. record { text = s; may = refl; short = tt }) e
 named_told f w x e = absurd (cc e)
 
 numbered_told : (f : Field) (w : List ℕ) (x : Word) (o : Option ℕ) → number_of w ≡ o → numbered_word f w o ≡ Some x → Told f w x
@@ -81,32 +108,40 @@ numbered_told f w x None o e = named_told f w x e
 numbered_told f w x (Some n) o e = elim (has f n) as (λ (b : Bool). has f n ≡ b → (if b then Some (Number n) else None) ≡ Some x → Told f w x) [
   | true ↦ λ k g.
       let told = number_told w n o in
-      subst (λ z. Told f w z) (same_Some (Number n) x g) (record { text = told.0; may = k; short = told.1 })
+      subst (λ z. Told f w z) (same_Some (Number n) x g) (record { text = told.0; may = number_may f n k; short = told.1 })
   | false ↦ λ k g. absurd (cc g)
 ] refl e
 
 pub word_told_in : (f : Field) (w : List ℕ) (x : Word) → word_in f w ≡ Some x → Told f w x
 word_told_in f w x e = numbered_told f w x (number_of w) refl e
 
-pub word_in_text : (f : Field) (x : Word) → InField f x → IsShort x → word_in f (word_text x) ≡ Some x
-word_in_text f (Number n) h small = rw (number_decimal n small, h) refl
-word_in_text OrDash Dash h small = refl
-word_in_text OrOf Of h small = refl
-word_in_text f (Op o) h small = absurd h
-word_in_text Any Dash h small = absurd h
-word_in_text (Upto n) Dash h small = absurd h
-word_in_text (FromOne n) Dash h small = absurd h
-word_in_text Width Dash h small = absurd h
-word_in_text Align Dash h small = absurd h
-word_in_text OrOf Dash h small = absurd h
-word_in_text Nothing Dash h small = absurd h
-word_in_text Any Of h small = absurd h
-word_in_text (Upto n) Of h small = absurd h
-word_in_text (FromOne n) Of h small = absurd h
-word_in_text Width Of h small = absurd h
-word_in_text Align Of h small = absurd h
-word_in_text OrDash Of h small = absurd h
-word_in_text Nothing Of h small = absurd h
+op_in_text : (o : AluOp) → word_in Operation (op_text o) ≡ Some (Op o)
+op_in_text Add = refl
+op_in_text Sub = refl
+op_in_text Mul = refl
+op_in_text And = refl
+op_in_text Or = refl
+op_in_text Xor = refl
+op_in_text Eq = refl
+op_in_text Lt = refl
+
+op_in_field : (f : Field) (o : AluOp) → may_be f (Op o) ≡ true → word_in f (op_text o) ≡ Some (Op o)
+op_in_field Operation o h = op_in_text o
+op_in_field f o h = absurd (cc h)
+
+dash_in_field : (f : Field) → may_be f Dash ≡ true → word_in f (codes "-") ≡ Some Dash
+dash_in_field OrDash h = refl
+dash_in_field f h = absurd (cc h)
+
+of_in_field : (f : Field) → may_be f Of ≡ true → word_in f (codes "of") ≡ Some Of
+of_in_field OrOf h = refl
+of_in_field f h = absurd (cc h)
+
+pub word_in_text : (f : Field) (x : Word) → may_be f x ≡ true → IsShort x → word_in f (word_text x) ≡ Some x
+word_in_text f (Number n) h small = let k = may_number f n h in rw (number_decimal n small, k) refl
+word_in_text f (Op o) h small = op_in_field f o h
+word_in_text f Dash h small = dash_in_field f h
+word_in_text f Of h small = of_in_field f h
 
 -- fronts -----------------------------------------------------------------------------------------
 
@@ -114,7 +149,7 @@ word_in_text Nothing Of h small = absurd h
 pub record IsWordFront (f : Field) (q : List ℕ) : Type 0 where
   pub word : Word
   pub rest : List ℕ
-  pub may : InField f word
+  pub may : may_be f word ≡ true
   pub short : IsShort word
   pub is : q ++ rest ≡ word_text word
 
@@ -124,9 +159,19 @@ starts_rest text q e = sym ((starts_is Decides-eqb text q (starts_with nat_eq te
 pub rest_starts : (text q rest : List ℕ) → q ++ rest ≡ text → starts_with nat_eq text q ≡ true
 rest_starts text q rest e = (starts_is Decides-eqb text q (starts_with nat_eq text q) refl).1 rest (sym e)
 
+pub any_told : {X : Type 0} (p : X → Bool) (xs : List X) → list_any p xs ≡ true → (x : X) × (p x ≡ true)
+any_told p [] e = absurd (cc e)
+any_told p (x ∷ xs) e = elim (p x) as (λ (b : Bool). p x ≡ b → (b || list_any p xs) ≡ true → (y : _) × (p y ≡ true)) [
+  | true ↦ λ h g. (x, h)
+  | false ↦ λ h g. any_told p xs g
+] refl e
+
 named_front-told : (f : Field) (q : List ℕ) → named_front f q ≡ true → IsWordFront f q
-named_front-told OrDash q e = record { word = Dash; rest = _; may = tt; short = tt; is = starts_rest (codes "-") q e }
-named_front-told OrOf q e = record { word = Of; rest = _; may = tt; short = tt; is = starts_rest (codes "of") q e }
+named_front-told Operation q e =
+    let o = any_told (λ o. starts_with nat_eq (op_text o) q) ops e in
+    record { word = Op o.0; rest = _; may = refl; short = tt; is = starts_rest (op_text o.0) q o.1 }
+named_front-told OrDash q e = record { word = Dash; rest = _; may = refl; short = tt; is = starts_rest (codes "-") q e }
+named_front-told OrOf q e = record { word = Of; rest = _; may = refl; short = tt; is = starts_rest (codes "of") q e }
 named_front-told f q e = absurd (cc e)
 
 -- one digit more
@@ -137,7 +182,7 @@ more_digit f q n d e low high digit h =
     record {
       word = Number (n * 10 + d);
       rest = (48 + d) ∷ [];
-      may = h;
+      may = number_may f (n * 10 + d) h;
       short = omega (arith, high, digit);
       is = ap (λ t. t ++ (48 + d) ∷ []) e ∙ ap2 tens ones;
     }
@@ -170,7 +215,7 @@ numbered_front-told f q None o e = named_front-told f q e
 numbered_front-told f q (Some n) o e = elim (has f n) as (λ (b : Bool). has f n ≡ b → (b || leads f n) ≡ true → IsWordFront f q) [
   | true ↦ λ k g.
       let told = number_told q n o in
-      record { word = Number n; rest = []; may = k; short = told.1; is = append-nil q ∙ told.0 }
+      record { word = Number n; rest = []; may = number_may f n k; short = told.1; is = append-nil q ∙ told.0 }
   | false ↦ λ k g. led f q n (number_told q n o).0 g
 ] refl e
 
@@ -181,14 +226,14 @@ abbrev begins : Field → ℕ → Bool
 begins f n = has f n || leads f n
 
 begins_tenth : (f : Field) (n : ℕ) → begins f n ≡ true → 10 ≤ n → begins f (n / 10) ≡ true
-begins_tenth Any n h big = refl
 begins_tenth (Upto high) n h big = grind (arith, common_steps)
 begins_tenth (FromOne high) n h big = grind (arith, common_steps)
 begins_tenth Width n h big = grind (arith, common_steps)
 begins_tenth Align n h big = grind (arith, common_steps)
-begins_tenth OrDash n h big = refl
-begins_tenth OrOf n h big = refl
+begins_tenth Range n h big = grind (arith, common_steps)
+begins_tenth Operation n h big = absurd (cc h)
 begins_tenth Nothing n h big = absurd (cc h)
+begins_tenth f n h big = refl
 
 -- each byte of a text can be read, from a front on
 abbrev pub Steps : (List ℕ → ℕ → Bool) → List ℕ → List ℕ → Type 0
@@ -223,23 +268,32 @@ decimal_steps go may goes tenth (suc k) n le small h = elim (nat_lt n 10) as (λ
       (subst (λ t. go t byte ≡ true) (decimal_step n big small) (goes n byte h small)))
 ] refl
 
-pub word_steps : (f : Field) (x : Word) → InField f x → IsShort x → Steps (λ w b. is_word_front f w) [] (word_text x)
+op_steps : (o : AluOp) → Steps (λ w b. is_word_front Operation w) [] (op_text o)
+op_steps Add = (refl, refl, (refl, refl, (refl, refl, tt)))
+op_steps Sub = (refl, refl, (refl, refl, (refl, refl, tt)))
+op_steps Mul = (refl, refl, (refl, refl, (refl, refl, tt)))
+op_steps And = (refl, refl, (refl, refl, (refl, refl, tt)))
+op_steps Or = (refl, refl, (refl, refl, tt))
+op_steps Xor = (refl, refl, (refl, refl, (refl, refl, tt)))
+op_steps Eq = (refl, refl, (refl, refl, tt))
+op_steps Lt = (refl, refl, (refl, refl, tt))
+
+op_steps_in : (f : Field) (o : AluOp) → may_be f (Op o) ≡ true → Steps (λ w b. is_word_front f w) [] (op_text o)
+op_steps_in Operation o h = op_steps o
+op_steps_in f o h = absurd (cc h)
+
+dash_steps : (f : Field) → may_be f Dash ≡ true → Steps (λ w b. is_word_front f w) [] (codes "-")
+dash_steps OrDash h = (refl, refl, tt)
+dash_steps f h = absurd (cc h)
+
+of_steps : (f : Field) → may_be f Of ≡ true → Steps (λ w b. is_word_front f w) [] (codes "of")
+of_steps OrOf h = (refl, refl, (refl, refl, tt))
+of_steps f h = absurd (cc h)
+
+pub word_steps : (f : Field) (x : Word) → may_be f x ≡ true → IsShort x → Steps (λ w b. is_word_front f w) [] (word_text x)
 word_steps f (Number n) h small =
-    decimal_steps (λ w b. is_word_front f w) (begins f) (λ m b g s. rw (number_decimal m s) g) (begins_tenth f) n n (omega arith) small (rw h refl)
-word_steps OrDash Dash h small = (refl, refl, tt)
-word_steps OrOf Of h small = (refl, refl, (refl, refl, tt))
-word_steps f (Op o) h small = absurd h
-word_steps Any Dash h small = absurd h
-word_steps (Upto n) Dash h small = absurd h
-word_steps (FromOne n) Dash h small = absurd h
-word_steps Width Dash h small = absurd h
-word_steps Align Dash h small = absurd h
-word_steps OrOf Dash h small = absurd h
-word_steps Nothing Dash h small = absurd h
-word_steps Any Of h small = absurd h
-word_steps (Upto n) Of h small = absurd h
-word_steps (FromOne n) Of h small = absurd h
-word_steps Width Of h small = absurd h
-word_steps Align Of h small = absurd h
-word_steps OrDash Of h small = absurd h
-word_steps Nothing Of h small = absurd h
+    let k = may_number f n h in
+    decimal_steps (λ w b. is_word_front f w) (begins f) (λ m b g s. rw (number_decimal m s) g) (begins_tenth f) n n (omega arith) small (rw k refl)
+word_steps f (Op o) h small = op_steps_in f o h
+word_steps f Dash h small = dash_steps f h
+word_steps f Of h small = of_steps f h

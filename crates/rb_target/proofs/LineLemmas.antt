@@ -1,61 +1,84 @@
--- Lines that are read in part.
-use Rattle.std.proofs.Common.{◌≡◌, ℕ, zero, suc, ◌-◌, ◌<◌, ◌≤◌, ◌^◌, ◌⊎◌, inl, inr, List, [], ◌∷◌, ◌++◌, take, true, false, Option, Some, None, refl, sym, ◌∙◌, ap, subst, arith, append_assoc, append-nil}
-use Rattle.std.proofs.lemmas.List.{take-append-drop, map-append}
-use Rattle.std.proofs.lemmas.List.Elements.{All-append, All-cons, All-nil}
+-- Lines that are read in part, by the table of fields: each can be completed, and a whole one spells its instruction.
+use Rattle.std.proofs.Common.{◌≡◌, ℕ, zero, suc, ◌-◌, ◌%◌, ◌<◌, ◌≤◌, ◌^◌, ◌⊎◌, inl, inr, List, [], ◌∷◌, ◌++◌, nat_le, Bool, true, false, ◌&&◌, Option, Some, None, All, map, refl, sym, ◌∙◌, ap, subst, arith, append_assoc, append-nil}
+use Rattle.std.specs.List.{fold}
+use Rattle.std.proofs.lemmas.List.Elements.{All-cons, All-nil}
 use Rattle.std.proofs.lemmas.Grind.{common_steps}
 use Rattle.rb_bytes.specs.Memory.{IsWidth, IsAlign}
 use Rattle.rb_target.proofs.Texts.{pairs-push}
-use Rattle.rb_target.specs.Text.{key_text, words_of, numbers, pairs, other_word}
+use Rattle.rb_target.proofs.FieldLemmas.{both-left, both-right}
+use Rattle.rb_target.specs.Text.{key_text, words_of, numbers, pairs}
 use Rattle.rb_target.specs.Validity.{IsBounded}
 use Rattle.rb_target.specs.Spelled.{IsShort}
 use Rattle.rb_target.proofs.SpelledForms.{AreShort, IsFit}
-use Rattle.rb_target.specs.Fields.{InField, has, is_open, field, may_end, line_at, after_number, after_name, after_word}
+use Rattle.rb_target.specs.Fields.{has, is_open, may_be, key_bytes, fields, next_field, behind_field, fields_after, may_end, first_line, after_word, value_of, paired, arms_in, listed, lists_in, instruction_of}
 use Rattle.rb_target.specs.declared.instr.AluOp.{AluOp}
+use Rattle.rb_target.specs.declared.instr.AluOp.TheVariants.{Add}
 use Rattle.rb_target.specs.declared.instr.SwitchArm.{SwitchArm}
 use Rattle.rb_target.specs.declared.instr.Instr.{Instr}
 use Rattle.rb_target.specs.declared.instr.Instr.TheVariants.{Const, Copy, Alu, Take, Put, Load, Store, Place, Jump, Switch, Call, Return}
 use Rattle.rb_target.specs.declared.word.Word.{Word}
 use Rattle.rb_target.specs.declared.word.Word.TheVariants.{Number, Op, Dash, Of}
-use Rattle.rb_target.specs.declared.read.spot.Turn.{Turn}
-use Rattle.rb_target.specs.declared.read.spot.Turn.TheVariants.{First, Second, Third, Fourth, Fifth}
+use Rattle.rb_target.specs.declared.read.spot.Key.{Key}
+use Rattle.rb_target.specs.declared.read.spot.Key.TheVariants as key
 use Rattle.rb_target.specs.declared.read.spot.Field.{Field}
-use Rattle.rb_target.specs.declared.read.spot.Field.TheVariants.{Any, Upto, FromOne, Width, Align, OrDash, OrOf, Nothing}
+use Rattle.rb_target.specs.declared.read.spot.Field.TheVariants.{Any, Upto, FromOne, Width, Align, Range, Operation, OrDash, Pairs, Target, OrOf, Slots, Nothing}
 use Rattle.rb_target.specs.declared.read.spot.Line.{Line}
+use Rattle.rb_target.specs.declared.read.line.Lists.{Lists}
+use Rattle.rb_target.specs.declared.read.line.Arms.{Arms}
 
--- how many words stand before a turn's
-abbrev pub words_before : Turn → ℕ
-words_before First = 0
-words_before Second = 1
-words_before Third = 2
-words_before Fourth = 3
-words_before Fifth = 4
+-- Words in fields --------------------------------------------------------------------------------
 
--- the words that are read
-abbrev pub seen_in : Instr → Turn → ℕ → List Word
-seen_in (Alu op n d a b) t last = Op op ∷ take (words_before t) (Number n ∷ Number d ∷ Number a ∷ Number b ∷ [])
-seen_in (Switch a other arms) First last = []
-seen_in (Switch a other arms) Second last = Number a ∷ []
-seen_in (Switch a other arms) Fourth last = words_of (Switch a other arms) ++ Number last ∷ []
-seen_in (Switch a other arms) t last = words_of (Switch a other arms)
-seen_in (Call f ds froms) First last = []
-seen_in (Call f ds froms) Second last = Number f ∷ numbers ds
-seen_in (Call f ds froms) t last = words_of (Call f ds froms)
-seen_in (Return froms) t last = numbers froms
-seen_in i t last = take (words_before t) (words_of i)
+-- words stand in the fields to come, one after the other
+abbrev pub fits : List Field → List Word → Bool
+fits fs [] = true
+fits [] (w ∷ ws) = false
+fits (f ∷ fs) (w ∷ ws) = may_be f w && fits (behind_field f fs w) ws
 
-abbrev pub seen : Line → List Word
-seen l = seen_in l.instr l.turn l.last
+-- words stand in the fields to come, and the line may end behind them
+abbrev pub whole : List Field → List Word → Bool
+whole fs [] = may_end fs
+whole [] (w ∷ ws) = false
+whole (f ∷ fs) (w ∷ ws) = may_be f w && whole (behind_field f fs w) ws
 
-pub record IsGoodLine (l : Line) : Type 0 where
-  pub spelled : IsFit l.instr
-  pub last : l.last < 2 ^ 64
+-- the fields to come behind some words
+abbrev pub behind : List Field → List Word → List Field
+behind fs [] = fs
+behind fs (w ∷ ws) = behind (fields_after fs w) ws
+
+both : (a b : Bool) → a ≡ true → b ≡ true → (a && b) ≡ true
+both true b x y = y
+both false b x y = x
+
+fits-push : (fs : List Field) (ws : List Word) (w : Word) → fits fs ws ≡ true → may_be (next_field (behind fs ws)) w ≡ true → fits fs (ws ++ w ∷ []) ≡ true
+fits-push [] [] w a b = absurd (cc b)
+fits-push (f ∷ fs) [] w a b = both (may_be f w) true b refl
+fits-push [] (v ∷ ws) w a b = absurd (cc a)
+fits-push (f ∷ fs) (v ∷ ws) w a b =
+    let more : List Field = behind_field f fs v in
+    both (may_be f v) (fits more (ws ++ w ∷ [])) (both-left (may_be f v) (fits more ws) a) (fits-push more ws w (both-right (may_be f v) (fits more ws) a) b)
+
+behind-push : (fs : List Field) (ws : List Word) (w : Word) → behind fs (ws ++ w ∷ []) ≡ fields_after (behind fs ws) w
+behind-push fs [] w = refl
+behind-push fs (v ∷ ws) w = behind-push (fields_after fs v) ws w
+
+whole-append : (fs : List Field) (ws more : List Word) → fits fs ws ≡ true → whole (behind fs ws) more ≡ true → whole fs (ws ++ more) ≡ true
+whole-append fs [] more a b = b
+whole-append [] (w ∷ ws) more a b = absurd (cc a)
+whole-append (f ∷ fs) (w ∷ ws) more a b =
+    let rest : List Field = behind_field f fs w in
+    both (may_be f w) (whole rest (ws ++ more)) (both-left (may_be f w) (fits rest ws) a) (whole-append rest ws more (both-right (may_be f w) (fits rest ws) a) b)
+
+-- the next word stands in the next field, and the others behind it
+pub whole_next : (fs : List Field) (w : Word) (ws : List Word) → whole fs (w ∷ ws) ≡ true → (may_be (next_field fs) w ≡ true) × (whole (fields_after fs w) ws ≡ true)
+whole_next [] w ws h = absurd (cc h)
+whole_next (f ∷ fs) w ws h = (both-left (may_be f w) (whole (behind_field f fs w) ws) h, both-right (may_be f w) (whole (behind_field f fs w) ws) h)
 
 -- bounds ---------------------------------------------------------------------------------------
 
 from_one_told : (high n : ℕ) → has (FromOne high) n ≡ true → (1 ≤ n) × (n ≤ high)
 from_one_told high n h = grind (arith, common_steps)
 
-upto_told : (high n : ℕ) → has (Upto high) n ≡ true → n ≤ high
+upto_told : (high n : ℕ) → nat_le n high ≡ true → n ≤ high
 upto_told high n h = grind (arith, common_steps)
 
 width_told : (n : ℕ) → has Width n ≡ true → IsWidth n
@@ -85,458 +108,10 @@ align_told n h = elim (align_by_cases n h) [
   ]
 ]
 
-short-append : (us vs : List Word) → AreShort us → AreShort vs → AreShort (us ++ vs)
-short-append [] vs a b = b
-short-append (u ∷ us) vs a b = (a.0, short-append us vs a.1 b)
-
-short-left : (us vs : List Word) → AreShort (us ++ vs) → AreShort us
-short-left [] vs a = tt
-short-left (u ∷ us) vs a = (a.0, short-left us vs a.1)
-
-short-right : (us vs : List Word) → AreShort (us ++ vs) → AreShort vs
-short-right [] vs a = a
-short-right (u ∷ us) vs a = short-right us vs a.1
-
-numbers-push : (ns : List ℕ) (n : ℕ) → numbers (ns ++ n ∷ []) ≡ numbers ns ++ Number n ∷ []
-numbers-push ns n = map-append (λ m. Number m) ns (n ∷ [])
-
-short-numbers-push : (ns : List ℕ) (n : ℕ) → AreShort (numbers ns) → n < 2 ^ 64 → AreShort (numbers (ns ++ n ∷ []))
-short-numbers-push ns n a small = subst AreShort (sym (numbers-push ns n)) (short-append (numbers ns) (Number n ∷ []) a (small, tt))
-
--- a word more ----------------------------------------------------------------------------------
-
-pub record Follows (l : Line) (w : Word) (m : Line) : Type 0 where
-  pub words : seen m ≡ seen l ++ w ∷ []
-  pub key : key_text m.instr ≡ key_text l.instr
-  pub good : IsGoodLine m
-
-pub number_follows : (i : Instr) (t : Turn) (last n : ℕ) → IsGoodLine (line_at i t last) → has (field i t) n ≡ true → n < 2 ^ 64 → Follows (line_at i t last) (Number n) (after_number i t last n)
-number_follows (Const d c) First last n g h small = record {
-  words = refl;
-  key = refl;
-  good = record { spelled = record { bounded = g.spelled.bounded; short = (small, (g.spelled.short.1.0, tt)) }; last = small };
-}
-number_follows (Const d c) Second last n g h small = record {
-  words = refl;
-  key = refl;
-  good = record { spelled = record { bounded = small; short = (g.spelled.short.0, (small, tt)) }; last = small };
-}
-number_follows (Const d c) t last n g h small = absurd (cc h)
-number_follows (Copy d a) First last n g h small = record {
-  words = refl;
-  key = refl;
-  good = record { spelled = record { bounded = g.spelled.bounded; short = (small, (g.spelled.short.1.0, tt)) }; last = small };
-}
-number_follows (Copy d a) Second last n g h small = record {
-  words = refl;
-  key = refl;
-  good = record { spelled = record { bounded = g.spelled.bounded; short = (g.spelled.short.0, (small, tt)) }; last = small };
-}
-number_follows (Copy d a) t last n g h small = absurd (cc h)
-number_follows (Alu op bits d a b) First last n g h small = record {
-  words = refl;
-  key = refl;
-  good = record { spelled = record { bounded = from_one_told 64 n h; short = (tt, (small, (g.spelled.short.1.1.0, (g.spelled.short.1.1.1.0, (g.spelled.short.1.1.1.1.0, tt))))) }; last = small };
-}
-number_follows (Alu op bits d a b) Second last n g h small = record {
-  words = refl;
-  key = refl;
-  good = record { spelled = record { bounded = g.spelled.bounded; short = (tt, (g.spelled.short.1.0, (small, (g.spelled.short.1.1.1.0, (g.spelled.short.1.1.1.1.0, tt))))) }; last = small };
-}
-number_follows (Alu op bits d a b) Third last n g h small = record {
-  words = refl;
-  key = refl;
-  good = record { spelled = record { bounded = g.spelled.bounded; short = (tt, (g.spelled.short.1.0, (g.spelled.short.1.1.0, (small, (g.spelled.short.1.1.1.1.0, tt))))) }; last = small };
-}
-number_follows (Alu op bits d a b) Fourth last n g h small = record {
-  words = refl;
-  key = refl;
-  good = record { spelled = record { bounded = g.spelled.bounded; short = (tt, (g.spelled.short.1.0, (g.spelled.short.1.1.0, (g.spelled.short.1.1.1.0, (small, tt))))) }; last = small };
-}
-number_follows (Alu op bits d a b) Fifth last n g h small = absurd (cc h)
-number_follows (Take d a o l) First last n g h small = record {
-  words = refl;
-  key = refl;
-  good = record { spelled = record { bounded = g.spelled.bounded; short = (small, (g.spelled.short.1.0, (g.spelled.short.1.1.0, (g.spelled.short.1.1.1.0, tt)))) }; last = small };
-}
-number_follows (Take d a o l) Second last n g h small = record {
-  words = refl;
-  key = refl;
-  good = record { spelled = record { bounded = g.spelled.bounded; short = (g.spelled.short.0, (small, (g.spelled.short.1.1.0, (g.spelled.short.1.1.1.0, tt)))) }; last = small };
-}
-number_follows (Take d a o l) Third last n g h small = record {
-  words = refl;
-  key = refl;
-  good = record { spelled = record { bounded = (omega arith, let k = upto_told 63 n h in omega (arith, k)); short = (g.spelled.short.0, (g.spelled.short.1.0, (small, (omega arith, tt)))) }; last = small };
-}
-number_follows (Take d a o l) Fourth last n g h small = record {
-  words = refl;
-  key = refl;
-  good = record { spelled = record { bounded = (let k = from_one_told (64 - o) n h in (k.0, omega (arith, k.1, g.spelled.bounded.0, g.spelled.bounded.1))); short = (g.spelled.short.0, (g.spelled.short.1.0, (g.spelled.short.1.1.0, (small, tt)))) }; last = small };
-}
-number_follows (Take d a o l) t last n g h small = absurd (cc h)
-number_follows (Put d a o l) First last n g h small = record {
-  words = refl;
-  key = refl;
-  good = record { spelled = record { bounded = g.spelled.bounded; short = (small, (g.spelled.short.1.0, (g.spelled.short.1.1.0, (g.spelled.short.1.1.1.0, tt)))) }; last = small };
-}
-number_follows (Put d a o l) Second last n g h small = record {
-  words = refl;
-  key = refl;
-  good = record { spelled = record { bounded = g.spelled.bounded; short = (g.spelled.short.0, (small, (g.spelled.short.1.1.0, (g.spelled.short.1.1.1.0, tt)))) }; last = small };
-}
-number_follows (Put d a o l) Third last n g h small = record {
-  words = refl;
-  key = refl;
-  good = record { spelled = record { bounded = (omega arith, let k = upto_told 63 n h in omega (arith, k)); short = (g.spelled.short.0, (g.spelled.short.1.0, (small, (omega arith, tt)))) }; last = small };
-}
-number_follows (Put d a o l) Fourth last n g h small = record {
-  words = refl;
-  key = refl;
-  good = record { spelled = record { bounded = (let k = from_one_told (64 - o) n h in (k.0, omega (arith, k.1, g.spelled.bounded.0, g.spelled.bounded.1))); short = (g.spelled.short.0, (g.spelled.short.1.0, (g.spelled.short.1.1.0, (small, tt)))) }; last = small };
-}
-number_follows (Put d a o l) t last n g h small = absurd (cc h)
-number_follows (Load d a offset width) First last n g h small = record {
-  words = refl;
-  key = refl;
-  good = record { spelled = record { bounded = g.spelled.bounded; short = (small, (g.spelled.short.1.0, (g.spelled.short.1.1.0, (g.spelled.short.1.1.1.0, tt)))) }; last = small };
-}
-number_follows (Load d a offset width) Second last n g h small = record {
-  words = refl;
-  key = refl;
-  good = record { spelled = record { bounded = g.spelled.bounded; short = (g.spelled.short.0, (small, (g.spelled.short.1.1.0, (g.spelled.short.1.1.1.0, tt)))) }; last = small };
-}
-number_follows (Load d a offset width) Third last n g h small = record {
-  words = refl;
-  key = refl;
-  good = record { spelled = record { bounded = (upto_told 511 n h, g.spelled.bounded.1); short = (g.spelled.short.0, (g.spelled.short.1.0, (small, (g.spelled.short.1.1.1.0, tt)))) }; last = small };
-}
-number_follows (Load d a offset width) Fourth last n g h small = record {
-  words = refl;
-  key = refl;
-  good = record { spelled = record { bounded = (g.spelled.bounded.0, width_told n h); short = (g.spelled.short.0, (g.spelled.short.1.0, (g.spelled.short.1.1.0, (small, tt)))) }; last = small };
-}
-number_follows (Load d a offset width) t last n g h small = absurd (cc h)
-number_follows (Store a offset width v) First last n g h small = record {
-  words = refl;
-  key = refl;
-  good = record { spelled = record { bounded = g.spelled.bounded; short = (small, (g.spelled.short.1.0, (g.spelled.short.1.1.0, (g.spelled.short.1.1.1.0, tt)))) }; last = small };
-}
-number_follows (Store a offset width v) Second last n g h small = record {
-  words = refl;
-  key = refl;
-  good = record { spelled = record { bounded = (upto_told 511 n h, g.spelled.bounded.1); short = (g.spelled.short.0, (small, (g.spelled.short.1.1.0, (g.spelled.short.1.1.1.0, tt)))) }; last = small };
-}
-number_follows (Store a offset width v) Third last n g h small = record {
-  words = refl;
-  key = refl;
-  good = record { spelled = record { bounded = (g.spelled.bounded.0, width_told n h); short = (g.spelled.short.0, (g.spelled.short.1.0, (small, (g.spelled.short.1.1.1.0, tt)))) }; last = small };
-}
-number_follows (Store a offset width v) Fourth last n g h small = record {
-  words = refl;
-  key = refl;
-  good = record { spelled = record { bounded = g.spelled.bounded; short = (g.spelled.short.0, (g.spelled.short.1.0, (g.spelled.short.1.1.0, (small, tt)))) }; last = small };
-}
-number_follows (Store a offset width v) t last n g h small = absurd (cc h)
-number_follows (Place d size align) First last n g h small = record {
-  words = refl;
-  key = refl;
-  good = record { spelled = record { bounded = g.spelled.bounded; short = (small, (g.spelled.short.1.0, (g.spelled.short.1.1.0, tt))) }; last = small };
-}
-number_follows (Place d size align) Second last n g h small = record {
-  words = refl;
-  key = refl;
-  good = record { spelled = record { bounded = (let k = from_one_told 512 n h in (omega (arith, k.0), k.1), g.spelled.bounded.1); short = (g.spelled.short.0, (small, (g.spelled.short.1.1.0, tt))) }; last = small };
-}
-number_follows (Place d size align) Third last n g h small = record {
-  words = refl;
-  key = refl;
-  good = record { spelled = record { bounded = (g.spelled.bounded.0, align_told n h); short = (g.spelled.short.0, (g.spelled.short.1.0, (small, tt))) }; last = small };
-}
-number_follows (Place d size align) t last n g h small = absurd (cc h)
-number_follows (Jump t) First last n g h small = record {
-  words = refl;
-  key = refl;
-  good = record { spelled = record { bounded = g.spelled.bounded; short = (small, tt) }; last = small };
-}
-number_follows (Jump x) t last n g h small = absurd (cc h)
-number_follows (Switch a other arms) First last n g h small = record {
-  words = refl;
-  key = refl;
-  good = record { spelled = record { bounded = g.spelled.bounded; short = (small, g.spelled.short.1) }; last = small };
-}
-number_follows (Switch a other arms) Second last n g h small = record {
-  words = refl;
-  key = refl;
-  good = record { spelled = record { bounded = All-nil (λ (arm : SwitchArm). arm.number < 2 ^ 64); short = (g.spelled.short.0, (small, tt)) }; last = small };
-}
-number_follows (Switch a other arms) Third last n g h small = record {
-  words = refl;
-  key = refl;
-  good = record { spelled = record { bounded = g.spelled.bounded; short = g.spelled.short }; last = small };
-}
-number_follows (Switch a other arms) Fourth last n g h small =
-    let arm : SwitchArm = record { number = last; target = n } in
-    record {
-      words = ap (λ ws. Number a ∷ other_word other ∷ ws) (pairs-push arms arm ∙ sym (append_assoc (pairs arms) (Number last ∷ []) (Number n ∷ [])));
-      key = refl;
-      good = record { spelled = record { bounded = All-append (λ (arm : SwitchArm). arm.number < 2 ^ 64) arms (arm ∷ []) g.spelled.bounded (All-cons (λ (arm : SwitchArm). arm.number < 2 ^ 64) arm [] g.last (All-nil (λ (arm : SwitchArm). arm.number < 2 ^ 64))); short = (g.spelled.short.0, (g.spelled.short.1.0, subst AreShort (sym (pairs-push arms arm)) (short-append (pairs arms) (Number last ∷ Number n ∷ []) g.spelled.short.1.1 (g.last, (small, tt))))) }; last = small };
-    }
-number_follows (Switch a other arms) Fifth last n g h small = absurd (cc h)
-number_follows (Call f ds froms) First last n g h small = record {
-  words = refl;
-  key = refl;
-  good = record { spelled = record { bounded = tt; short = (small, short-right (numbers ds) (Of ∷ numbers froms) g.spelled.short.1) }; last = small };
-}
-number_follows (Call f ds froms) Second last n g h small = record {
-  words = ap (λ ws. Number f ∷ ws) (numbers-push ds n);
-  key = refl;
-  good = record { spelled = record { bounded = tt; short = (g.spelled.short.0, short-append (numbers (ds ++ n ∷ [])) (Of ∷ numbers froms) (short-numbers-push ds n (short-left (numbers ds) (Of ∷ numbers froms) g.spelled.short.1) small) (short-right (numbers ds) (Of ∷ numbers froms) g.spelled.short.1)) }; last = small };
-}
-number_follows (Call f ds froms) Third last n g h small = record {
-  words = ap (λ ws. Number f ∷ numbers ds ++ Of ∷ ws) (numbers-push froms n) ∙ ap (λ ws. Number f ∷ ws) (sym (append_assoc (numbers ds) (Of ∷ numbers froms) (Number n ∷ [])));
-  key = refl;
-  good = record { spelled = record { bounded = tt; short = (g.spelled.short.0, short-append (numbers ds) (Of ∷ numbers (froms ++ n ∷ [])) (short-left (numbers ds) (Of ∷ numbers froms) g.spelled.short.1) (tt, short-numbers-push froms n (short-right (numbers ds) (Of ∷ numbers froms) g.spelled.short.1).1 small)) }; last = small };
-}
-number_follows (Call f ds froms) t last n g h small = absurd (cc h)
-number_follows (Return froms) First last n g h small = record {
-  words = numbers-push froms n;
-  key = refl;
-  good = record { spelled = record { bounded = tt; short = short-numbers-push froms n g.spelled.short small }; last = small };
-}
-number_follows (Return froms) t last n g h small = absurd (cc h)
-
--- `-` and `of`
-abbrev IsName : Word → Type 0
-IsName (Number n) = ⊥
-IsName w = Unit {0}
-
-name_follows : (i : Instr) (t : Turn) (last : ℕ) (w : Word) → IsGoodLine (line_at i t last) → InField (field i t) w → IsName w → Follows (line_at i t last) w (after_name i t last w)
-name_follows i t last (Number n) g h is = absurd is
-name_follows i t last (Op o) g h is = absurd h
-name_follows (Switch a other arms) Second last Dash g h is = record {
-  words = refl;
-  key = refl;
-  good = record { spelled = record { bounded = All-nil (λ (arm : SwitchArm). arm.number < 2 ^ 64); short = (g.spelled.short.0, (tt, tt)) }; last = g.last };
-}
-name_follows (Call f ds froms) Second last Of g h is = record {
-  words = refl;
-  key = refl;
-  good = record { spelled = record { bounded = tt; short = (g.spelled.short.0, short-append (numbers ds) (Of ∷ []) (short-left (numbers ds) (Of ∷ numbers froms) g.spelled.short.1) (tt, tt)) }; last = g.last };
-}
-name_follows (Const d c) First last Dash g h is = absurd h
-name_follows (Const d c) First last Of g h is = absurd h
-name_follows (Const d c) Second last Dash g h is = absurd h
-name_follows (Const d c) Second last Of g h is = absurd h
-name_follows (Const d c) Third last Dash g h is = absurd h
-name_follows (Const d c) Third last Of g h is = absurd h
-name_follows (Const d c) Fourth last Dash g h is = absurd h
-name_follows (Const d c) Fourth last Of g h is = absurd h
-name_follows (Const d c) Fifth last Dash g h is = absurd h
-name_follows (Const d c) Fifth last Of g h is = absurd h
-name_follows (Copy d a) First last Dash g h is = absurd h
-name_follows (Copy d a) First last Of g h is = absurd h
-name_follows (Copy d a) Second last Dash g h is = absurd h
-name_follows (Copy d a) Second last Of g h is = absurd h
-name_follows (Copy d a) Third last Dash g h is = absurd h
-name_follows (Copy d a) Third last Of g h is = absurd h
-name_follows (Copy d a) Fourth last Dash g h is = absurd h
-name_follows (Copy d a) Fourth last Of g h is = absurd h
-name_follows (Copy d a) Fifth last Dash g h is = absurd h
-name_follows (Copy d a) Fifth last Of g h is = absurd h
-name_follows (Alu op bits d a b) First last Dash g h is = absurd h
-name_follows (Alu op bits d a b) First last Of g h is = absurd h
-name_follows (Alu op bits d a b) Second last Dash g h is = absurd h
-name_follows (Alu op bits d a b) Second last Of g h is = absurd h
-name_follows (Alu op bits d a b) Third last Dash g h is = absurd h
-name_follows (Alu op bits d a b) Third last Of g h is = absurd h
-name_follows (Alu op bits d a b) Fourth last Dash g h is = absurd h
-name_follows (Alu op bits d a b) Fourth last Of g h is = absurd h
-name_follows (Alu op bits d a b) Fifth last Dash g h is = absurd h
-name_follows (Alu op bits d a b) Fifth last Of g h is = absurd h
-name_follows (Take d a o l) First last Dash g h is = absurd h
-name_follows (Take d a o l) First last Of g h is = absurd h
-name_follows (Take d a o l) Second last Dash g h is = absurd h
-name_follows (Take d a o l) Second last Of g h is = absurd h
-name_follows (Take d a o l) Third last Dash g h is = absurd h
-name_follows (Take d a o l) Third last Of g h is = absurd h
-name_follows (Take d a o l) Fourth last Dash g h is = absurd h
-name_follows (Take d a o l) Fourth last Of g h is = absurd h
-name_follows (Take d a o l) Fifth last Dash g h is = absurd h
-name_follows (Take d a o l) Fifth last Of g h is = absurd h
-name_follows (Put d a o l) First last Dash g h is = absurd h
-name_follows (Put d a o l) First last Of g h is = absurd h
-name_follows (Put d a o l) Second last Dash g h is = absurd h
-name_follows (Put d a o l) Second last Of g h is = absurd h
-name_follows (Put d a o l) Third last Dash g h is = absurd h
-name_follows (Put d a o l) Third last Of g h is = absurd h
-name_follows (Put d a o l) Fourth last Dash g h is = absurd h
-name_follows (Put d a o l) Fourth last Of g h is = absurd h
-name_follows (Put d a o l) Fifth last Dash g h is = absurd h
-name_follows (Put d a o l) Fifth last Of g h is = absurd h
-name_follows (Load d a offset width) First last Dash g h is = absurd h
-name_follows (Load d a offset width) First last Of g h is = absurd h
-name_follows (Load d a offset width) Second last Dash g h is = absurd h
-name_follows (Load d a offset width) Second last Of g h is = absurd h
-name_follows (Load d a offset width) Third last Dash g h is = absurd h
-name_follows (Load d a offset width) Third last Of g h is = absurd h
-name_follows (Load d a offset width) Fourth last Dash g h is = absurd h
-name_follows (Load d a offset width) Fourth last Of g h is = absurd h
-name_follows (Load d a offset width) Fifth last Dash g h is = absurd h
-name_follows (Load d a offset width) Fifth last Of g h is = absurd h
-name_follows (Store a offset width v) First last Dash g h is = absurd h
-name_follows (Store a offset width v) First last Of g h is = absurd h
-name_follows (Store a offset width v) Second last Dash g h is = absurd h
-name_follows (Store a offset width v) Second last Of g h is = absurd h
-name_follows (Store a offset width v) Third last Dash g h is = absurd h
-name_follows (Store a offset width v) Third last Of g h is = absurd h
-name_follows (Store a offset width v) Fourth last Dash g h is = absurd h
-name_follows (Store a offset width v) Fourth last Of g h is = absurd h
-name_follows (Store a offset width v) Fifth last Dash g h is = absurd h
-name_follows (Store a offset width v) Fifth last Of g h is = absurd h
-name_follows (Place d size align) First last Dash g h is = absurd h
-name_follows (Place d size align) First last Of g h is = absurd h
-name_follows (Place d size align) Second last Dash g h is = absurd h
-name_follows (Place d size align) Second last Of g h is = absurd h
-name_follows (Place d size align) Third last Dash g h is = absurd h
-name_follows (Place d size align) Third last Of g h is = absurd h
-name_follows (Place d size align) Fourth last Dash g h is = absurd h
-name_follows (Place d size align) Fourth last Of g h is = absurd h
-name_follows (Place d size align) Fifth last Dash g h is = absurd h
-name_follows (Place d size align) Fifth last Of g h is = absurd h
-name_follows (Jump t) First last Dash g h is = absurd h
-name_follows (Jump t) First last Of g h is = absurd h
-name_follows (Jump t) Second last Dash g h is = absurd h
-name_follows (Jump t) Second last Of g h is = absurd h
-name_follows (Jump t) Third last Dash g h is = absurd h
-name_follows (Jump t) Third last Of g h is = absurd h
-name_follows (Jump t) Fourth last Dash g h is = absurd h
-name_follows (Jump t) Fourth last Of g h is = absurd h
-name_follows (Jump t) Fifth last Dash g h is = absurd h
-name_follows (Jump t) Fifth last Of g h is = absurd h
-name_follows (Switch a other arms) First last Dash g h is = absurd h
-name_follows (Switch a other arms) First last Of g h is = absurd h
-name_follows (Switch a other arms) Second last Of g h is = absurd h
-name_follows (Switch a other arms) Third last Dash g h is = absurd h
-name_follows (Switch a other arms) Third last Of g h is = absurd h
-name_follows (Switch a other arms) Fourth last Dash g h is = absurd h
-name_follows (Switch a other arms) Fourth last Of g h is = absurd h
-name_follows (Switch a other arms) Fifth last Dash g h is = absurd h
-name_follows (Switch a other arms) Fifth last Of g h is = absurd h
-name_follows (Call f ds froms) First last Dash g h is = absurd h
-name_follows (Call f ds froms) First last Of g h is = absurd h
-name_follows (Call f ds froms) Second last Dash g h is = absurd h
-name_follows (Call f ds froms) Third last Dash g h is = absurd h
-name_follows (Call f ds froms) Third last Of g h is = absurd h
-name_follows (Call f ds froms) Fourth last Dash g h is = absurd h
-name_follows (Call f ds froms) Fourth last Of g h is = absurd h
-name_follows (Call f ds froms) Fifth last Dash g h is = absurd h
-name_follows (Call f ds froms) Fifth last Of g h is = absurd h
-name_follows (Return froms) First last Dash g h is = absurd h
-name_follows (Return froms) First last Of g h is = absurd h
-name_follows (Return froms) Second last Dash g h is = absurd h
-name_follows (Return froms) Second last Of g h is = absurd h
-name_follows (Return froms) Third last Dash g h is = absurd h
-name_follows (Return froms) Third last Of g h is = absurd h
-name_follows (Return froms) Fourth last Dash g h is = absurd h
-name_follows (Return froms) Fourth last Of g h is = absurd h
-name_follows (Return froms) Fifth last Dash g h is = absurd h
-name_follows (Return froms) Fifth last Of g h is = absurd h
-
-pub word_follows : (l : Line) (w : Word) → IsGoodLine l → InField (field l.instr l.turn) w → IsShort w → Follows l w (after_word l w)
-word_follows l (Number n) g h small = number_follows l.instr l.turn l.last n g h small
-word_follows l (Op o) g h small = name_follows l.instr l.turn l.last (Op o) g h tt
-word_follows l Dash g h small = name_follows l.instr l.turn l.last Dash g h tt
-word_follows l Of g h small = name_follows l.instr l.turn l.last Of g h tt
-
--- where a line ends, each of its words is read
-pub all_seen : (i : Instr) (t : Turn) (last : ℕ) → may_end i t ≡ true → seen_in i t last ≡ words_of i
-all_seen (Const d c) First last h = absurd (cc h)
-all_seen (Const d c) Second last h = absurd (cc h)
-all_seen (Const d c) t last h = refl
-all_seen (Copy d a) First last h = absurd (cc h)
-all_seen (Copy d a) Second last h = absurd (cc h)
-all_seen (Copy d a) t last h = refl
-all_seen (Alu op bits d a b) First last h = absurd (cc h)
-all_seen (Alu op bits d a b) Second last h = absurd (cc h)
-all_seen (Alu op bits d a b) Third last h = absurd (cc h)
-all_seen (Alu op bits d a b) Fourth last h = absurd (cc h)
-all_seen (Alu op bits d a b) t last h = refl
-all_seen (Take d a o l) First last h = absurd (cc h)
-all_seen (Take d a o l) Second last h = absurd (cc h)
-all_seen (Take d a o l) Third last h = absurd (cc h)
-all_seen (Take d a o l) Fourth last h = absurd (cc h)
-all_seen (Take d a o l) t last h = refl
-all_seen (Put d a o l) First last h = absurd (cc h)
-all_seen (Put d a o l) Second last h = absurd (cc h)
-all_seen (Put d a o l) Third last h = absurd (cc h)
-all_seen (Put d a o l) Fourth last h = absurd (cc h)
-all_seen (Put d a o l) t last h = refl
-all_seen (Load d a offset width) First last h = absurd (cc h)
-all_seen (Load d a offset width) Second last h = absurd (cc h)
-all_seen (Load d a offset width) Third last h = absurd (cc h)
-all_seen (Load d a offset width) Fourth last h = absurd (cc h)
-all_seen (Load d a offset width) t last h = refl
-all_seen (Store a offset width v) First last h = absurd (cc h)
-all_seen (Store a offset width v) Second last h = absurd (cc h)
-all_seen (Store a offset width v) Third last h = absurd (cc h)
-all_seen (Store a offset width v) Fourth last h = absurd (cc h)
-all_seen (Store a offset width v) t last h = refl
-all_seen (Place d size align) First last h = absurd (cc h)
-all_seen (Place d size align) Second last h = absurd (cc h)
-all_seen (Place d size align) Third last h = absurd (cc h)
-all_seen (Place d size align) t last h = refl
-all_seen (Jump x) First last h = absurd (cc h)
-all_seen (Jump x) t last h = refl
-all_seen (Switch a other arms) First last h = absurd (cc h)
-all_seen (Switch a other arms) Second last h = absurd (cc h)
-all_seen (Switch a other arms) Fourth last h = absurd (cc h)
-all_seen (Switch a other arms) t last h = refl
-all_seen (Call f ds froms) First last h = absurd (cc h)
-all_seen (Call f ds froms) Second last h = absurd (cc h)
-all_seen (Call f ds froms) t last h = refl
-all_seen (Return froms) t last h = refl
-
--- an instruction whose line goes on from here
-pub record Completes (l : Line) : Type 0 where
-  pub instr : Instr
-  pub more : List Word
-  pub key : key_text instr ≡ key_text l.instr
-  pub spelled : IsFit instr
-  pub words : seen l ++ more ≡ words_of instr
-
-pub completes : (i : Instr) (t : Turn) (last : ℕ) → IsGoodLine (line_at i t last) → Completes (line_at i t last)
-completes (Const d c) t last g = record { instr = Const d c; more = _; key = refl; spelled = g.spelled; words = take-append-drop (words_before t) (words_of (Const d c)) }
-completes (Copy d a) t last g = record { instr = Copy d a; more = _; key = refl; spelled = g.spelled; words = take-append-drop (words_before t) (words_of (Copy d a)) }
-completes (Alu op bits d a b) t last g = record { instr = Alu op bits d a b; more = _; key = refl; spelled = g.spelled; words = ap (λ ws. Op op ∷ ws) (take-append-drop (words_before t) (Number bits ∷ Number d ∷ Number a ∷ Number b ∷ [])) }
-completes (Take d a o l) t last g = record { instr = Take d a o l; more = _; key = refl; spelled = g.spelled; words = take-append-drop (words_before t) (words_of (Take d a o l)) }
-completes (Put d a o l) t last g = record { instr = Put d a o l; more = _; key = refl; spelled = g.spelled; words = take-append-drop (words_before t) (words_of (Put d a o l)) }
-completes (Load d a offset width) t last g = record { instr = Load d a offset width; more = _; key = refl; spelled = g.spelled; words = take-append-drop (words_before t) (words_of (Load d a offset width)) }
-completes (Store a offset width v) t last g = record { instr = Store a offset width v; more = _; key = refl; spelled = g.spelled; words = take-append-drop (words_before t) (words_of (Store a offset width v)) }
-completes (Place d size align) t last g = record { instr = Place d size align; more = _; key = refl; spelled = g.spelled; words = take-append-drop (words_before t) (words_of (Place d size align)) }
-completes (Jump x) t last g = record { instr = Jump x; more = _; key = refl; spelled = g.spelled; words = take-append-drop (words_before t) (words_of (Jump x)) }
-completes (Switch a other arms) First last g = record { instr = Switch a other arms; more = _; key = refl; spelled = g.spelled; words = refl }
-completes (Switch a other arms) Second last g = record { instr = Switch a other arms; more = other_word other ∷ pairs arms; key = refl; spelled = g.spelled; words = refl }
-completes (Switch a other arms) Fourth last g =
-    let next = number_follows (Switch a other arms) Fourth last 0 g refl (omega arith) in
-    record { instr = Switch a other (arms ++ record { number = last; target = 0 } ∷ []); more = Number 0 ∷ []; key = refl; spelled = next.good.spelled; words = sym next.words }
-completes (Switch a other arms) t last g = record { instr = Switch a other arms; more = []; key = refl; spelled = g.spelled; words = append-nil (words_of (Switch a other arms)) }
-completes (Call f ds froms) First last g = record { instr = Call f ds froms; more = _; key = refl; spelled = g.spelled; words = refl }
-completes (Call f ds froms) Second last g = record { instr = Call f ds froms; more = Of ∷ numbers froms; key = refl; spelled = g.spelled; words = refl }
-completes (Call f ds froms) t last g = record { instr = Call f ds froms; more = []; key = refl; spelled = g.spelled; words = append-nil (words_of (Call f ds froms)) }
-completes (Return froms) t last g = record { instr = Return froms; more = []; key = refl; spelled = g.spelled; words = append-nil (numbers froms) }
-
--- each line is read whole ----------------------------------------------------------------------
-
--- the words of an instruction can be read from here, and then the line may end
-abbrev pub Takes : Line → List Word → Instr → Type 0
-Takes l [] j = (may_end l.instr l.turn ≡ true) × (l.instr ≡ j)
-Takes l (w ∷ ws) j = InField (field l.instr l.turn) w × Takes (after_word l w) ws j
-
 told_from_one : (high n : ℕ) → 1 ≤ n → n ≤ high → has (FromOne high) n ≡ true
 told_from_one high n a b = grind (arith, common_steps)
 
-told_upto : (high n : ℕ) → n ≤ high → has (Upto high) n ≡ true
+told_upto : (high n : ℕ) → n ≤ high → nat_le n high ≡ true
 told_upto high n a = grind (arith, common_steps)
 
 told_width : (n : ℕ) → IsWidth n → has Width n ≡ true
@@ -555,113 +130,395 @@ align_is (suc (suc (suc (suc (suc (suc (suc k))))))) le = absurd (omega arith)
 told_align : (n : ℕ) → IsAlign n → has Align n ≡ true
 told_align n a = subst (λ m. has Align m ≡ true) (sym a.2) (align_is a.0 a.1)
 
-takes_arms : (a : ℕ) (other : Option ℕ) (done arms : List SwitchArm) (last : ℕ) → Takes (line_at (Switch a other done) Third last) (pairs arms) (Switch a other (done ++ arms))
-takes_arms a other done [] last = (refl, ap (Switch a other) (sym (append-nil done)))
-takes_arms a other done (arm ∷ arms) last = (
-  refl,
-  (
-    refl,
-    subst (λ l. Takes (line_at (Switch a other (done ++ arm ∷ [])) Third arm.target) (pairs arms) (Switch a other l)) (append_assoc done (arm ∷ []) arms)
-        (takes_arms a other (done ++ arm ∷ []) arms arm.target),
-  ),
-)
+width_small : (n : ℕ) → IsWidth n → n ≤ 64
+width_small n h = grind arith
 
-takes_froms : (f : ℕ) (ds done froms : List ℕ) (last : ℕ) → Takes (line_at (Call f ds done) Third last) (numbers froms) (Call f ds (done ++ froms))
-takes_froms f ds done [] last = (refl, ap (Call f ds) (sym (append-nil done)))
-takes_froms f ds done (n ∷ froms) last = (
-  refl,
-  subst (λ l. Takes (line_at (Call f ds (done ++ n ∷ [])) Third n) (numbers froms) (Call f ds l)) (append_assoc done (n ∷ []) froms)
-      (takes_froms f ds (done ++ n ∷ []) froms n),
-)
+low : (n : ℕ) → n ≤ 255 → n % 256 ≡ n
+low n le = omega arith
 
-takes_dests : (f : ℕ) (done ds froms : List ℕ) (last : ℕ) → Takes (line_at (Call f done []) Second last) (numbers ds ++ Of ∷ numbers froms) (Call f (done ++ ds) froms)
-takes_dests f done [] froms last = (tt, subst (λ l. Takes (line_at (Call f done []) Third last) (numbers froms) (Call f l froms)) (sym (append-nil done)) (takes_froms f done [] froms last))
-takes_dests f done (n ∷ ds) froms last = (
-  refl,
-  subst (λ l. Takes (line_at (Call f (done ++ n ∷ []) []) Second n) (numbers ds ++ Of ∷ numbers froms) (Call f l froms)) (append_assoc done (n ∷ []) ds)
-      (takes_dests f (done ++ n ∷ []) ds froms n),
-)
+-- Every line can be completed --------------------------------------------------------------------
 
-takes_results : (done froms : List ℕ) (last : ℕ) → Takes (line_at (Return done) First last) (numbers froms) (Return (done ++ froms))
-takes_results done [] last = (refl, ap Return (sym (append-nil done)))
-takes_results done (n ∷ froms) last =
-    (refl, subst (λ l. Takes (line_at (Return (done ++ n ∷ [])) First n) (numbers froms) (Return l)) (append_assoc done (n ∷ []) froms) (takes_results (done ++ n ∷ []) froms n))
-
-pub takes_switch : (a : ℕ) (other : Option ℕ) (arms : List SwitchArm) → Takes (line_at (Switch 0 None []) First 0) (words_of (Switch a other arms)) (Switch a other arms)
-takes_switch a None arms = (refl, (tt, takes_arms a None [] arms a))
-takes_switch a (Some t) arms = (refl, (refl, takes_arms a (Some t) [] arms t))
-
-pub ends_closed : (i : Instr) (t : Turn) → is_open (field i t) ≡ false → may_end i t ≡ true
-ends_closed i t h = rw h refl
-
--- a word that can come next ------------------------------------------------------------------------
-
+-- some word may stand in the field
 abbrev pub HasOne : Field → Type 0
 HasOne (FromOne high) = 1 ≤ high
+HasOne Nothing = ⊥
 HasOne f = Unit {0}
 
-pub field_has_one : (i : Instr) (t : Turn) → IsBounded i → HasOne (field i t)
-field_has_one (Alu op n d a b) First h = omega arith
-field_has_one (Take d a o l) Fourth h = omega (arith, h.0, h.1)
-field_has_one (Put d a o l) Fourth h = omega (arith, h.0, h.1)
-field_has_one (Place d size align) Second h = omega arith
-field_has_one (Const d c) Fifth h = tt
-field_has_one (Copy d a) Fifth h = tt
-field_has_one (Load d a offset width) Fifth h = tt
-field_has_one (Store a offset width v) Fifth h = tt
-field_has_one (Jump t) Fifth h = tt
-field_has_one (Switch a other arms) Fifth h = tt
-field_has_one (Call f ds froms) Fifth h = tt
-field_has_one (Return froms) Fifth h = tt
-field_has_one i t h = tt
+abbrev some_word : Field → Word
+some_word (FromOne high) = Number 1
+some_word Width = Number 8
+some_word Align = Number 1
+some_word Operation = Op Add
+some_word OrDash = Dash
+some_word OrOf = Of
+some_word f = Number 0
 
--- some word that may stand there
+pub some_may : (f : Field) → HasOne f → may_be f (some_word f) ≡ true
+some_may (FromOne high) one = told_from_one high 1 (omega arith) one
+some_may Nothing one = absurd one
+some_may (Upto high) one = told_upto high 0 (omega arith)
+some_may f one = refl
+
+pub some_short : (f : Field) → IsShort (some_word f)
+some_short Operation = tt
+some_short OrDash = tt
+some_short OrOf = tt
+some_short f = omega arith
+
+abbrev HaveOne : List Field → Type 0
+HaveOne [] = Unit {0}
+HaveOne (f ∷ fs) = HasOne f × HaveOne fs
+
+-- words for all the fields to come
+abbrev finish : List Field → List Word
+finish [] = []
+finish (Range ∷ fs) = Number 0 ∷ Number 1 ∷ finish fs
+finish (Pairs ∷ fs) = []
+finish (Target ∷ fs) = Number 0 ∷ []
+finish (Slots ∷ fs) = []
+finish (f ∷ fs) = some_word f ∷ finish fs
+
+finish_whole : (fs : List Field) → HaveOne fs → whole fs (finish fs) ≡ true
+finish_whole [] h = refl
+finish_whole (Range ∷ fs) h = finish_whole fs h.1
+finish_whole (Pairs ∷ fs) h = refl
+finish_whole (Target ∷ fs) h = refl
+finish_whole (Slots ∷ fs) h = refl
+finish_whole (f ∷ fs) h = both (may_be f (some_word f)) (whole fs (finish fs)) (some_may f h.0) (finish_whole fs h.1)
+
+finish_short : (fs : List Field) → AreShort (finish fs)
+finish_short [] = tt
+finish_short (Range ∷ fs) = (omega arith, (omega arith, finish_short fs))
+finish_short (Pairs ∷ fs) = tt
+finish_short (Target ∷ fs) = (omega arith, tt)
+finish_short (Slots ∷ fs) = tt
+finish_short (f ∷ fs) = (some_short f, finish_short fs)
+
+one_behind : (f : Field) (fs : List Field) (w : Word) → HaveOne (f ∷ fs) → may_be f w ≡ true → HaveOne (behind_field f fs w)
+one_behind Range fs (Number n) h m = (let le = upto_told 63 n m in omega (arith, le), h.1)
+one_behind Range fs w h m = absurd (cc m)
+one_behind OrOf fs (Number n) h m = (tt, h.1)
+one_behind OrOf fs w h m = h.1
+one_behind Pairs fs w h m = (tt, h.1)
+one_behind Target fs w h m = (tt, h.1)
+one_behind Slots fs w h m = (tt, h.1)
+one_behind f fs w h m = h.1
+
+ones_behind : (fs : List Field) (ws : List Word) → HaveOne fs → fits fs ws ≡ true → HaveOne (behind fs ws)
+ones_behind fs [] h a = h
+ones_behind [] (w ∷ ws) h a = absurd (cc a)
+ones_behind (f ∷ fs) (w ∷ ws) h a =
+    let rest : List Field = behind_field f fs w in
+    ones_behind rest ws (one_behind f fs w h (both-left (may_be f w) (fits rest ws) a)) (both-right (may_be f w) (fits rest ws) a)
+
+table_ones : (k : Key) → HaveOne (fields k)
+table_ones key.Const = (tt, (tt, tt))
+table_ones key.Copy = (tt, (tt, tt))
+table_ones key.Alu = (tt, (omega arith, (tt, (tt, (tt, tt)))))
+table_ones key.Take = (tt, (tt, (tt, tt)))
+table_ones key.Put = (tt, (tt, (tt, tt)))
+table_ones key.Load = (tt, (tt, (tt, (tt, tt))))
+table_ones key.Store = (tt, (tt, (tt, (tt, tt))))
+table_ones key.Place = (tt, (omega arith, (tt, tt)))
+table_ones key.Jump = (tt, tt)
+table_ones key.Switch = (tt, (tt, (tt, tt)))
+table_ones key.Call = (tt, (tt, (tt, tt)))
+table_ones key.Return = (tt, tt)
+
+-- Lists of words ---------------------------------------------------------------------------------
+
+pub short-append : (us vs : List Word) → AreShort us → AreShort vs → AreShort (us ++ vs)
+short-append [] vs a b = b
+short-append (u ∷ us) vs a b = (a.0, short-append us vs a.1 b)
+
+abbrev arms_so : List SwitchArm → Option ℕ → Arms
+arms_so arms n = record { arms = arms; number = n }
+
+-- pairs are read as the arms that they spell
+pairs_arms : (done arms : List SwitchArm) → fold paired (arms_so done None) (pairs arms) ≡ arms_so (done ++ arms) None
+pairs_arms done [] = ap (λ a. arms_so a None) (sym (append-nil done))
+pairs_arms done (arm ∷ arms) = pairs_arms (done ++ arm ∷ []) arms ∙ ap (λ a. arms_so a None) (append_assoc done (arm ∷ []) arms)
+
+-- words that are pairs are those of the arms read
+arms_pairs : (done : List SwitchArm) (ws : List Word) → whole (Pairs ∷ []) ws ≡ true → pairs ((fold paired (arms_so done None) ws).arms) ≡ pairs done ++ ws
+arms_pairs done [] h = sym (append-nil (pairs done))
+arms_pairs done (Number n ∷ Number t ∷ ws) h =
+    let arm : SwitchArm = record { number = n; target = t } in
+    arms_pairs (done ++ arm ∷ []) ws h ∙ ap (λ vs. vs ++ ws) (pairs-push done arm) ∙ append_assoc (pairs done) (Number n ∷ Number t ∷ []) ws
+arms_pairs done ws h = absurd (cc h)
+
+short_arms : (arms : List SwitchArm) → AreShort (pairs arms) → All (λ (arm : SwitchArm). arm.number < 2 ^ 64) arms
+short_arms [] h = All-nil (λ (arm : SwitchArm). arm.number < 2 ^ 64)
+short_arms (arm ∷ arms) h = All-cons (λ (arm : SwitchArm). arm.number < 2 ^ 64) arm arms h.0 (short_arms arms h.1.1)
+
+slots_words : (ws : List Word) → whole (Slots ∷ []) ws ≡ true → numbers (map value_of ws) ≡ ws
+slots_words [] h = refl
+slots_words (Number n ∷ ws) h = ap (λ vs. Number n ∷ vs) (slots_words ws h)
+slots_words ws h = absurd (cc h)
+
+words_slots : (ns : List ℕ) → (whole (Slots ∷ []) (numbers ns) ≡ true) × (map value_of (numbers ns) ≡ ns)
+words_slots [] = (refl, refl)
+words_slots (n ∷ ns) = let more = words_slots ns in (more.0, ap (λ ms. n ∷ ms) more.1)
+
+abbrev lists_so : List ℕ → List ℕ → Bool → Lists
+lists_so ds froms b = record { dests = ds; froms = froms; behind = b }
+
+-- the second list of a call
+froms_lists : (ds done ns : List ℕ) → fold listed (lists_so ds done true) (numbers ns) ≡ lists_so ds (done ++ ns) true
+froms_lists ds done [] = ap (λ l. lists_so ds l true) (sym (append-nil done))
+froms_lists ds done (n ∷ ns) = froms_lists ds (done ++ n ∷ []) ns ∙ ap (λ l. lists_so ds l true) (append_assoc done (n ∷ []) ns)
+
+-- both lists of a call
+call_lists : (done ds froms : List ℕ) → fold listed (lists_so done [] false) (numbers ds ++ Of ∷ numbers froms) ≡ lists_so (done ++ ds) froms true
+call_lists done [] froms = froms_lists done [] froms ∙ ap (λ l. lists_so l froms true) (sym (append-nil done))
+call_lists done (d ∷ ds) froms = call_lists (done ++ d ∷ []) ds froms ∙ ap (λ l. lists_so l froms true) (append_assoc done (d ∷ []) ds)
+
+-- words that are the two lists of a call
+record IsCallWords (ws : List Word) : Type 0 where
+  dests : List ℕ
+  froms : List ℕ
+  is : ws ≡ numbers dests ++ Of ∷ numbers froms
+
+call_words : (ws : List Word) → whole (OrOf ∷ Slots ∷ []) ws ≡ true → IsCallWords ws
+call_words (Of ∷ ws) h = record { dests = []; froms = map value_of ws; is = ap (λ vs. Of ∷ vs) (sym (slots_words ws h)) }
+call_words (Number n ∷ ws) h =
+    let more : IsCallWords ws = call_words ws h in
+    record { dests = n ∷ more.dests; froms = more.froms; is = ap (λ vs. Number n ∷ vs) more.is }
+call_words ws h = absurd (cc h)
+
+words_call : (ds froms : List ℕ) → whole (OrOf ∷ Slots ∷ []) (numbers ds ++ Of ∷ numbers froms) ≡ true
+words_call [] froms = (words_slots froms).0
+words_call (d ∷ ds) froms = words_call ds froms
+
+-- A whole line spells its instruction ------------------------------------------------------------
+
+-- the instruction of a key and words, whose line they are
+pub record IsSpelledBy (k : Key) (ws : List Word) : Type 0 where
+  pub instr : Instr
+  pub is : instruction_of k ws ≡ instr
+  pub key : key_text instr ≡ key_bytes k
+  pub words : words_of instr ≡ ws
+  pub bounded : IsBounded instr
+
+-- three tests that hold together
+three : (a b c : Bool) → (a && (b && c)) ≡ true → (a ≡ true) × (b ≡ true)
+three a b c h = (both-left a (b && c) h, both-left b c (both-right a (b && c) h))
+
+-- the last of three tests that hold together
+last_of : (a b c : Bool) → (a && (b && c)) ≡ true → c ≡ true
+last_of a b c h = both-right b c (both-right a (b && c) h)
+
+range_bounds : (o l : ℕ) → (nat_le o 63 && (has (FromOne (64 - o)) l && true)) ≡ true → (o ≤ 63) × (1 ≤ l) × (l ≤ 64 - o)
+range_bounds o l h =
+    let told = three (nat_le o 63) (has (FromOne (64 - o)) l) true h in
+    let long = from_one_told (64 - o) l told.1 in
+    (upto_told 63 o told.0, long.0, long.1)
+
+pub spells : (k : Key) (ws : List Word) → whole (fields k) ws ≡ true → AreShort ws → IsSpelledBy k ws
+spells key.Const (Number d ∷ Number c ∷ []) h s = record { instr = Const d c; is = refl; key = refl; words = refl; bounded = s.1.0 }
+spells key.Copy (Number d ∷ Number a ∷ []) h s = record { instr = Copy d a; is = refl; key = refl; words = refl; bounded = tt }
+spells key.Alu (Op op ∷ Number n ∷ Number d ∷ Number a ∷ Number b ∷ []) h s =
+    let told = from_one_told 64 n (both-left (has (FromOne 64) n) true h) in
+    record { instr = Alu op n d a b; is = rw (low n (omega (arith, told.1))) refl; key = refl; words = refl; bounded = told }
+spells key.Alu (Op op ∷ Number n ∷ ws) h s = absurd (cc (both-right (has (FromOne 64) n) (whole (Any ∷ Any ∷ Any ∷ []) ws) h))
+spells key.Take (Number d ∷ Number a ∷ Number o ∷ Number l ∷ []) h s =
+    let told = range_bounds o l h in
+    record { instr = Take d a o l; is = rw (low o (omega (arith, told.0)), low l (omega (arith, told.2))) refl; key = refl; words = refl; bounded = (told.1, omega (arith, told.0, told.2)) }
+spells key.Take (Number d ∷ Number a ∷ Number o ∷ Number l ∷ ws) h s = absurd (cc (last_of (nat_le o 63) (has (FromOne (64 - o)) l) (whole [] ws) h))
+spells key.Take (Number d ∷ Number a ∷ Number o ∷ ws) h s = absurd (cc (both-right (nat_le o 63) (whole (FromOne (64 - o) ∷ []) ws) h))
+spells key.Put (Number d ∷ Number a ∷ Number o ∷ Number l ∷ []) h s =
+    let told = range_bounds o l h in
+    record { instr = Put d a o l; is = rw (low o (omega (arith, told.0)), low l (omega (arith, told.2))) refl; key = refl; words = refl; bounded = (told.1, omega (arith, told.0, told.2)) }
+spells key.Put (Number d ∷ Number a ∷ Number o ∷ Number l ∷ ws) h s = absurd (cc (last_of (nat_le o 63) (has (FromOne (64 - o)) l) (whole [] ws) h))
+spells key.Put (Number d ∷ Number a ∷ Number o ∷ ws) h s = absurd (cc (both-right (nat_le o 63) (whole (FromOne (64 - o) ∷ []) ws) h))
+spells key.Load (Number d ∷ Number a ∷ Number offset ∷ Number width ∷ []) h s =
+    let told = three (nat_le offset 511) (has Width width) true h in
+    let wide : IsWidth width = width_told width told.1 in
+    record { instr = Load d a offset width; is = rw (low width (let le = width_small width wide in omega (arith, le))) refl; key = refl; words = refl; bounded = (upto_told 511 offset told.0, wide) }
+spells key.Load (Number d ∷ Number a ∷ Number offset ∷ Number width ∷ ws) h s = absurd (cc (last_of (nat_le offset 511) (has Width width) (whole [] ws) h))
+spells key.Load (Number d ∷ Number a ∷ Number offset ∷ ws) h s = absurd (cc (both-right (nat_le offset 511) (whole (Width ∷ []) ws) h))
+spells key.Store (Number a ∷ Number offset ∷ Number width ∷ Number v ∷ []) h s =
+    let told = three (nat_le offset 511) (has Width width) true h in
+    let wide : IsWidth width = width_told width told.1 in
+    record { instr = Store a offset width v; is = rw (low width (let le = width_small width wide in omega (arith, le))) refl; key = refl; words = refl; bounded = (upto_told 511 offset told.0, wide) }
+spells key.Store (Number a ∷ Number offset ∷ Number width ∷ ws) h s = absurd (cc (last_of (nat_le offset 511) (has Width width) (whole (Any ∷ []) ws) h))
+spells key.Store (Number a ∷ Number offset ∷ ws) h s = absurd (cc (both-right (nat_le offset 511) (whole (Width ∷ Any ∷ []) ws) h))
+spells key.Place (Number d ∷ Number size ∷ Number align ∷ []) h s =
+    let told = three (has (FromOne 512) size) (has Align align) true h in
+    let size_told = from_one_told 512 size told.0 in
+    record { instr = Place d size align; is = refl; key = refl; words = refl; bounded = ((omega (arith, size_told.0), size_told.1), align_told align told.1) }
+spells key.Place (Number d ∷ Number size ∷ Number align ∷ ws) h s = absurd (cc (last_of (has (FromOne 512) size) (has Align align) (whole [] ws) h))
+spells key.Place (Number d ∷ Number size ∷ ws) h s = absurd (cc (both-right (has (FromOne 512) size) (whole (Align ∷ []) ws) h))
+spells key.Jump (Number t ∷ []) h s = record { instr = Jump t; is = refl; key = refl; words = refl; bounded = tt }
+spells key.Switch (Number a ∷ Number t ∷ ws) h s = record {
+  instr = Switch a (Some t) (arms_in ws);
+  is = refl;
+  key = refl;
+  words = ap (λ vs. Number a ∷ Number t ∷ vs) (arms_pairs [] ws h);
+  bounded = short_arms (arms_in ws) (subst AreShort (sym (arms_pairs [] ws h)) s.1.1);
+}
+spells key.Switch (Number a ∷ Dash ∷ ws) h s = record {
+  instr = Switch a None (arms_in ws);
+  is = refl;
+  key = refl;
+  words = ap (λ vs. Number a ∷ Dash ∷ vs) (arms_pairs [] ws h);
+  bounded = short_arms (arms_in ws) (subst AreShort (sym (arms_pairs [] ws h)) s.1.1);
+}
+spells key.Call (Number f ∷ ws) h s =
+    let told : IsCallWords ws = call_words ws h in
+    let lists : lists_in ws ≡ lists_so told.dests told.froms true = ap lists_in told.is ∙ call_lists [] told.dests told.froms in
+    record {
+      instr = Call f told.dests told.froms;
+      is = ap (λ (l : Lists). Call f l.dests l.froms) lists;
+      key = refl;
+      words = ap (λ vs. Number f ∷ vs) (sym told.is);
+      bounded = tt;
+    }
+spells key.Return ws h s = record { instr = Return (map value_of ws); is = refl; key = refl; words = slots_words ws h; bounded = tt }
+spells k ws h s = absurd (cc h)
+
+pub spelled_fit : (k : Key) (ws : List Word) (s : IsSpelledBy k ws) → AreShort ws → IsFit s.instr
+spelled_fit k ws s short = record { bounded = s.bounded; short = subst AreShort (sym s.words) short }
+
+-- Lines in part ----------------------------------------------------------------------------------
+
+-- words that stand in the fields of a key, and the fields to come behind them
+pub record IsGoodLine (l : Line) : Type 0 where
+  pub fit : fits (fields l.key) l.words ≡ true
+  pub rest : l.rest ≡ behind (fields l.key) l.words
+  pub short : AreShort l.words
+
+pub first_good : (k : Key) → IsGoodLine (first_line k)
+first_good k = record { fit = refl; rest = refl; short = tt }
+
+pub word_follows : (l : Line) (w : Word) → IsGoodLine l → may_be (next_field l.rest) w ≡ true → IsShort w → IsGoodLine (after_word l w)
+word_follows l w g may short = record {
+  fit = fits-push (fields l.key) l.words w g.fit (subst (λ fs. may_be (next_field fs) w ≡ true) g.rest may);
+  rest = ap (λ fs. fields_after fs w) g.rest ∙ sym (behind-push (fields l.key) l.words w);
+  short = short-append l.words (w ∷ []) g.short (short, tt);
+}
+
+-- where a line may end, its words are an instruction's
+pub line_spells : (l : Line) → IsGoodLine l → may_end l.rest ≡ true → IsSpelledBy l.key l.words
+line_spells l g h =
+    let all : whole (fields l.key) (l.words ++ []) ≡ true = whole-append (fields l.key) l.words [] g.fit (subst (λ fs. may_end fs ≡ true) g.rest h) in
+    spells l.key l.words (subst (λ ws. whole (fields l.key) ws ≡ true) (append-nil l.words) all) g.short
+
+-- words behind a line with which it is whole
+pub record Completes (l : Line) : Type 0 where
+  pub more : List Word
+  pub short : AreShort more
+  pub spelled : IsSpelledBy l.key (l.words ++ more)
+
+pub ones_to_come : (l : Line) → IsGoodLine l → HaveOne l.rest
+ones_to_come l g = subst HaveOne (sym g.rest) (ones_behind (fields l.key) l.words (table_ones l.key) g.fit)
+
+pub completes : (l : Line) → IsGoodLine l → Completes l
+completes l g =
+    let more : List Word = finish l.rest in
+    let all : whole (fields l.key) (l.words ++ more) ≡ true =
+    whole-append (fields l.key) l.words more g.fit (subst (λ fs. whole fs more ≡ true) g.rest (finish_whole l.rest (ones_to_come l g))) in
+    record { more = more; short = finish_short l.rest; spelled = spells l.key (l.words ++ more) all (short-append l.words more g.short (finish_short l.rest)) }
+
+-- some word that may stand in a field
 pub record IsNext (f : Field) : Type 0 where
   pub word : Word
-  pub may : InField f word
+  pub may : may_be f word ≡ true
   pub short : IsShort word
 
-pub next_word : (f : Field) → HasOne f → is_open f ≡ true → IsNext f
-next_word Any one h = record { word = Number 0; may = refl; short = omega arith }
-next_word (Upto high) one h = record { word = Number 0; may = told_upto high 0 (omega arith); short = omega arith }
-next_word (FromOne high) one h = record { word = Number 1; may = told_from_one high 1 (omega arith) one; short = omega arith }
-next_word Width one h = record { word = Number 8; may = refl; short = omega arith }
-next_word Align one h = record { word = Number 1; may = refl; short = omega arith }
-next_word OrDash one h = record { word = Dash; may = tt; short = tt }
-next_word OrOf one h = record { word = Of; may = tt; short = tt }
-next_word Nothing one h = absurd (cc h)
+pub next_word : (fs : List Field) → HaveOne fs → is_open (next_field fs) ≡ true → IsNext (next_field fs)
+next_word [] h e = absurd (cc e)
+next_word (f ∷ fs) h e = record { word = some_word f; may = some_may f h.0; short = some_short f }
 
--- every instruction's words are taken ----------------------------------------------------------------
+-- where no word follows, the line may end
+pub closed_ends : (fs : List Field) → HaveOne fs → is_open (next_field fs) ≡ false → may_end fs ≡ true
+closed_ends [] h closed = refl
+closed_ends (Nothing ∷ fs) h closed = absurd h.0
+closed_ends (f ∷ fs) h closed = absurd (cc closed)
 
-pub takes_const : (d c : ℕ) → Takes (line_at (Const 0 0) First 0) (words_of (Const d c)) (Const d c)
-takes_const d c = (refl, (refl, (refl, refl)))
+-- Every instruction's line is read whole ---------------------------------------------------------
 
-pub takes_copy : (d a : ℕ) → Takes (line_at (Copy 0 0) First 0) (words_of (Copy d a)) (Copy d a)
-takes_copy d a = (refl, (refl, (refl, refl)))
+-- the words of an instruction are read as its line with the key k
+pub record Reads (k : Key) (j : Instr) : Type 0 where
+  pub key : key_text j ≡ key_bytes k
+  pub whole : whole (fields k) (words_of j) ≡ true
+  pub is : instruction_of k (words_of j) ≡ j
 
-pub takes_alu : (op : AluOp) (n d a b : ℕ) → IsBounded (Alu op n d a b) → Takes (line_at (Alu op 1 0 0 0) First 0) (Number n ∷ Number d ∷ Number a ∷ Number b ∷ []) (Alu op n d a b)
-takes_alu op n d a b h = (told_from_one 64 n h.0 h.1, (refl, (refl, (refl, (refl, refl)))))
+reads_alu : (op : AluOp) (n d a b : ℕ) → IsBounded (Alu op n d a b) → Reads key.Alu (Alu op n d a b)
+reads_alu op n d a b h = record { key = refl; whole = both (has (FromOne 64) n) true (told_from_one 64 n h.0 h.1) refl; is = rw (low n (omega (arith, h.1))) refl }
 
-pub takes_take : (d a o l : ℕ) → IsBounded (Take d a o l) → Takes (line_at (Take 0 0 0 1) First 0) (words_of (Take d a o l)) (Take d a o l)
-takes_take d a o l h = (refl, (refl, (told_upto 63 o (omega (arith, h.0, h.1)), (told_from_one (64 - o) l h.0 (omega (arith, h.1)), (refl, refl)))))
+range_whole : (o l : ℕ) → 1 ≤ l → o ≤ 63 → l ≤ 64 - o → (nat_le o 63 && (has (FromOne (64 - o)) l && true)) ≡ true
+range_whole o l one le fits = both (nat_le o 63) (has (FromOne (64 - o)) l && true) (told_upto 63 o le) (both (has (FromOne (64 - o)) l) true (told_from_one (64 - o) l one fits) refl)
 
-pub takes_put : (d a o l : ℕ) → IsBounded (Put d a o l) → Takes (line_at (Put 0 0 0 1) First 0) (words_of (Put d a o l)) (Put d a o l)
-takes_put d a o l h = (refl, (refl, (told_upto 63 o (omega (arith, h.0, h.1)), (told_from_one (64 - o) l h.0 (omega (arith, h.1)), (refl, refl)))))
+reads_take : (d a o l : ℕ) → IsBounded (Take d a o l) → Reads key.Take (Take d a o l)
+reads_take d a o l h = record {
+  key = refl;
+  whole = range_whole o l h.0 (omega (arith, h.0, h.1)) (omega (arith, h.1));
+  is = rw (low o (omega (arith, h.1)), low l (omega (arith, h.1))) refl;
+}
 
-pub takes_load : (d a offset width : ℕ) → IsBounded (Load d a offset width) → Takes (line_at (Load 0 0 0 8) First 0) (words_of (Load d a offset width)) (Load d a offset width)
-takes_load d a offset width h = (refl, (refl, (told_upto 511 offset h.0, (told_width width h.1, (refl, refl)))))
+reads_put : (d a o l : ℕ) → IsBounded (Put d a o l) → Reads key.Put (Put d a o l)
+reads_put d a o l h = record {
+  key = refl;
+  whole = range_whole o l h.0 (omega (arith, h.0, h.1)) (omega (arith, h.1));
+  is = rw (low o (omega (arith, h.1)), low l (omega (arith, h.1))) refl;
+}
 
-pub takes_store : (a offset width v : ℕ) → IsBounded (Store a offset width v) → Takes (line_at (Store 0 0 8 0) First 0) (words_of (Store a offset width v)) (Store a offset width v)
-takes_store a offset width v h = (refl, (told_upto 511 offset h.0, (told_width width h.1, (refl, (refl, refl)))))
+word_whole : (offset width : ℕ) → offset ≤ 511 → IsWidth width → (nat_le offset 511 && (has Width width && true)) ≡ true
+word_whole offset width le wide = both (nat_le offset 511) (has Width width && true) (told_upto 511 offset le) (both (has Width width) true (told_width width wide) refl)
 
-pub takes_place : (d size align : ℕ) → IsBounded (Place d size align) → Takes (line_at (Place 0 1 1) First 0) (words_of (Place d size align)) (Place d size align)
-takes_place d size align h = (refl, (told_from_one 512 size (omega (arith, h.0.0)) h.0.1, (told_align align h.1, (refl, refl))))
+reads_load : (d a offset width : ℕ) → IsBounded (Load d a offset width) → Reads key.Load (Load d a offset width)
+reads_load d a offset width h = record { key = refl; whole = word_whole offset width h.0 h.1; is = rw (low width (let le = width_small width h.1 in omega (arith, le))) refl }
 
-pub takes_jump : (t : ℕ) → Takes (line_at (Jump 0) First 0) (words_of (Jump t)) (Jump t)
-takes_jump t = (refl, (refl, refl))
+reads_store : (a offset width v : ℕ) → IsBounded (Store a offset width v) → Reads key.Store (Store a offset width v)
+reads_store a offset width v h = record { key = refl; whole = word_whole offset width h.0 h.1; is = rw (low width (let le = width_small width h.1 in omega (arith, le))) refl }
 
-pub takes_call : (f : ℕ) (ds froms : List ℕ) → Takes (line_at (Call 0 [] []) First 0) (words_of (Call f ds froms)) (Call f ds froms)
-takes_call f ds froms = (refl, takes_dests f [] ds froms f)
+reads_place : (d size align : ℕ) → IsBounded (Place d size align) → Reads key.Place (Place d size align)
+reads_place d size align h = record {
+  key = refl;
+  whole = both (has (FromOne 512) size) (has Align align && true) (told_from_one 512 size (omega (arith, h.0.0)) h.0.1) (both (has Align align) true (told_align align h.1) refl);
+  is = refl;
+}
 
-pub takes_return : (froms : List ℕ) → Takes (line_at (Return []) First 0) (words_of (Return froms)) (Return froms)
-takes_return froms = takes_results [] froms 0
+pairs_whole : (arms : List SwitchArm) → whole (Pairs ∷ []) (pairs arms) ≡ true
+pairs_whole [] = refl
+pairs_whole (arm ∷ arms) = pairs_whole arms
+
+reads_switch : (a : ℕ) (other : Option ℕ) (arms : List SwitchArm) → Reads key.Switch (Switch a other arms)
+reads_switch a None arms = record { key = refl; whole = pairs_whole arms; is = ap (λ (r : Arms). Switch a None r.arms) (pairs_arms [] arms) }
+reads_switch a (Some t) arms = record { key = refl; whole = pairs_whole arms; is = ap (λ (r : Arms). Switch a (Some t) r.arms) (pairs_arms [] arms) }
+
+reads_call : (f : ℕ) (ds froms : List ℕ) → Reads key.Call (Call f ds froms)
+reads_call f ds froms = record { key = refl; whole = words_call ds froms; is = ap (λ (l : Lists). Call f l.dests l.froms) (call_lists [] ds froms) }
+
+reads_return : (froms : List ℕ) → Reads key.Return (Return froms)
+reads_return froms = let told = words_slots froms in record { key = refl; whole = told.0; is = ap Return told.1 }
+
+-- the key of an instruction's line
+abbrev pub key_for : Instr → Key
+key_for (Const d c) = key.Const
+key_for (Copy d a) = key.Copy
+key_for (Alu op n d a b) = key.Alu
+key_for (Take d a o l) = key.Take
+key_for (Put d a o l) = key.Put
+key_for (Load d a offset width) = key.Load
+key_for (Store a offset width v) = key.Store
+key_for (Place d size align) = key.Place
+key_for (Jump t) = key.Jump
+key_for (Switch a other arms) = key.Switch
+key_for (Call f ds froms) = key.Call
+key_for (Return froms) = key.Return
+
+pub reads : (j : Instr) → IsBounded j → Reads (key_for j) j
+reads (Const d c) h = record { key = refl; whole = refl; is = refl }
+reads (Copy d a) h = record { key = refl; whole = refl; is = refl }
+reads (Alu op n d a b) h = reads_alu op n d a b h
+reads (Take d a o l) h = reads_take d a o l h
+reads (Put d a o l) h = reads_put d a o l h
+reads (Load d a offset width) h = reads_load d a offset width h
+reads (Store a offset width v) h = reads_store a offset width v h
+reads (Place d size align) h = reads_place d size align h
+reads (Jump t) h = record { key = refl; whole = refl; is = refl }
+reads (Switch a other arms) h = reads_switch a other arms
+reads (Call f ds froms) h = reads_call f ds froms
+reads (Return froms) h = reads_return froms

@@ -1,14 +1,14 @@
 -- Worked examples of reading, which the checker computes.
 use Rattle.std.proofs.Common.{◌≡◌, ℕ, List, [], ◌∷◌, ◌++◌, codes, true, false, arith, Some, None, refl}
-use Rattle.rb_target.specs.Fields.{word_in, is_word_front, field, may_end, line_at}
+use Rattle.rb_target.specs.Fields.{word_in, is_word_front, fields, behind_field, fields_after, may_end, first_line, after_word, instruction_of}
 use Rattle.rb_target.proofs.StopLemmas.{stops_here, stops_at_end}
 use Rattle.rb_target.specs.Stopping.{StopsAt}
 use Rattle.rb_target.specs.Reading.{Progress, step, goes_on, named}
 use Rattle.rb_target.specs.declared.instr.AluOp.TheVariants.{Add}
-use Rattle.rb_target.specs.declared.instr.Instr.TheVariants.{Alu, Take, Call, Return, Jump}
-use Rattle.rb_target.specs.declared.word.Word.TheVariants.{Of}
-use Rattle.rb_target.specs.declared.read.spot.Turn.TheVariants.{First, Third, Fourth}
-use Rattle.rb_target.specs.declared.read.spot.Field.TheVariants.{Any, FromOne, Width, OrOf}
+use Rattle.rb_target.specs.declared.instr.Instr.TheVariants.{Call, Return}
+use Rattle.rb_target.specs.declared.word.Word.TheVariants.{Number, Op, Of}
+use Rattle.rb_target.specs.declared.read.spot.Key.TheVariants as key
+use Rattle.rb_target.specs.declared.read.spot.Field.TheVariants.{Any, FromOne, Width, Range, OrOf}
 use Rattle.rb_target.specs.declared.read.spot.Spot.TheVariants.{Starting, Within}
 use Rattle.rb_target.specs.declared.read.spot.Move.TheVariants.{Closed, Refused}
 
@@ -33,8 +33,8 @@ three_is_no_width = refl
 no_width : is_word_front Width (codes "24") ≡ false
 no_width = refl
 
--- a range stays within the word
-long_range : field (Take 0 0 60 1) Fourth ≡ FromOne 4
+-- a range stays within the word: from bit 60 on at most four
+long_range : behind_field Range [] (Number 60) ≡ FromOne 4 ∷ []
 long_range = refl
 
 of_or_number : word_in OrOf (codes "of") ≡ Some Of
@@ -48,11 +48,16 @@ no_key : goes_on (Starting (named (codes "t"))) (codes "cop2") 50 ≡ false
 no_key = refl
 
 -- a jump wants its target before the line's end
-jump_open : may_end (Jump 0) First ≡ false
+jump_open : may_end (fields key.Jump) ≡ false
 jump_open = refl
 
-call_whole : may_end (Call 0 [] []) Third ≡ true
+-- a call is whole behind `of`
+call_whole : may_end (fields_after (fields_after (fields key.Call) (Number 0)) Of) ≡ true
 call_whole = refl
+
+-- the words of a whole line make its instruction
+call_built : instruction_of key.Call (Number 2 ∷ Number 5 ∷ Of ∷ Number 0 ∷ Number 1 ∷ []) ≡ Call 2 (5 ∷ []) (0 ∷ 1 ∷ [])
+call_built = refl
 
 closed : step (Starting (named (codes "t"))) (codes "end") 10 ≡ Closed (named (codes "t"))
 closed = refl
@@ -67,7 +72,7 @@ wide_operation = codes "fun t 0 0 1" ++ (10 ∷ codes "alu add 65 0 0 0")
 before_five : Progress
 before_five = record {
   funs = [];
-  spot = Within (record { name = codes "t"; params = 0; results = 0; slots = 1; body = [] }) (line_at (Alu Add 1 0 0 0) First 0);
+  spot = Within (record { name = codes "t"; params = 0; results = 0; slots = 1; body = [] }) (after_word (first_line key.Alu) (Op Add));
   word = codes "6";
 }
 

@@ -4,27 +4,25 @@ use Rattle.std.specs.Fmt.{decimal}
 use Rattle.std.proofs.lemmas.Grind.{common_steps}
 use Rattle.std.proofs.lemmas.List.Elements.{All-head, All-tail}
 use Rattle.rb_target.proofs.FieldLemmas.{in_open, number_decimal, word_in_text, Steps, decimal_steps, word_steps}
-use Rattle.rb_target.proofs.LineLemmas.{Takes, takes_const, takes_copy, takes_alu, takes_take, takes_put, takes_load, takes_store, takes_place, takes_jump, takes_switch, takes_call, takes_return}
-use Rattle.rb_target.specs.Text.{op_text, word_text, key_text, words_of, spaced, line, instr_text, head_text, body_text, fun_text, code_text}
+use Rattle.rb_target.proofs.LineLemmas.{whole, whole_next, Reads, key_for, reads}
+use Rattle.rb_target.specs.Text.{word_text, words_of, spaced, line, instr_text, head_text, body_text, fun_text, code_text}
 use Rattle.rb_target.specs.Validity.{IsSmall, IsNameByte, IsLower}
 use Rattle.rb_target.proofs.SpelledForms.{AreShort, IsFit, AreFit, IsFitFun, AreFitFuns}
-use Rattle.rb_target.specs.Fields.{number_of, is_open, field, may_end, line_at, first_line, after_word}
+use Rattle.rb_target.specs.Fields.{number_of, is_open, key_bytes, next_field, may_end, first_line, after_word, instruction_of}
 use Rattle.rb_target.specs.Reading.{is_gap, is_small, is_name_byte, named, line_next, headed, step, is_some, goes_on, Progress, start, moved, feed, then_feed, run}
-use Rattle.rb_target.specs.declared.instr.AluOp.{AluOp}
-use Rattle.rb_target.specs.declared.instr.AluOp.TheVariants.{Add, Sub, Mul, And, Or, Xor, Eq, Lt}
 use Rattle.rb_target.specs.declared.instr.Instr.{Instr}
-use Rattle.rb_target.specs.declared.instr.Instr.TheVariants.{Const, Copy, Alu, Take, Put, Load, Store, Place, Jump, Switch, Call, Return}
 use Rattle.rb_target.specs.declared.word.Word.{Word}
-use Rattle.rb_target.specs.declared.word.Word.TheVariants.{Number, Op}
+use Rattle.rb_target.specs.declared.word.Word.TheVariants.{Number}
 use Rattle.rb_target.specs.declared.code.CodeFun.{CodeFun}
 use Rattle.rb_target.specs.declared.read.spot.Key.{Key}
 use Rattle.rb_target.specs.declared.read.spot.Key.TheVariants as key
+use Rattle.rb_target.specs.declared.read.spot.Field.{Field}
 use Rattle.rb_target.specs.declared.read.spot.Turn.{Turn}
 use Rattle.rb_target.specs.declared.read.spot.Move.TheVariants.{To}
 use Rattle.rb_target.specs.declared.read.spot.Turn.TheVariants.{First, Second, Third}
 use Rattle.rb_target.specs.declared.read.spot.Line.{Line}
 use Rattle.rb_target.specs.declared.read.spot.Spot.{Spot}
-use Rattle.rb_target.specs.declared.read.spot.Spot.TheVariants.{Outside, Naming, Heading, Starting, Choosing, Within}
+use Rattle.rb_target.specs.declared.read.spot.Spot.TheVariants.{Outside, Naming, Heading, Starting, Within}
 
 abbrev pub at_spot : List CodeFun → Spot → List ℕ → Progress
 at_spot funs spot w = record { funs = funs; spot = spot; word = w }
@@ -73,23 +71,27 @@ gap_is (w ∷ ws) = refl
 abbrev pub pushed : CodeFun → Instr → CodeFun
 pushed f i = record f { body = f.body ++ i ∷ [] }
 
-line_ends : (f : CodeFun) (l : Line) → may_end l.instr l.turn ≡ true → line_next f l 10 ≡ To (Starting (pushed f l.instr))
+line_ends : (f : CodeFun) (l : Line) → may_end l.rest ≡ true → line_next f l 10 ≡ To (Starting (pushed f (instruction_of l.key l.words)))
 line_ends f l h = rw h refl
 
-line_goes_on : (f : CodeFun) (l : Line) → is_open (field l.instr l.turn) ≡ true → line_next f l 32 ≡ To (Within f l)
+line_goes_on : (f : CodeFun) (l : Line) → is_open (next_field l.rest) ≡ true → line_next f l 32 ≡ To (Within f l)
 line_goes_on f l h = rw h refl
 
-line_run : (funs : List CodeFun) (f : CodeFun) (l : Line) (ws : List Word) (j : Instr) (rest : List ℕ) → Takes l ws j → AreShort ws
+-- the words ws, with which the line is whole and spells j, and the bytes behind it
+line_run : (funs : List CodeFun) (f : CodeFun) (l : Line) (ws : List Word) (j : Instr) (rest : List ℕ) → whole l.rest ws ≡ true → instruction_of l.key (l.words ++ ws) ≡ j → AreShort ws
     → run (moved funs (line_next f l (gap_before ws))) (behind_gap ws rest) ≡ run (Some (at_spot funs (Starting (pushed f j)) [])) rest
-line_run funs f l [] j rest t short =
-    ap (λ m. run (moved funs m) rest) (line_ends f l t.0) ∙ ap (λ i. run (Some (at_spot funs (Starting (pushed f i)) [])) rest) t.1
-line_run funs f l (w ∷ ws) j rest t short =
-    let told : step (Within f l) (word_text w) (gap_before ws) ≡ line_next f (after_word l w) (gap_before ws) = rw (word_in_text (field l.instr l.turn) w t.0 short.0) refl in
-    ap (λ m. run (moved funs m) (behind_gap (w ∷ ws) rest)) (line_goes_on f l (in_open (field l.instr l.turn) w t.0))
+line_run funs f l [] j rest h is short =
+    ap (λ m. run (moved funs m) rest) (line_ends f l h)
+    ∙ ap (λ i. run (Some (at_spot funs (Starting (pushed f i)) [])) rest) (ap (instruction_of l.key) (sym (append-nil l.words)) ∙ is)
+line_run funs f l (w ∷ ws) j rest h is short =
+    let next = whole_next l.rest w ws h in
+    let field : Field = next_field l.rest in
+    let told : step (Within f l) (word_text w) (gap_before ws) ≡ line_next f (after_word l w) (gap_before ws) = rw (word_in_text field w next.0 short.0) refl in
+    ap (λ m. run (moved funs m) (behind_gap (w ∷ ws) rest)) (line_goes_on f l (in_open field w next.0))
     ∙ ap (λ r. run (Some (at_spot funs (Within f l) [])) (word_text w ++ r)) (gap_split ws rest)
-    ∙ word_run funs (Within f l) (word_text w) (gap_before ws) (behind_gap ws rest) (word_steps (field l.instr l.turn) w t.0 short.0) (gap_is ws)
+    ∙ word_run funs (Within f l) (word_text w) (gap_before ws) (behind_gap ws rest) (word_steps field w next.0 short.0) (gap_is ws)
     ∙ ap (λ m. run (moved funs m) (behind_gap ws rest)) told
-    ∙ line_run funs f (after_word l w) ws j rest t.1 short.1
+    ∙ line_run funs f (after_word l w) ws j rest next.1 (ap (instruction_of l.key) (append_assoc l.words (w ∷ []) ws) ∙ is) short.1
 
 -- a line's words and end, with what follows, from its first word on
 line_split : (first : List ℕ) (ws : List Word) (rest : List ℕ) → line first ws ++ rest ≡ first ++ (gap_before ws ∷ behind_gap ws rest)
@@ -100,57 +102,44 @@ abbrev Runs : List CodeFun → CodeFun → Instr → List ℕ → Type 0
 Runs funs f j rest = run (Some (at_spot funs (Starting f) [])) (instr_text j ++ rest) ≡ run (Some (at_spot funs (Starting (pushed f j)) [])) rest
 
 module _ (funs : List CodeFun) (f : CodeFun) (rest : List ℕ) where
-  plain_run : (k : Key) (j : Instr) → Steps (goes_on (Starting f)) [] (key_text j) → ((g : ℕ) → step (Starting f) (key_text j) g ≡ line_next f (first_line k) g)
-      → Takes (first_line k) (words_of j) j → AreShort (words_of j) → Runs funs f j rest
-  plain_run k j s next t short =
-      ap (λ r. run (Some (at_spot funs (Starting f) [])) r) (line_split (key_text j) (words_of j) rest)
-      ∙ word_run funs (Starting f) (key_text j) (gap_before (words_of j)) (behind_gap (words_of j) rest) s (gap_is (words_of j))
-      ∙ ap (λ m. run (moved funs m) (behind_gap (words_of j) rest)) (next (gap_before (words_of j)))
-      ∙ line_run funs f (first_line k) (words_of j) j rest t short
+  key_steps : (k : Key) → Steps (goes_on (Starting f)) [] (key_bytes k)
+  key_steps key.Const = (refl, refl, (refl, refl, (refl, refl, (refl, refl, (refl, refl, tt)))))
+  key_steps key.Copy = (refl, refl, (refl, refl, (refl, refl, (refl, refl, tt))))
+  key_steps key.Alu = (refl, refl, (refl, refl, (refl, refl, tt)))
+  key_steps key.Take = (refl, refl, (refl, refl, (refl, refl, (refl, refl, tt))))
+  key_steps key.Put = (refl, refl, (refl, refl, (refl, refl, tt)))
+  key_steps key.Load = (refl, refl, (refl, refl, (refl, refl, (refl, refl, tt))))
+  key_steps key.Store = (refl, refl, (refl, refl, (refl, refl, (refl, refl, (refl, refl, tt)))))
+  key_steps key.Place = (refl, refl, (refl, refl, (refl, refl, (refl, refl, (refl, refl, tt)))))
+  key_steps key.Jump = (refl, refl, (refl, refl, (refl, refl, (refl, refl, tt))))
+  key_steps key.Switch = (refl, refl, (refl, refl, (refl, refl, (refl, refl, (refl, refl, (refl, refl, tt))))))
+  key_steps key.Call = (refl, refl, (refl, refl, (refl, refl, (refl, refl, tt))))
+  key_steps key.Return = (refl, refl, (refl, refl, (refl, refl, (refl, refl, (refl, refl, (refl, refl, tt))))))
 
-  op_steps : (op : AluOp) → Steps (goes_on (Choosing f)) [] (op_text op)
-  op_steps Add = (refl, refl, (refl, refl, (refl, refl, tt)))
-  op_steps Sub = (refl, refl, (refl, refl, (refl, refl, tt)))
-  op_steps Mul = (refl, refl, (refl, refl, (refl, refl, tt)))
-  op_steps And = (refl, refl, (refl, refl, (refl, refl, tt)))
-  op_steps Or = (refl, refl, (refl, refl, tt))
-  op_steps Xor = (refl, refl, (refl, refl, (refl, refl, tt)))
-  op_steps Eq = (refl, refl, (refl, refl, tt))
-  op_steps Lt = (refl, refl, (refl, refl, tt))
+  key_next : (k : Key) (g : ℕ) → step (Starting f) (key_bytes k) g ≡ line_next f (first_line k) g
+  key_next key.Const g = refl
+  key_next key.Copy g = refl
+  key_next key.Alu g = refl
+  key_next key.Take g = refl
+  key_next key.Put g = refl
+  key_next key.Load g = refl
+  key_next key.Store g = refl
+  key_next key.Place g = refl
+  key_next key.Jump g = refl
+  key_next key.Switch g = refl
+  key_next key.Call g = refl
+  key_next key.Return g = refl
 
-  op_next : (op : AluOp) (g : ℕ) → step (Choosing f) (op_text op) g ≡ line_next f (line_at (Alu op 1 0 0 0) First 0) g
-  op_next Add g = refl
-  op_next Sub g = refl
-  op_next Mul g = refl
-  op_next And g = refl
-  op_next Or g = refl
-  op_next Xor g = refl
-  op_next Eq g = refl
-  op_next Lt g = refl
-
-  alu_run : (op : AluOp) (n d a b : ℕ) → IsFit (Alu op n d a b) → Runs funs f (Alu op n d a b) rest
-  alu_run op n d a b h =
-      let ws : List Word = Number n ∷ Number d ∷ Number a ∷ Number b ∷ [] in
-      ap (λ r. run (Some (at_spot funs (Starting f) [])) r) (line_split (codes "alu") (Op op ∷ ws) rest)
-      ∙ word_run funs (Starting f) (codes "alu") 32 (behind_gap (Op op ∷ ws) rest) (refl, refl, (refl, refl, (refl, refl, tt))) refl
-      ∙ ap (λ r. run (Some (at_spot funs (Choosing f) [])) (op_text op ++ r)) (gap_split ws rest)
-      ∙ word_run funs (Choosing f) (op_text op) 32 (behind_gap ws rest) (op_steps op) refl
-      ∙ ap (λ m. run (moved funs m) (behind_gap ws rest)) (op_next op 32)
-      ∙ line_run funs f (line_at (Alu op 1 0 0 0) First 0) ws (Alu op n d a b) rest (takes_alu op n d a b h.bounded) h.short.1
+  key_run : (k : Key) (j : Instr) → Reads k j → AreShort (words_of j) → Runs funs f j rest
+  key_run k j r short =
+      ap (λ b. run (Some (at_spot funs (Starting f) [])) (line b (words_of j) ++ rest)) r.key
+      ∙ ap (λ r. run (Some (at_spot funs (Starting f) [])) r) (line_split (key_bytes k) (words_of j) rest)
+      ∙ word_run funs (Starting f) (key_bytes k) (gap_before (words_of j)) (behind_gap (words_of j) rest) (key_steps k) (gap_is (words_of j))
+      ∙ ap (λ m. run (moved funs m) (behind_gap (words_of j) rest)) (key_next k (gap_before (words_of j)))
+      ∙ line_run funs f (first_line k) (words_of j) j rest r.whole r.is short
 
   instr_run : (j : Instr) → IsFit j → Runs funs f j rest
-  instr_run (Const d c) h = plain_run key.Const (Const d c) (refl, refl, (refl, refl, (refl, refl, (refl, refl, (refl, refl, tt))))) (λ g. refl) (takes_const d c) h.short
-  instr_run (Copy d a) h = plain_run key.Copy (Copy d a) (refl, refl, (refl, refl, (refl, refl, (refl, refl, tt)))) (λ g. refl) (takes_copy d a) h.short
-  instr_run (Alu op n d a b) h = alu_run op n d a b h
-  instr_run (Take d a o l) h = plain_run key.Take (Take d a o l) (refl, refl, (refl, refl, (refl, refl, (refl, refl, tt)))) (λ g. refl) (takes_take d a o l h.bounded) h.short
-  instr_run (Put d a o l) h = plain_run key.Put (Put d a o l) (refl, refl, (refl, refl, (refl, refl, tt))) (λ g. refl) (takes_put d a o l h.bounded) h.short
-  instr_run (Load d a offset width) h = plain_run key.Load (Load d a offset width) (refl, refl, (refl, refl, (refl, refl, (refl, refl, tt)))) (λ g. refl) (takes_load d a offset width h.bounded) h.short
-  instr_run (Store a offset width v) h = plain_run key.Store (Store a offset width v) (refl, refl, (refl, refl, (refl, refl, (refl, refl, (refl, refl, tt))))) (λ g. refl) (takes_store a offset width v h.bounded) h.short
-  instr_run (Place d size align) h = plain_run key.Place (Place d size align) (refl, refl, (refl, refl, (refl, refl, (refl, refl, (refl, refl, tt))))) (λ g. refl) (takes_place d size align h.bounded) h.short
-  instr_run (Jump t) h = plain_run key.Jump (Jump t) (refl, refl, (refl, refl, (refl, refl, (refl, refl, tt)))) (λ g. refl) (takes_jump t) h.short
-  instr_run (Switch a other arms) h = plain_run key.Switch (Switch a other arms) (refl, refl, (refl, refl, (refl, refl, (refl, refl, (refl, refl, (refl, refl, tt)))))) (λ g. refl) (takes_switch a other arms) h.short
-  instr_run (Call t ds froms) h = plain_run key.Call (Call t ds froms) (refl, refl, (refl, refl, (refl, refl, (refl, refl, tt)))) (λ g. refl) (takes_call t ds froms) h.short
-  instr_run (Return froms) h = plain_run key.Return (Return froms) (refl, refl, (refl, refl, (refl, refl, (refl, refl, (refl, refl, (refl, refl, tt)))))) (λ g. refl) (takes_return froms) h.short
+  instr_run j h = key_run (key_for j) j (reads j h.bounded) h.short
 
 -- Functions ------------------------------------------------------------------------------------
 

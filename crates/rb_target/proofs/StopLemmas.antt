@@ -6,30 +6,27 @@ use Rattle.std.proofs.lemmas.Option.{same_Some}
 use Rattle.std.proofs.lemmas.List.{take_more, take_all, take-append-drop}
 use Rattle.std.proofs.lemmas.List.Elements.{All-append, All-cons, All-nil}
 use Rattle.rb_target.proofs.Texts.{code_text-push}
-use Rattle.rb_target.proofs.FieldLemmas.{word_in_text, IsWordFront, word_front_told, starts_rest}
-use Rattle.rb_target.proofs.LineLemmas.{seen, IsGoodLine, Follows, word_follows, Completes, completes, ends_closed, IsNext, next_word, field_has_one}
+use Rattle.rb_target.proofs.FieldLemmas.{word_in_text, any_told, IsWordFront, word_front_told, starts_rest}
+use Rattle.rb_target.proofs.LineLemmas.{short-append, IsSpelledBy, spelled_fit, IsGoodLine, word_follows, ones_to_come, Completes, completes, IsNext, next_word, closed_ends}
 use Rattle.rb_target.proofs.RunLemmas.{at_spot, pushed, counts, run_none, run_append, reads_code, lower_some}
-use Rattle.rb_target.proofs.FrontLemmas.{opened, line_front, head_front, spot_text, IsCount, IsGoodHead, IsGoodWithin, IsGood, Leaves, pushed_spelled, opened_more, op_good, op_front, word_front_more, head_whole, IsNamed, step_leaves, zero_small}
-use Rattle.rb_target.specs.Text.{op_text, word_text, key_text, words_of, spaced, line, fun_text, code_text}
+use Rattle.rb_target.proofs.FrontLemmas.{opened, line_front, head_front, spot_text, IsGoodHead, IsGoodWithin, IsGood, Leaves, pushed_spelled, opened_more, word_front_more, head_whole, IsNamed, step_leaves, zero_small}
+use Rattle.rb_target.specs.Text.{word_text, key_text, spaced, line, fun_text, code_text}
 use Rattle.rb_target.specs.Validity.{IsSmall, IsNameByte, IsLower}
 use Rattle.rb_target.specs.Spelled.{AreSpelled}
 use Rattle.rb_target.specs.Stopping.{IsCode, IsFront, StopsAt, IsTextOf}
 use Rattle.rb_target.proofs.SpelledForms.{IsFitFun, AreFitFuns, funs_fit, fit_funs}
-use Rattle.rb_target.specs.Fields.{number_of, is_open, is_word_front, key_bytes, keys, ops, field, line_at, after_word}
+use Rattle.rb_target.specs.Fields.{number_of, is_open, is_word_front, key_bytes, keys, next_field, after_word}
 use Rattle.rb_target.specs.Reading.{is_gap, is_small, is_name_byte, named, line_next, worded, headed, step, is_some, goes_on, Progress, start, moved, feed, run, is_outside, is_done}
-use Rattle.rb_target.specs.declared.instr.AluOp.{AluOp}
-use Rattle.rb_target.specs.declared.instr.AluOp.TheVariants.{Add, Sub, Mul, And, Or, Xor, Eq, Lt}
-use Rattle.rb_target.specs.declared.instr.Instr.TheVariants.{Alu}
 use Rattle.rb_target.specs.declared.word.Word.{Word}
 use Rattle.rb_target.specs.declared.word.Word.TheVariants.{Number}
 use Rattle.rb_target.specs.declared.code.CodeFun.{CodeFun}
 use Rattle.rb_target.specs.declared.read.spot.Key.{Key}
 use Rattle.rb_target.specs.declared.read.spot.Key.TheVariants as key
 use Rattle.rb_target.specs.declared.read.spot.Turn.{Turn}
-use Rattle.rb_target.specs.declared.read.spot.Turn.TheVariants.{First, Second, Third, Fourth, Fifth}
+use Rattle.rb_target.specs.declared.read.spot.Turn.TheVariants.{First, Second, Third}
 use Rattle.rb_target.specs.declared.read.spot.Line.{Line}
 use Rattle.rb_target.specs.declared.read.spot.Spot.{Spot}
-use Rattle.rb_target.specs.declared.read.spot.Spot.TheVariants.{Outside, Naming, Heading, Starting, Choosing, Within}
+use Rattle.rb_target.specs.declared.read.spot.Spot.TheVariants.{Outside, Naming, Heading, Starting, Within}
 use Rattle.rb_target.specs.declared.read.spot.Move.{Move}
 use Rattle.rb_target.specs.declared.read.spot.Move.TheVariants.{To, Closed, Refused}
 
@@ -56,16 +53,17 @@ line_parts a k s m e =
 
 line_goes : (f : CodeFun) (l : Line) → IsFitFun f → IsGoodLine l → Goes (line_front f l)
 line_goes f l h good =
-    let c : Completes l = completes l.instr l.turn l.last good in
-    let words : spaced (words_of c.instr) ≡ spaced (seen l) ++ spaced c.more = ap spaced (sym c.words) ∙ spaced-append (seen l) c.more in
-    let whole : opened (pushed f c.instr) ≡ line_front f l ++ (spaced c.more ++ 10 ∷ []) =
-    opened_more f c.instr ∙ ap (λ t. opened f ++ ((key_text c.instr ++ t) ++ 10 ∷ [])) words
-    ∙ ap (λ k. opened f ++ ((k ++ (spaced (seen l) ++ spaced c.more)) ++ 10 ∷ [])) c.key
-    ∙ line_parts (opened f) (key_text l.instr) (spaced (seen l)) (spaced c.more) (10 ∷ []) in
+    let c : Completes l = completes l good in
+    let s : IsSpelledBy l.key (l.words ++ c.more) = c.spelled in
+    let whole : opened (pushed f s.instr) ≡ line_front f l ++ (spaced c.more ++ 10 ∷ []) =
+    opened_more f s.instr ∙ ap (λ ws. opened f ++ ((key_text s.instr ++ spaced ws) ++ 10 ∷ [])) s.words
+    ∙ ap (λ t. opened f ++ ((key_text s.instr ++ t) ++ 10 ∷ [])) (spaced-append l.words c.more)
+    ∙ ap (λ k. opened f ++ ((k ++ (spaced l.words ++ spaced c.more)) ++ 10 ∷ [])) s.key
+    ∙ line_parts (opened f) (key_bytes l.key) (spaced l.words) (spaced c.more) (10 ∷ []) in
     record {
-      fun = pushed f c.instr;
+      fun = pushed f s.instr;
       more = (spaced c.more ++ 10 ∷ []) ++ ender;
-      spelled = pushed_spelled f c.instr h c.spelled;
+      spelled = pushed_spelled f s.instr h (spelled_fit l.key (l.words ++ c.more) s (short-append l.words c.more good.short c.short));
       is = sym (append_assoc (line_front f l) (spaced c.more ++ 10 ∷ []) ender) ∙ ap (λ t. t ++ ender) (sym whole);
     }
 
@@ -75,13 +73,9 @@ goes_before t w g = record { fun = g.fun; more = w ++ g.more; spelled = g.spelle
 
 within_goes : (f : CodeFun) (l : Line) → IsGoodWithin f l → Goes (line_front f l ++ 32 ∷ [])
 within_goes f l h =
-    let next : IsNext (field l.instr l.turn) = next_word (field l.instr l.turn) (field_has_one l.instr l.turn h.line.spelled.bounded) h.more in
-    let follows : Follows l next.word (after_word l next.word) = word_follows l next.word h.line next.may next.short in
+    let next : IsNext (next_field l.rest) = next_word l.rest (ones_to_come l h.line) h.more in
     goes_before (line_front f l ++ 32 ∷ []) (word_text next.word)
-    (subst Goes (word_front_more f l next.word (after_word l next.word) follows) (line_goes f (after_word l next.word) h.fun follows.good))
-
-choosing_goes : (f : CodeFun) → IsFitFun f → Goes (opened f ++ codes "alu ")
-choosing_goes f h = goes_before (opened f ++ codes "alu ") (op_text Add) (subst Goes (op_front f Add) (line_goes f (line_at (Alu Add 1 0 0 0) First 0) h (op_good Add)))
+    (subst Goes (word_front_more f l next.word) (line_goes f (after_word l next.word) h.fun (word_follows l next.word h.line next.may next.short)))
 
 head_parts : (a b u r e : List ℕ) → (a ++ (b ++ (u ++ (32 ∷ r)))) ++ e ≡ ((a ++ (b ++ u)) ++ 32 ∷ []) ++ (r ++ e)
 head_parts a b u r e =
@@ -102,8 +96,6 @@ heading_goes : (f : CodeFun) (t : Turn) → IsGoodHead f t → Goes (head_front 
 heading_goes f First h = head_goes f [] (Number f.params) (Number f.results ∷ Number f.slots ∷ []) h.fun h.empty refl
 heading_goes f Second h = head_goes f (Number f.params ∷ []) (Number f.results) (Number f.slots ∷ []) h.fun h.empty refl
 heading_goes f Third h = head_goes f (Number f.params ∷ Number f.results ∷ []) (Number f.slots) [] h.fun h.empty refl
-heading_goes f Fourth h = absurd h.turn
-heading_goes f Fifth h = absurd h.turn
 
 -- the function `t` without counts and instructions
 abbrev plain_fun : CodeFun
@@ -117,7 +109,6 @@ spot_goes Outside h = record { fun = plain_fun; more = fun_text plain_fun; spell
 spot_goes Naming h = record { fun = plain_fun; more = (line (116 ∷ []) (counts plain_fun) ++ []) ++ ender; spelled = plain_spelled; is = refl }
 spot_goes (Heading f t) h = heading_goes f t h
 spot_goes (Starting f) h = record { fun = f; more = ender; spelled = h; is = refl }
-spot_goes (Choosing f) h = choosing_goes f h
 spot_goes (Within f l) h = within_goes f l h
 
 -- Fronts of words --------------------------------------------------------------------------------
@@ -141,19 +132,7 @@ abbrev IsGoodWord : Spot → List ℕ → Type 0
 IsGoodWord Naming w = (w ≡ []) ⊎ IsLower w
 IsGoodWord spot w = (w ≡ []) ⊎ CanEnd spot w
 
-any_told : {X : Type 0} (p : X → Bool) (xs : List X) → list_any p xs ≡ true → (x : X) × (p x ≡ true)
-any_told p [] e = absurd (cc e)
-any_told p (x ∷ xs) e = elim (p x) as (λ (b : Bool). p x ≡ b → (b || list_any p xs) ≡ true → (y : _) × (p y ≡ true)) [
-  | true ↦ λ h g. (x, h)
-  | false ↦ λ h g. any_told p xs g
-] refl e
-
-key_gap : Key → ℕ
-key_gap key.End = 10
-key_gap k = 32
-
-key_moves : (f : CodeFun) (k : Key) → Moves (step (Starting f) (key_bytes k) (key_gap k))
-unfolding key_gap
+key_moves : (f : CodeFun) (k : Key) → Moves (step (Starting f) (key_bytes k) 32)
 key_moves f key.Const = tt
 key_moves f key.Copy = tt
 key_moves f key.Alu = tt
@@ -166,51 +145,36 @@ key_moves f key.Jump = tt
 key_moves f key.Switch = tt
 key_moves f key.Call = tt
 key_moves f key.Return = tt
-key_moves f key.End = tt
-
-op_moves : (f : CodeFun) (o : AluOp) → Moves (step (Choosing f) (op_text o) 32)
-op_moves f Add = tt
-op_moves f Sub = tt
-op_moves f Mul = tt
-op_moves f And = tt
-op_moves f Or = tt
-op_moves f Xor = tt
-op_moves f Eq = tt
-op_moves f Lt = tt
 
 can_end : (spot : Spot) (w whole rest : List ℕ) (gap : ℕ) → w ++ rest ≡ whole → Moves (step spot whole gap) → CanEnd spot w
 can_end spot w whole rest gap e m = record { rest = rest; gap = gap; moves = subst (λ u. Moves (step spot u gap)) (sym e) m }
 
-starting_can_end : (f : CodeFun) (q : List ℕ) → list_any (λ k. starts_with nat_eq (key_bytes k) q) keys ≡ true → CanEnd (Starting f) q
-starting_can_end f q h =
-    let k = any_told (λ k. starts_with nat_eq (key_bytes k) q) keys h in
-    can_end (Starting f) q (key_bytes k.0) (drop (length q) (key_bytes k.0)) (key_gap k.0) (starts_rest (key_bytes k.0) q k.1) (key_moves f k.0)
+starting_can_end : (f : CodeFun) (q : List ℕ) → (starts_with nat_eq (codes "end") q || list_any (λ k. starts_with nat_eq (key_bytes k) q) keys) ≡ true → CanEnd (Starting f) q
+starting_can_end f q h = elim (starts_with nat_eq (codes "end") q) as (λ (b : Bool). starts_with nat_eq (codes "end") q ≡ b → (b || list_any (λ k. starts_with nat_eq (key_bytes k) q) keys) ≡ true → CanEnd (Starting f) q) [
+  | true ↦ λ e g. can_end (Starting f) q (codes "end") (drop (length q) (codes "end")) 10 (starts_rest (codes "end") q e) tt
+  | false ↦ λ e g.
+      let k = any_told (λ k. starts_with nat_eq (key_bytes k) q) keys g in
+      can_end (Starting f) q (key_bytes k.0) (drop (length q) (key_bytes k.0)) 32 (starts_rest (key_bytes k.0) q k.1) (key_moves f k.0)
+] refl h
 
-choosing_can_end : (f : CodeFun) (q : List ℕ) → list_any (λ o. starts_with nat_eq (op_text o) q) ops ≡ true → CanEnd (Choosing f) q
-choosing_can_end f q h =
-    let o = any_told (λ o. starts_with nat_eq (op_text o) q) ops h in
-    can_end (Choosing f) q (op_text o.0) (drop (length q) (op_text o.0)) 32 (starts_rest (op_text o.0) q o.1) (op_moves f o.0)
+heading_can_end : (f : CodeFun) (t : Turn) (q : List ℕ) (o : Option ℕ) → number_of q ≡ o → is_some o ≡ true → CanEnd (Heading f t) q
+heading_can_end f t q None e h = absurd (cc h)
+heading_can_end f First q (Some n) e h = can_end (Heading f First) q q [] 32 (append-nil q) (subst (λ o. Moves (headed f First 32 o)) (sym e) tt)
+heading_can_end f Second q (Some n) e h = can_end (Heading f Second) q q [] 32 (append-nil q) (subst (λ o. Moves (headed f Second 32 o)) (sym e) tt)
+heading_can_end f Third q (Some n) e h = can_end (Heading f Third) q q [] 10 (append-nil q) (subst (λ o. Moves (headed f Third 10 o)) (sym e) tt)
 
-heading_can_end : (f : CodeFun) (t : Turn) (q : List ℕ) (o : Option ℕ) → number_of q ≡ o → IsCount t → is_some o ≡ true → CanEnd (Heading f t) q
-heading_can_end f t q None e turn h = absurd (cc h)
-heading_can_end f First q (Some n) e turn h = can_end (Heading f First) q q [] 32 (append-nil q) (subst (λ o. Moves (headed f First 32 o)) (sym e) tt)
-heading_can_end f Second q (Some n) e turn h = can_end (Heading f Second) q q [] 32 (append-nil q) (subst (λ o. Moves (headed f Second 32 o)) (sym e) tt)
-heading_can_end f Third q (Some n) e turn h = can_end (Heading f Third) q q [] 10 (append-nil q) (subst (λ o. Moves (headed f Third 10 o)) (sym e) tt)
-heading_can_end f Fourth q (Some n) e turn h = absurd turn
-heading_can_end f Fifth q (Some n) e turn h = absurd turn
-
-line_gap : (f : CodeFun) (l : Line) → (g : ℕ) × Moves (line_next f l g)
-line_gap f l = elim (is_open (field l.instr l.turn)) as (λ (b : Bool). is_open (field l.instr l.turn) ≡ b → (g : ℕ) × Moves (line_next f l g)) [
+line_gap : (f : CodeFun) (l : Line) → IsGoodLine l → (g : ℕ) × Moves (line_next f l g)
+line_gap f l good = elim (is_open (next_field l.rest)) as (λ (b : Bool). is_open (next_field l.rest) ≡ b → (g : ℕ) × Moves (line_next f l g)) [
   | true ↦ λ e. (32, rw e tt)
-  | false ↦ λ e. (10, rw (ends_closed l.instr l.turn e) tt)
+  | false ↦ λ e. (10, rw (closed_ends l.rest (ones_to_come l good) e) tt)
 ] refl
 
-within_can_end : (f : CodeFun) (l : Line) (q : List ℕ) → is_word_front (field l.instr l.turn) q ≡ true → CanEnd (Within f l) q
-within_can_end f l q h =
-    let front : IsWordFront (field l.instr l.turn) q = word_front_told (field l.instr l.turn) q h in
-    let gap = line_gap f (after_word l front.word) in
+within_can_end : (f : CodeFun) (l : Line) (q : List ℕ) → IsGoodLine l → is_word_front (next_field l.rest) q ≡ true → CanEnd (Within f l) q
+within_can_end f l q good h =
+    let front : IsWordFront (next_field l.rest) q = word_front_told (next_field l.rest) q h in
+    let gap = line_gap f (after_word l front.word) (word_follows l front.word good front.may front.short) in
     can_end (Within f l) q (word_text front.word) front.rest gap.0 front.is
-    (subst (λ o. Moves (worded f l gap.0 o)) (sym (word_in_text (field l.instr l.turn) front.word front.may front.short)) gap.1)
+    (subst (λ o. Moves (worded f l gap.0 o)) (sym (word_in_text (next_field l.rest) front.word front.may front.short)) gap.1)
 
 small_told : (b : ℕ) → is_small b ≡ true → IsSmall b
 small_told b h = grind (arith, common_steps)
@@ -237,10 +201,9 @@ naming_word w b h g = elim h [
 word_more : (spot : Spot) (w : List ℕ) (b : ℕ) → IsGood spot → IsGoodWord spot w → goes_on spot (w ++ b ∷ []) b ≡ true → IsGoodWord spot (w ++ b ∷ [])
 word_more Outside w b h k g = inr (can_end Outside (w ++ b ∷ []) (codes "fun") (drop (length (w ++ b ∷ [])) (codes "fun")) 32 (starts_rest (codes "fun") (w ++ b ∷ []) g) tt)
 word_more Naming w b h k g = naming_word w b k g
-word_more (Heading f t) w b h k g = inr (heading_can_end f t (w ++ b ∷ []) (number_of (w ++ b ∷ [])) refl h.turn g)
+word_more (Heading f t) w b h k g = inr (heading_can_end f t (w ++ b ∷ []) (number_of (w ++ b ∷ [])) refl g)
 word_more (Starting f) w b h k g = inr (starting_can_end f (w ++ b ∷ []) g)
-word_more (Choosing f) w b h k g = inr (choosing_can_end f (w ++ b ∷ []) g)
-word_more (Within f l) w b h k g = inr (within_can_end f l (w ++ b ∷ []) g)
+word_more (Within f l) w b h k g = inr (within_can_end f l (w ++ b ∷ []) h.line g)
 
 named_from : (spot : Spot) (w : List ℕ) → IsGoodWord spot w → IsNamed spot w
 named_from Naming w h = h
@@ -269,7 +232,6 @@ word_goes Naming w h k = elim k [
 word_goes Outside w h k = elim k [ inl e ↦ nothing_more Outside w h e | inr c ↦ front_goes Outside w h tt c (λ v. tt) ]
 word_goes (Heading f t) w h k = elim k [ inl e ↦ nothing_more (Heading f t) w h e | inr c ↦ front_goes (Heading f t) w h tt c (λ v. tt) ]
 word_goes (Starting f) w h k = elim k [ inl e ↦ nothing_more (Starting f) w h e | inr c ↦ front_goes (Starting f) w h tt c (λ v. tt) ]
-word_goes (Choosing f) w h k = elim k [ inl e ↦ nothing_more (Choosing f) w h e | inr c ↦ front_goes (Choosing f) w h tt c (λ v. tt) ]
 word_goes (Within f l) w h k = elim k [ inl e ↦ nothing_more (Within f l) w h e | inr c ↦ front_goes (Within f l) w h tt c (λ v. tt) ]
 
 -- Progress ---------------------------------------------------------------------------------------
@@ -296,7 +258,6 @@ no_word Naming = inl refl
 no_word Outside = inl refl
 no_word (Heading f t) = inl refl
 no_word (Starting f) = inl refl
-no_word (Choosing f) = inl refl
 no_word (Within f l) = inl refl
 
 moved_fed : (funs : List CodeFun) (t : List ℕ) (m : Move) (q : Progress) → AreFitFuns funs → Leaves t m → moved funs m ≡ Some q → Fed (code_text funs ++ t) q
@@ -375,7 +336,6 @@ done_text p e = done_at p.spot p.word e
     done_at Naming w e = absurd (cc e)
     done_at (Heading f t) w e = absurd (cc e)
     done_at (Starting f) w e = absurd (cc e)
-    done_at (Choosing f) w e = absurd (cc e)
     done_at (Within f l) w e = absurd (cc e)
 
 -- a whole text is that of the functions read

@@ -1,4 +1,7 @@
--- What contracts see of code that grows.
+-- What contracts see of code that grows: a sheet, the body of a function to which instructions are added one by
+-- one, and in which targets are set later. A hole is the place of a target that is not set yet: the number of an
+-- instruction, and the number of an arm of a switch, or no arm for the target of a jump or the other target of a
+-- switch.
 use Rattle.std.specs.Prelude.{◌≡◌, ℕ, zero, suc, ◌+◌, ◌^◌, ◌<◌, ◌≤◌, List, [], ◌∷◌, ◌++◌, length, Option, Some, None, slice_get, slice_set, Contains}
 use Rattle.rb_target.specs.Validity.{dests}
 use Rattle.rb_target.specs.declared.instr.SwitchArm.{SwitchArm}
@@ -7,61 +10,72 @@ use Rattle.rb_target.specs.declared.instr.Instr.TheVariants.{Jump, Switch}
 use Rattle.rb_target.specs.declared.body.Hole.{Hole}
 use Rattle.rb_target.specs.declared.code.CodeFun.{CodeFun}
 
--- the instructions of a body
+-- the most instructions that a body may have
 abbrev pub most_instrs : ℕ
 most_instrs = 2 ^ 24
 
+-- the instructions so far, the number of parameters, and the number of slots, the parameters' among them
 pub record Sheet : Type 0 where
   pub code : List Instr
   pub params : ℕ
   pub slots : ℕ
 
+-- what holds of every sheet: at most 256 parameters, slots that a word of 64 bits can count, and no more instructions
+-- than a body may have
 pub record IsKept (params slots : ℕ) (code : List Instr) : Type 0 where
   pub few : params ≤ 256
   pub small : slots < 2 ^ 64
   pub short : length code ≤ most_instrs
 
+-- the sheet with one instruction more, at the end
 abbrev pub pushed : Sheet → Instr → Sheet
 pushed b i = record b { code = b.code ++ i ∷ [] }
 
+-- the sheet with one slot more, behind the others
 abbrev pub with_slot : Sheet → Sheet
 with_slot b = record b { slots = b.slots + 1 }
 
+-- the arms with t as the target of arm number k; unchanged where there is no such arm
 abbrev pub retargeted_arm : List SwitchArm → ℕ → ℕ → List SwitchArm
 retargeted_arm [] k t = []
 retargeted_arm (arm ∷ arms) zero t = record arm { target = t } ∷ arms
 retargeted_arm (arm ∷ arms) (suc k) t = arm ∷ retargeted_arm arms k t
 
--- an instruction with one target changed
+-- an instruction with t as one target: that of the arm with the number given, or without a number the target of a
+-- jump or the other target of a switch; an instruction without such a target is unchanged
 abbrev pub retargeted : Instr → Option ℕ → ℕ → Instr
 retargeted (Jump old) None t = Jump t
 retargeted (Switch a other arms) None t = Switch a (Some t) arms
 retargeted (Switch a other arms) (Some k) t = Switch a other (retargeted_arm arms k t)
 retargeted i arm t = i
 
--- the instruction has that target
+-- there is an instruction, and it has that target: without a number the target of a jump or the other target of a
+-- switch that has one, with a number an arm of a switch
 abbrev pub IsHoleIn : Option Instr → Option ℕ → Type 0
 IsHoleIn (Some (Jump t)) None = Unit {0}
 IsHoleIn (Some (Switch a (Some t) arms)) None = Unit {0}
 IsHoleIn (Some (Switch a other arms)) (Some k) = k < length arms
 IsHoleIn i arm = ⊥
 
+-- the hole is the place of a target in the code
 abbrev pub IsHole : List Instr → Hole → Type 0
 IsHole code h = IsHoleIn (slice_get code h.pc) h.arm
 
+-- the code with t as the target at the hole, where the instruction there is known; unchanged where there is none
 abbrev pub with_instr : Option Instr → List Instr → Hole → ℕ → List Instr
 with_instr None code h t = code
 with_instr (Some i) code h t = slice_set code h.pc (retargeted i h.arm t)
 
+-- the sheet with t as the target at a hole; unchanged where there is no instruction
 abbrev pub patched : Sheet → Hole → ℕ → Sheet
 patched b h t = record b { code = with_instr (slice_get b.code h.pc) b.code h t }
 
--- the function of that name whose code this is, with so many results
+-- the function of the name given whose code the sheet is, with so many results
 abbrev pub finished : Sheet → List ℕ → ℕ → CodeFun
 finished b name results =
     record { name = name; params = b.params; results = results; slots = b.slots; body = b.code }
 
--- each slot after the parameters is written by some instruction
+-- each slot behind the parameters is written by some instruction
 abbrev pub AreWritten : Sheet → Type 0
 AreWritten b = (s : ℕ) → b.params ≤ s → s < b.slots → (pc : ℕ) × (i : Instr) × (slice_get b.code pc ≡ Some i)
     × Contains (dests i) s

@@ -1,4 +1,4 @@
--- Whose text bytes are, and the byte at which they stop being one.
+-- Whose text bytes are, and the byte at which they stop being the front of any.
 use Rattle.std.specs.Prelude.{◌≡◌, ℕ, List, Result, Ok, Err}
 use Rattle.rb_core.specs.Stopping.{BeginsSome, StopsAtIn}
 use Rattle.rb_target.specs.Text.{code_text}
@@ -7,24 +7,26 @@ use Rattle.rb_target.specs.declared.code.CodeFun.{CodeFun}
 use Rattle.rb_target.specs.declared.fault.CodeFault.{CodeFault}
 use Rattle.rb_target.specs.declared.fault.CodeFault.TheVariants.{CodeSyntax, Memory}
 
--- the text of these functions, which may not be valid together
+-- the bytes are the text of these functions, which may not be valid together; no bytes are the text of no functions
 pub record IsTextOf (bytes : List ℕ) (funs : List CodeFun) : Type 0 where
   pub spelled : AreSpelled funs
   pub is : bytes ≡ code_text funs
 
+-- the bytes are a whole code text: that of some functions, valid together or not
 abbrev pub IsCode : List ℕ → Type 0
 IsCode bytes = (funs : List CodeFun) × IsTextOf bytes funs
 
--- some code text begins so
+-- some code text begins with these bytes, or is them
 abbrev pub IsFront : List ℕ → Type 0
 IsFront bytes = BeginsSome IsCode bytes
 
--- the bytes before `at` begin some code text;
--- with the byte there they don't, or there is none and they are no whole text
+-- the bytes before number `at` begin some code text; with the byte there they do not, or there is none, since the
+-- bytes end at `at`, and they are no whole text
 abbrev pub StopsAt : List ℕ → ℕ → Type 0
 StopsAt bytes at = StopsAtIn IsCode bytes at
 
--- what reading answers: the functions, or the byte at which no text goes on, or want of memory
+-- what reading the bytes may answer: the functions whose text they are, the number of the byte at which no code text
+-- goes on, or want of memory; no other fault
 abbrev pub IsReading : List ℕ → Result (List CodeFun) CodeFault → Type 0
 IsReading bytes (Ok funs) = IsTextOf bytes funs
 IsReading bytes (Err (CodeSyntax at)) = StopsAt bytes at

@@ -1,6 +1,6 @@
 //! The words that may stand in a field.
 
-ghost use Rattle.std.specs.Prelude.{◌≡◌, IfSome};
+ghost use Rattle.std.specs.Prelude.{◌≡◌};
 ghost use Rattle.rb_target.specs.Fields as spec;
 
 use super::spot::{Field, Key};
@@ -9,7 +9,7 @@ use crate::word::{Word, op_name};
 use rb_core::decimal::number_in;
 
 // Every key.
-const KEYS: [Key; 13] = [
+const KEYS: [Key; 12] = [
     Key::Const,
     Key::Copy,
     Key::Alu,
@@ -22,7 +22,6 @@ const KEYS: [Key; 13] = [
     Key::Switch,
     Key::Call,
     Key::Return,
-    Key::End,
 ];
 
 // Every operation.
@@ -55,7 +54,6 @@ impl Key {
             Key::Switch => b"switch",
             Key::Call => b"call",
             Key::Return => b"return",
-            Key::End => b"end",
         }
     }
 }
@@ -67,8 +65,8 @@ pub fn key_of(word: &[u8]) -> Option<Key>
     KEYS.iter().copied().find(|key| key.text() == word)
 }
 
-/// The operation that is written so.
-pub fn op_of(word: &[u8]) -> Option<AluOp>
+// The operation that is written so.
+fn op_of(word: &[u8]) -> Option<AluOp>
     ensures { result ≡ spec.op_of word.now }
 {
     OPS.iter().copied().find(|op| op_name(*op) == word)
@@ -81,8 +79,8 @@ pub fn is_key_front(word: &[u8]) -> bool
     KEYS.iter().any(|key| key.text().starts_with(word))
 }
 
-/// Whether some operation's name begins so.
-pub fn is_op_front(word: &[u8]) -> bool
+// Whether some operation's name begins so.
+fn is_op_front(word: &[u8]) -> bool
     ensures { result ≡ spec.is_op_front word.now }
 {
     OPS.iter().any(|op| op_name(*op).starts_with(word))
@@ -101,12 +99,18 @@ impl Field {
         ensures { result ≡ spec.has self number }
     {
         match self {
-            Field::Any | Field::OrDash | Field::OrOf => true,
+            Field::Any
+            | Field::OrDash
+            | Field::Pairs
+            | Field::Target
+            | Field::OrOf
+            | Field::Slots => true,
+            Field::Range => number <= 63,
             Field::Upto(high) => number <= high,
             Field::FromOne(high) => 1 <= number && number <= high,
             Field::Width => is_width(number),
             Field::Align => { number == 1 || number == 2 || number == 4 || is_width(number) }
-            Field::Nothing => false,
+            Field::Operation | Field::Nothing => false,
         }
     }
 
@@ -120,8 +124,13 @@ impl Field {
             Field::Any
             | Field::Upto(_)
             | Field::FromOne(_)
+            | Field::Range
+            | Field::Operation
             | Field::OrDash
+            | Field::Pairs
+            | Field::Target
             | Field::OrOf
+            | Field::Slots
             | Field::Nothing => false,
         }
     }
@@ -137,8 +146,13 @@ impl Field {
             | Field::FromOne(_)
             | Field::Width
             | Field::Align
+            | Field::Range
+            | Field::Operation
             | Field::OrDash
-            | Field::OrOf => true,
+            | Field::Pairs
+            | Field::Target
+            | Field::OrOf
+            | Field::Slots => true,
         }
     }
 
@@ -147,6 +161,10 @@ impl Field {
         ensures { result ≡ spec.named_word self text.now }
     {
         match self {
+            Field::Operation => match op_of(text) {
+                Some(op) => Some(Word::Op(op)),
+                None => None,
+            },
             Field::OrDash if text == b"-".as_slice() => Some(Word::Dash),
             Field::OrOf if text == b"of".as_slice() => Some(Word::Of),
             Field::Any
@@ -154,16 +172,19 @@ impl Field {
             | Field::FromOne(_)
             | Field::Width
             | Field::Align
+            | Field::Range
             | Field::OrDash
+            | Field::Pairs
+            | Field::Target
             | Field::OrOf
+            | Field::Slots
             | Field::Nothing => None,
         }
     }
 
     /// The word that is written so, if it may stand there.
     pub fn word(self, text: &[u8]) -> Option<Word>
-        ensures value { result ≡ spec.word_in self text.now }
-        ensures may { IfSome result (λ word. spec.InField self word) }
+        ensures { result ≡ spec.word_in self text.now }
     {
         match number_of(text) {
             Some(number) if self.has(number) => Some(Word::Number(number)),
@@ -177,6 +198,7 @@ impl Field {
         ensures { result ≡ spec.named_front self text.now }
     {
         match self {
+            Field::Operation => is_op_front(text),
             Field::OrDash => b"-".starts_with(text),
             Field::OrOf => b"of".starts_with(text),
             Field::Any
@@ -184,6 +206,10 @@ impl Field {
             | Field::FromOne(_)
             | Field::Width
             | Field::Align
+            | Field::Range
+            | Field::Pairs
+            | Field::Target
+            | Field::Slots
             | Field::Nothing => false,
         }
     }

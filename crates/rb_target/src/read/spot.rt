@@ -1,9 +1,10 @@
 //! Where reading stands between two words.
 
 use crate::code::CodeFun;
-use crate::instr::Instr;
+use crate::word::Word;
+use rb_core::seq::Seq;
 
-/// The first word of a line within a function.
+/// The first word of an instruction's line.
 #[derive(Clone, Copy, PartialEq, Eq)]
 pub enum Key {
     Const,
@@ -18,17 +19,17 @@ pub enum Key {
     Switch,
     Call,
     Return,
-    End,
 }
 
-/// Which of a line's words comes next. The lists of a switch, a call and a return repeat a turn.
+/// Which of a function's three counts comes next.
 #[derive(Clone, Copy, PartialEq, Eq)]
 pub enum Turn {
+    /// The parameters.
     First,
+    /// The results.
     Second,
+    /// The slots.
     Third,
-    Fourth,
-    Fifth,
 }
 
 /// What a word may be.
@@ -36,29 +37,39 @@ pub enum Turn {
 pub enum Field {
     /// Any number.
     Any,
-    /// A number from 0 on.
+    /// A number from 0 on, up to this one.
     Upto(u64),
-    /// A number from 1 on.
+    /// A number from 1 on, up to this one.
     FromOne(u64),
     /// A width in bits.
     Width,
     /// An alignment in bytes.
     Align,
+    /// An offset of bits within a word; behind it stands a length that stays within the word.
+    Range,
+    /// An operation's name.
+    Operation,
     /// A number or `-`.
     OrDash,
-    /// A number or `of`.
+    /// The number of an arm, if there is one more; behind it stands the arm's target.
+    Pairs,
+    /// The target of an arm; behind it more arms may stand.
+    Target,
+    /// A number, behind which more may stand, or `of`, which ends them.
     OrOf,
+    /// A number, if there is one more.
+    Slots,
     /// There is no word.
     Nothing,
 }
 
-/// A line that is read in part: an instruction whose words behind the turn are not read yet, and
-/// the number that was read last.
+/// A line that is read in part: its key, the words that are read behind it, and the fields that
+/// are to come, which the key and the words determine.
 #[derive(Drop)]
 pub struct Line {
-    pub instr: Instr,
-    pub turn: Turn,
-    pub last: u64,
+    pub key: Key,
+    pub words: Seq<Word>,
+    pub rest: Seq<Field>,
 }
 
 /// Where reading stands between two words.
@@ -72,8 +83,6 @@ pub enum Spot {
     Heading(CodeFun, Turn),
     /// Before an instruction of a function, or its end.
     Starting(CodeFun),
-    /// Before an operation's name.
-    Choosing(CodeFun),
     /// Within an instruction's line.
     Within(CodeFun, Line),
 }

@@ -1,12 +1,10 @@
 //! One byte more of a code text.
 
 ghost use Rattle.std.specs.Prelude.{◌≡◌, ◌∷◌, [], ◌++◌, IfOk, MatchBool, Some, None, true};
-ghost use Rattle.rb_target.specs.Fields as field_spec;
 ghost use Rattle.rb_target.specs.Reading as spec;
 
-use super::field::{is_key_front, is_op_front, key_of, number_of, op_of};
-use super::line::{first_line, op_line, with_word};
-use super::spot::{Key, Line, Move, Spot, Turn};
+use super::field::{is_key_front, key_of, number_of};
+use super::spot::{Line, Move, Spot, Turn};
 use crate::code::CodeFun;
 use crate::instr::Instr;
 use rb_core::seq::Seq;
@@ -56,14 +54,14 @@ fn is_name_byte(byte: u8) -> bool
 }
 
 // Behind a word of an instruction's line.
-fn line_next(fun: CodeFun, line: Line, gap: u8) -> Result<Move, AllocError>
+fn line_next(alloc: Global, fun: CodeFun, line: Line, gap: u8) -> Result<Move, AllocError>
     ensures { IfOk result (λ m. m ≡ spec.line_next fun line gap) }
 {
     if gap == b' ' && line.field().is_open() {
         return Ok(Move::To(Spot::Within(fun, line)));
     }
     if gap == b'\n' && line.may_end() {
-        let Line { instr, .. } = line;
+        let instr = line.instruction(alloc)?;
         return Ok(Move::To(Spot::Starting(with_instr(fun, instr)?)));
     }
     Ok(Move::Refused)
@@ -90,36 +88,27 @@ fn with_instr(fun: CodeFun, instr: Instr) -> Result<CodeFun, AllocError>
     })
 }
 
-// Behind the first word of a line within a function.
-fn key_next(alloc: Global, fun: CodeFun, gap: u8, key: Key) -> Result<Move, AllocError>
-    ensures { IfOk result (λ m. m ≡ spec.key_next fun gap key) }
+// Behind the word `end` within a function.
+fn closing(fun: CodeFun, gap: u8) -> Move
+    ensures { result ≡ spec.closing fun gap }
 {
-    match key {
-        Key::End => {
-            if gap == b'\n' {
-                Ok(Move::Closed(fun))
-            } else {
-                Ok(Move::Refused)
-            }
-        }
-        Key::Alu => {
-            if gap == b' ' {
-                Ok(Move::To(Spot::Choosing(fun)))
-            } else {
-                Ok(Move::Refused)
-            }
-        }
-        Key::Const
-        | Key::Copy
-        | Key::Take
-        | Key::Put
-        | Key::Load
-        | Key::Store
-        | Key::Place
-        | Key::Jump
-        | Key::Switch
-        | Key::Call
-        | Key::Return => line_next(fun, first_line(alloc, key), gap),
+    if gap == b'\n' {
+        Move::Closed(fun)
+    } else {
+        Move::Refused
+    }
+}
+
+// Behind the first word of a line within a function.
+fn starting(alloc: Global, fun: CodeFun, word: &[u8], gap: u8) -> Result<Move, AllocError>
+    ensures { IfOk result (λ m. m ≡ spec.step (Spot.Starting fun) word.now gap) }
+{
+    if word == b"end".as_slice() {
+        return Ok(closing(fun, gap));
+    }
+    match key_of(word) {
+        Some(key) => line_next(alloc, fun, Line::first(alloc, key)?, gap),
+        None => Ok(Move::Refused),
     }
 }
 
@@ -137,7 +126,7 @@ fn headed(fun: CodeFun, turn: Turn, gap: u8, count: usize) -> Move
     let (wanted, params, results, slots) = match turn {
         Turn::First => (b' ', count, results, slots),
         Turn::Second => (b' ', params, count, slots),
-        Turn::Third | Turn::Fourth | Turn::Fifth => (b'\n', params, results, count),
+        Turn::Third => (b'\n', params, results, count),
     };
     if gap != wanted {
         return Move::Refused;
@@ -152,7 +141,7 @@ fn headed(fun: CodeFun, turn: Turn, gap: u8, count: usize) -> Move
     match turn {
         Turn::First => Move::To(Spot::Heading(fun, Turn::Second)),
         Turn::Second => Move::To(Spot::Heading(fun, Turn::Third)),
-        Turn::Third | Turn::Fourth | Turn::Fifth => Move::To(Spot::Starting(fun)),
+        Turn::Third => Move::To(Spot::Starting(fun)),
     }
 }
 
@@ -195,16 +184,9 @@ fn step(alloc: Global, spot: Spot, word: &[u8], gap: u8) -> Result<Move, AllocEr
             Some(count) => Ok(headed(fun, turn, gap, count as usize)),
             None => Ok(Move::Refused),
         },
-        Spot::Starting(fun) => match key_of(word) {
-            Some(key) => key_next(alloc, fun, gap, key),
-            None => Ok(Move::Refused),
-        },
-        Spot::Choosing(fun) => match op_of(word) {
-            Some(op) => line_next(fun, op_line(op), gap),
-            None => Ok(Move::Refused),
-        },
+        Spot::Starting(fun) => starting(alloc, fun, word, gap),
         Spot::Within(fun, line) => match line.field().word(word) {
-            Some(next) => line_next(fun, with_word(alloc, line, next)?, gap),
+            Some(next) => line_next(alloc, fun, line.with_word(next)?, gap),
             None => Ok(Move::Refused),
         },
     }
@@ -224,8 +206,7 @@ fn goes_on(spot: &Spot, word: &[u8], last: u8) -> bool
             }
         }
         Spot::Heading(..) => number_of(word).is_some(),
-        Spot::Starting(_) => is_key_front(word),
-        Spot::Choosing(_) => is_op_front(word),
+        Spot::Starting(_) => b"end".starts_with(word) || is_key_front(word),
         Spot::Within(_, line) => line.field().is_front(word),
     }
 }
