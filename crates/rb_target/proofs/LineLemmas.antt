@@ -45,10 +45,12 @@ abbrev pub behind : List Field → List Word → List Field
 behind fs [] = fs
 behind fs (w ∷ ws) = behind (fields_after fs w) ws
 
+-- two tests that hold hold together
 both : (a b : Bool) → a ≡ true → b ≡ true → (a && b) ≡ true
 both true b x y = y
 both false b x y = x
 
+-- one word more, in the next field
 fits-push : (fs : List Field) (ws : List Word) (w : Word) → fits fs ws ≡ true → may_be (next_field (behind fs ws)) w ≡ true → fits fs (ws ++ w ∷ []) ≡ true
 fits-push [] [] w a b = absurd (cc b)
 fits-push (f ∷ fs) [] w a b = both (may_be f w) true b refl
@@ -57,10 +59,12 @@ fits-push (f ∷ fs) (v ∷ ws) w a b =
     let more : List Field = behind_field f fs v in
     both (may_be f v) (fits more (ws ++ w ∷ [])) (both-left (may_be f v) (fits more ws) a) (fits-push more ws w (both-right (may_be f v) (fits more ws) a) b)
 
+-- the fields to come behind one word more
 behind-push : (fs : List Field) (ws : List Word) (w : Word) → behind fs (ws ++ w ∷ []) ≡ fields_after (behind fs ws) w
 behind-push fs [] w = refl
 behind-push fs (v ∷ ws) w = behind-push (fields_after fs v) ws w
 
+-- words that stand in the fields, and words behind them with which the line is whole
 whole-append : (fs : List Field) (ws more : List Word) → fits fs ws ≡ true → whole (behind fs ws) more ≡ true → whole fs (ws ++ more) ≡ true
 whole-append fs [] more a b = b
 whole-append [] (w ∷ ws) more a b = absurd (cc a)
@@ -133,6 +137,7 @@ told_align n a = subst (λ m. has Align m ≡ true) (sym a.2) (align_is a.0 a.1)
 width_small : (n : ℕ) → IsWidth n → n ≤ 64
 width_small n h = grind arith
 
+-- a number that is its own low byte
 low : (n : ℕ) → n ≤ 255 → n % 256 ≡ n
 low n le = omega arith
 
@@ -144,6 +149,7 @@ HasOne (FromOne high) = 1 ≤ high
 HasOne Nothing = ⊥
 HasOne f = Unit {0}
 
+-- a word that may stand in a field, if some word may
 abbrev some_word : Field → Word
 some_word (FromOne high) = Number 1
 some_word Width = Number 8
@@ -153,18 +159,21 @@ some_word OrDash = Dash
 some_word OrOf = Of
 some_word f = Number 0
 
+-- that word may stand there
 pub some_may : (f : Field) → HasOne f → may_be f (some_word f) ≡ true
 some_may (FromOne high) one = told_from_one high 1 (omega arith) one
 some_may Nothing one = absurd one
 some_may (Upto high) one = told_upto high 0 (omega arith)
 some_may f one = refl
 
+-- that word is short
 pub some_short : (f : Field) → IsShort (some_word f)
 some_short Operation = tt
 some_short OrDash = tt
 some_short OrOf = tt
 some_short f = omega arith
 
+-- some word may stand in each of the fields
 abbrev HaveOne : List Field → Type 0
 HaveOne [] = Unit {0}
 HaveOne (f ∷ fs) = HasOne f × HaveOne fs
@@ -178,6 +187,7 @@ finish (Target ∷ fs) = Number 0 ∷ []
 finish (Slots ∷ fs) = []
 finish (f ∷ fs) = some_word f ∷ finish fs
 
+-- with those words a line is whole
 finish_whole : (fs : List Field) → HaveOne fs → whole fs (finish fs) ≡ true
 finish_whole [] h = refl
 finish_whole (Range ∷ fs) h = finish_whole fs h.1
@@ -186,6 +196,7 @@ finish_whole (Target ∷ fs) h = refl
 finish_whole (Slots ∷ fs) h = refl
 finish_whole (f ∷ fs) h = both (may_be f (some_word f)) (whole fs (finish fs)) (some_may f h.0) (finish_whole fs h.1)
 
+-- those words are short
 finish_short : (fs : List Field) → AreShort (finish fs)
 finish_short [] = tt
 finish_short (Range ∷ fs) = (omega arith, (omega arith, finish_short fs))
@@ -194,6 +205,7 @@ finish_short (Target ∷ fs) = (omega arith, tt)
 finish_short (Slots ∷ fs) = tt
 finish_short (f ∷ fs) = (some_short f, finish_short fs)
 
+-- some word may stand in each field to come, behind one word more
 one_behind : (f : Field) (fs : List Field) (w : Word) → HaveOne (f ∷ fs) → may_be f w ≡ true → HaveOne (behind_field f fs w)
 one_behind Range fs (Number n) h m = (let le = upto_told 63 n m in omega (arith, le), h.1)
 one_behind Range fs w h m = absurd (cc m)
@@ -204,6 +216,7 @@ one_behind Target fs w h m = (tt, h.1)
 one_behind Slots fs w h m = (tt, h.1)
 one_behind f fs w h m = h.1
 
+-- some word may stand in each field to come, behind words that stand in the fields
 ones_behind : (fs : List Field) (ws : List Word) → HaveOne fs → fits fs ws ≡ true → HaveOne (behind fs ws)
 ones_behind fs [] h a = h
 ones_behind [] (w ∷ ws) h a = absurd (cc a)
@@ -211,6 +224,7 @@ ones_behind (f ∷ fs) (w ∷ ws) h a =
     let rest : List Field = behind_field f fs w in
     ones_behind rest ws (one_behind f fs w h (both-left (may_be f w) (fits rest ws) a)) (both-right (may_be f w) (fits rest ws) a)
 
+-- some word may stand in each field of the table
 table_ones : (k : Key) → HaveOne (fields k)
 table_ones key.Const = (tt, (tt, tt))
 table_ones key.Copy = (tt, (tt, tt))
@@ -231,6 +245,7 @@ pub short-append : (us vs : List Word) → AreShort us → AreShort vs → AreSh
 short-append [] vs a b = b
 short-append (u ∷ us) vs a b = (a.0, short-append us vs a.1 b)
 
+-- the arms that are read, and the number of one more, if that is read
 abbrev arms_so : List SwitchArm → Option ℕ → Arms
 arms_so arms n = record { arms = arms; number = n }
 
@@ -247,19 +262,23 @@ arms_pairs done (Number n ∷ Number t ∷ ws) h =
     arms_pairs (done ++ arm ∷ []) ws h ∙ ap (λ vs. vs ++ ws) (pairs-push done arm) ∙ append_assoc (pairs done) (Number n ∷ Number t ∷ []) ws
 arms_pairs done ws h = absurd (cc h)
 
+-- the numbers of arms whose words are short
 short_arms : (arms : List SwitchArm) → AreShort (pairs arms) → All (λ (arm : SwitchArm). arm.number < 2 ^ 64) arms
 short_arms [] h = All-nil (λ (arm : SwitchArm). arm.number < 2 ^ 64)
 short_arms (arm ∷ arms) h = All-cons (λ (arm : SwitchArm). arm.number < 2 ^ 64) arm arms h.0 (short_arms arms h.1.1)
 
+-- words that are slots are those of the slots read
 slots_words : (ws : List Word) → whole (Slots ∷ []) ws ≡ true → numbers (map value_of ws) ≡ ws
 slots_words [] h = refl
 slots_words (Number n ∷ ws) h = ap (λ vs. Number n ∷ vs) (slots_words ws h)
 slots_words ws h = absurd (cc h)
 
+-- the words of slots stand in their field, and are read as those slots
 words_slots : (ns : List ℕ) → (whole (Slots ∷ []) (numbers ns) ≡ true) × (map value_of (numbers ns) ≡ ns)
 words_slots [] = (refl, refl)
 words_slots (n ∷ ns) = let more = words_slots ns in (more.0, ap (λ ms. n ∷ ms) more.1)
 
+-- the two lists of a call that are read, and whether `of` is
 abbrev lists_so : List ℕ → List ℕ → Bool → Lists
 lists_so ds froms b = record { dests = ds; froms = froms; behind = b }
 
@@ -279,6 +298,7 @@ record IsCallWords (ws : List Word) : Type 0 where
   froms : List ℕ
   is : ws ≡ numbers dests ++ Of ∷ numbers froms
 
+-- words with which the line of a call is whole
 call_words : (ws : List Word) → whole (OrOf ∷ Slots ∷ []) ws ≡ true → IsCallWords ws
 call_words (Of ∷ ws) h = record { dests = []; froms = map value_of ws; is = ap (λ vs. Of ∷ vs) (sym (slots_words ws h)) }
 call_words (Number n ∷ ws) h =
@@ -286,6 +306,7 @@ call_words (Number n ∷ ws) h =
     record { dests = n ∷ more.dests; froms = more.froms; is = ap (λ vs. Number n ∷ vs) more.is }
 call_words ws h = absurd (cc h)
 
+-- with the words of two lists the line of a call is whole
 words_call : (ds froms : List ℕ) → whole (OrOf ∷ Slots ∷ []) (numbers ds ++ Of ∷ numbers froms) ≡ true
 words_call [] froms = (words_slots froms).0
 words_call (d ∷ ds) froms = words_call ds froms
@@ -308,12 +329,14 @@ three a b c h = (both-left a (b && c) h, both-left b c (both-right a (b && c) h)
 last_of : (a b c : Bool) → (a && (b && c)) ≡ true → c ≡ true
 last_of a b c h = both-right b c (both-right a (b && c) h)
 
+-- the offset and the length of bits that stay within a word
 range_bounds : (o l : ℕ) → (nat_le o 63 && (has (FromOne (64 - o)) l && true)) ≡ true → (o ≤ 63) × (1 ≤ l) × (l ≤ 64 - o)
 range_bounds o l h =
     let told = three (nat_le o 63) (has (FromOne (64 - o)) l) true h in
     let long = from_one_told (64 - o) l told.1 in
     (upto_told 63 o told.0, long.0, long.1)
 
+-- a whole line spells the instruction of its key and words
 pub spells : (k : Key) (ws : List Word) → whole (fields k) ws ≡ true → AreShort ws → IsSpelledBy k ws
 spells key.Const (Number d ∷ Number c ∷ []) h s = record { instr = Const d c; is = refl; key = refl; words = refl; bounded = s.1.0 }
 spells key.Copy (Number d ∷ Number a ∷ []) h s = record { instr = Copy d a; is = refl; key = refl; words = refl; bounded = tt }
@@ -377,6 +400,7 @@ spells key.Call (Number f ∷ ws) h s =
 spells key.Return ws h s = record { instr = Return (map value_of ws); is = refl; key = refl; words = slots_words ws h; bounded = tt }
 spells k ws h s = absurd (cc h)
 
+-- the instruction that short words spell can stand in a text
 pub spelled_fit : (k : Key) (ws : List Word) (s : IsSpelledBy k ws) → AreShort ws → IsFit s.instr
 spelled_fit k ws s short = record { bounded = s.bounded; short = subst AreShort (sym s.words) short }
 
@@ -388,9 +412,11 @@ pub record IsGoodLine (l : Line) : Type 0 where
   pub rest : l.rest ≡ behind (fields l.key) l.words
   pub short : AreShort l.words
 
+-- behind its key a line is good
 pub first_good : (k : Key) → IsGoodLine (first_line k)
 first_good k = record { fit = refl; rest = refl; short = tt }
 
+-- one word more, in the next field, keeps a line good
 pub word_follows : (l : Line) (w : Word) → IsGoodLine l → may_be (next_field l.rest) w ≡ true → IsShort w → IsGoodLine (after_word l w)
 word_follows l w g may short = record {
   fit = fits-push (fields l.key) l.words w g.fit (subst (λ fs. may_be (next_field fs) w ≡ true) g.rest may);
@@ -410,9 +436,11 @@ pub record Completes (l : Line) : Type 0 where
   pub short : AreShort more
   pub spelled : IsSpelledBy l.key (l.words ++ more)
 
+-- some word may stand in each field to come of a good line
 pub ones_to_come : (l : Line) → IsGoodLine l → HaveOne l.rest
 ones_to_come l g = subst HaveOne (sym g.rest) (ones_behind (fields l.key) l.words (table_ones l.key) g.fit)
 
+-- every good line can be completed
 pub completes : (l : Line) → IsGoodLine l → Completes l
 completes l g =
     let more : List Word = finish l.rest in
@@ -426,6 +454,7 @@ pub record IsNext (f : Field) : Type 0 where
   pub may : may_be f word ≡ true
   pub short : IsShort word
 
+-- where a word may follow, this one may
 pub next_word : (fs : List Field) → HaveOne fs → is_open (next_field fs) ≡ true → IsNext (next_field fs)
 next_word [] h e = absurd (cc e)
 next_word (f ∷ fs) h e = record { word = some_word f; may = some_may f h.0; short = some_short f }
@@ -447,6 +476,7 @@ pub record Reads (k : Key) (j : Instr) : Type 0 where
 reads_alu : (op : AluOp) (n d a b : ℕ) → IsBounded (Alu op n d a b) → Reads key.Alu (Alu op n d a b)
 reads_alu op n d a b h = record { key = refl; whole = both (has (FromOne 64) n) true (told_from_one 64 n h.0 h.1) refl; is = rw (low n (omega (arith, h.1))) refl }
 
+-- an offset and a length that stay within a word stand in their fields
 range_whole : (o l : ℕ) → 1 ≤ l → o ≤ 63 → l ≤ 64 - o → (nat_le o 63 && (has (FromOne (64 - o)) l && true)) ≡ true
 range_whole o l one le fits = both (nat_le o 63) (has (FromOne (64 - o)) l && true) (told_upto 63 o le) (both (has (FromOne (64 - o)) l) true (told_from_one (64 - o) l one fits) refl)
 
@@ -464,6 +494,7 @@ reads_put d a o l h = record {
   is = rw (low o (omega (arith, h.1)), low l (omega (arith, h.1))) refl;
 }
 
+-- an offset and a width stand in their fields
 word_whole : (offset width : ℕ) → offset ≤ 511 → IsWidth width → (nat_le offset 511 && (has Width width && true)) ≡ true
 word_whole offset width le wide = both (nat_le offset 511) (has Width width && true) (told_upto 511 offset le) (both (has Width width) true (told_width width wide) refl)
 
@@ -480,6 +511,7 @@ reads_place d size align h = record {
   is = refl;
 }
 
+-- with the words of arms the line of a switch is whole
 pairs_whole : (arms : List SwitchArm) → whole (Pairs ∷ []) (pairs arms) ≡ true
 pairs_whole [] = refl
 pairs_whole (arm ∷ arms) = pairs_whole arms
@@ -509,6 +541,7 @@ key_for (Switch a other arms) = key.Switch
 key_for (Call f ds froms) = key.Call
 key_for (Return froms) = key.Return
 
+-- every instruction within its bounds is read from its words
 pub reads : (j : Instr) → IsBounded j → Reads (key_for j) j
 reads (Const d c) h = record { key = refl; whole = refl; is = refl }
 reads (Copy d a) h = record { key = refl; whole = refl; is = refl }

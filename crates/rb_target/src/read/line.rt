@@ -326,9 +326,10 @@ fn lists_in(alloc: Global, words: &[Word]) -> Result<Lists, AllocError>
 fn instruction_of(alloc: Global, key: Key, words: &[Word]) -> Result<Instr, AllocError>
     ensures { IfOk result (λ i. i ≡ spec.instruction_of key words.now) }
 {
+    let (first, second) = (slot_at(words, 0), slot_at(words, 1));
     Ok(match key {
-        Key::Const => Instr::Const(slot_at(words, 0), number_at(words, 1)),
-        Key::Copy => Instr::Copy(slot_at(words, 0), slot_at(words, 1)),
+        Key::Const => Instr::Const(first, number_at(words, 1)),
+        Key::Copy => Instr::Copy(first, second),
         Key::Alu => Instr::Alu(
             op_at(words, 0),
             byte_at(words, 1),
@@ -336,31 +337,22 @@ fn instruction_of(alloc: Global, key: Key, words: &[Word]) -> Result<Instr, Allo
             slot_at(words, 3),
             slot_at(words, 4),
         ),
-        Key::Take => {
-            let (dest, from) = (slot_at(words, 0), slot_at(words, 1));
-            Instr::Take(dest, from, byte_at(words, 2), byte_at(words, 3))
-        }
-        Key::Put => {
-            let (dest, from) = (slot_at(words, 0), slot_at(words, 1));
-            Instr::Put(dest, from, byte_at(words, 2), byte_at(words, 3))
-        }
-        Key::Load => {
-            let (dest, base) = (slot_at(words, 0), slot_at(words, 1));
-            Instr::Load(dest, base, number_at(words, 2), byte_at(words, 3))
-        }
+        Key::Take => Instr::Take(first, second, byte_at(words, 2), byte_at(words, 3)),
+        Key::Put => Instr::Put(first, second, byte_at(words, 2), byte_at(words, 3)),
+        Key::Load => Instr::Load(first, second, number_at(words, 2), byte_at(words, 3)),
         Key::Store => {
-            let (base, from) = (slot_at(words, 0), slot_at(words, 3));
-            Instr::Store(base, number_at(words, 1), byte_at(words, 2), from)
+            let from = slot_at(words, 3);
+            Instr::Store(first, number_at(words, 1), byte_at(words, 2), from)
         }
-        Key::Place => Instr::Place(slot_at(words, 0), number_at(words, 1), number_at(words, 2)),
-        Key::Jump => Instr::Jump(slot_at(words, 0)),
+        Key::Place => Instr::Place(first, number_at(words, 1), number_at(words, 2)),
+        Key::Jump => Instr::Jump(first),
         Key::Switch => {
             let arms = arms_in(alloc, words_from(words, 2))?;
-            Instr::Switch(slot_at(words, 0), target_at(words, 1), arms)
+            Instr::Switch(first, target_at(words, 1), arms)
         }
         Key::Call => {
             let Lists { dests, froms, .. } = lists_in(alloc, words_from(words, 1))?;
-            Instr::Call(slot_at(words, 0), dests, froms)
+            Instr::Call(first, dests, froms)
         }
         Key::Return => Instr::Return(slots_in(alloc, words)?),
     })
