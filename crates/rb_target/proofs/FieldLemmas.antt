@@ -15,7 +15,7 @@ use Rattle.rb_core.proofs.Decimals.{numeral_spelled, numeral-decimal, value-deci
 use Rattle.rb_target.specs.Text.{word_text, op_text}
 use Rattle.rb_target.specs.Spelled.{IsShort}
 use Rattle.rb_target.specs.Reading.{is_gap}
-use Rattle.rb_target.specs.Fields.{number_of, has, leads, is_open, may_be, ops, op_of, op_word, named_word, numbered_word, word_in, named_front, numbered_front, is_word_front, key_bytes, keys, key_of}
+use Rattle.rb_target.specs.Fields.{number_of, has, leads, is_open, ops, op_of, op_word, named_word, numbered_word, word_in, named_front, numbered_front, is_word_front, key_bytes, keys, key_of}
 use Rattle.rb_target.specs.declared.instr.AluOp.{AluOp}
 use Rattle.rb_target.specs.declared.instr.AluOp.TheVariants.{Add, Sub, Mul, And, Or, Xor, Eq, Lt}
 use Rattle.rb_target.specs.declared.word.Word.{Word}
@@ -23,6 +23,15 @@ use Rattle.rb_target.specs.declared.word.Word.TheVariants.{Number, Op, Dash, Of}
 use Rattle.rb_target.specs.declared.read.spot.Key.{Key}
 use Rattle.rb_target.specs.declared.read.spot.Field.{Field}
 use Rattle.rb_target.specs.declared.read.spot.Field.TheVariants.{Upto, FromOne, Width, Align, Range, Operation, OrDash, OrOf, Nothing}
+
+-- whether a word may stand in a field
+abbrev pub may_be : Field → Word → Bool
+may_be Nothing w = false
+may_be f (Number n) = has f n
+may_be Operation (Op op) = true
+may_be OrDash Dash = true
+may_be OrOf Of = true
+may_be f w = false
 
 pub in_open : (f : Field) (w : Word) → may_be f w ≡ true → is_open f ≡ true
 in_open Nothing w h = absurd (cc h)

@@ -50,15 +50,6 @@ abbrev pub is_open : Field → Bool
 is_open Nothing = false
 is_open f = true
 
--- whether a word may stand in a field
-abbrev pub may_be : Field → Word → Bool
-may_be Nothing w = false
-may_be f (Number n) = has f n
-may_be Operation (Op op) = true
-may_be OrDash Dash = true
-may_be OrOf Of = true
-may_be f w = false
-
 -- every operation
 abbrev pub ops : List AluOp
 ops = Add ∷ Sub ∷ Mul ∷ And ∷ Or ∷ Xor ∷ Eq ∷ Lt ∷ []
