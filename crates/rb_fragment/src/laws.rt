@@ -10,7 +10,10 @@ ghost use Rattle.rb_fragment.specs.Adding.{Adds};
 ghost use Rattle.rb_fragment.specs.Functions.{AllCompile, RunsDo};
 ghost use Rattle.rb_fragment.specs.Laws.{CallsApply, PartsThenApply};
 
-/// Code that is appended to appended code is appended in all; and to append none is to append, too.
+/// Additions compose, for any plan. `Adds plan a b` says that sheet `b` is sheet `a` with new slots,
+/// each of them written, and fitting instructions appended; there may be none of either. A sheet to
+/// which nothing is appended is such an addition to itself; and where `b` adds to `a` and `c` adds
+/// to `b`, then `c` adds to `a`. So code made of any number of parts is an addition in all.
 pub fn additions_compose()
     ensures none { (plan : Plan) (a : Sheet) → Adds plan a a }
     ensures two { (plan : Plan) (a b c : Sheet) → Adds plan a b → Adds plan b c → Adds plan a c }

@@ -28,7 +28,9 @@ pub fn number_type(alloc: Global, tables: &Tables, tree: &TyTree) -> Result<Ty, 
     }
 }
 
-// The types of fields, in their order.
+// The types of a constructor's fields, whose trees are `trees`, in their order: none where there
+// are no fields. A data type is given by its number in `tables`. The first name, from left to
+// right, that stands for no type there is `Unknown`.
 fn number_fields(alloc: Global, tables: &Tables, trees: &[TyTree]) -> Result<Seq<Ty>, NameFault>
     ensures { Answers result (all_of (map (numbered_type tables.now) trees.now)) }
 {

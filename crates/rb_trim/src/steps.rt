@@ -43,7 +43,9 @@ fn is_loaded(facts: &[Fact], base: usize, offset: u64, width: u8) -> bool
     false
 }
 
-// Whether a slot is not read behind an instruction.
+// Whether `slot` is known, by the hints, not to be read behind instruction `pc`: no later
+// instruction that a run comes to reads it. Where this is false the slot may be read or not. It is
+// false, too, where `pc` is the greatest number that there is.
 fn is_unread(hints: &Hints, pc: usize, slot: usize) -> bool
     ensures { IsTrue result → IsUnread hints.now (pc + 1) slot }
 {
