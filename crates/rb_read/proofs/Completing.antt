@@ -9,7 +9,7 @@ use Rattle.rb_syntax.specs.declared.token.Token.{Token}
 use Rattle.rb_syntax.specs.declared.token.Token.TheVariants as token
 use Rattle.rb_read.specs.declared.starting.Form.{Form}
 use Rattle.rb_read.specs.declared.starting.Form.TheVariants as form
-use Rattle.rb_read.specs.Starting.{is_symbol, is_word, form_of}
+use Rattle.rb_read.specs.inner.Starting.{is_symbol, is_word, form_of}
 use Rattle.rb_read.proofs.Open.{Kind, the, the_word, a_lower, an_upper, a_number, a_width, a_field, a_type, a_con, a_param, expr, arguments, fields, pat, clause, into_field, a_range, path_end, part_kind, part, lay_item, loc_step, prov, below, tree, arm, other, layout_rest, derived, item, Open, one, maybe, many, first, next, Step, ahead_of, if_so, as_expr, as_pattern, begins, or_else, step, is_done, start}
 use Rattle.rb_read.proofs.Steps.{goes_to, steps, steps-append}
 

@@ -4,8 +4,8 @@ use Rattle.std.proofs.lemmas.List.{append-nil}
 use Rattle.rb_syntax.specs.declared.token.Token.{Token}
 use Rattle.rb_read.specs.declared.stop.Stop.{Stop}
 use Rattle.rb_read.specs.declared.stop.Stop.TheVariants as stop
-use Rattle.rb_read.specs.Combining.{Fault, stuck, deep, Reading, Reader, at_front, with_all, many_of}
-use Rattle.rb_read.specs.Gives.{Fails}
+use Rattle.rb_read.specs.inner.Combining.{Fault, stuck, deep, Reading, Reader, at_front, with_all, many_of}
+use Rattle.rb_read.specs.inner.Gives.{Fails}
 use Rattle.rb_read.proofs.Loops.{with_all-more}
 
 module _ {A : Type 0} (test : Token → Bool) (r : Reader A) (front : List A) (count i : ℕ) (ts : List Token) (all : Reading (List A))

@@ -6,9 +6,10 @@ use Rattle.rb_syntax.specs.declared.tree.ItemTree.{ItemTree}
 use Rattle.rb_syntax.specs.declared.tree.FileTree.{FileTree}
 use Rattle.rb_syntax.specs.Written.{Written, token, number, node, flaw, tokens_in, AreWithin, HasNode, each}
 use Rattle.rb_syntax.specs.Spelling.{item_written, file_written, IsTreeOf}
-use Rattle.rb_read.specs.Combining.{Fault, stuck, deep, Reading, Reader}
+use Rattle.rb_read.specs.inner.Combining.{Fault, stuck, deep, Reading, Reader}
 use Rattle.rb_read.proofs.Open.{Open, step, is_done, End, whole, stopped, too_deep, end_of_tokens, go_on, run, start}
-use Rattle.rb_read.specs.Exact.{IsSpelled, IsPrefix, StopsAt, IsTooDeepAt, IsNowhereTooDeep, IsFirstTooDeep, ended, whole_file}
+use Rattle.rb_read.specs.Exact.{IsSpelled, StopsAt, IsTooDeepAt, IsNowhereTooDeep, IsFirstTooDeep}
+use Rattle.rb_read.specs.inner.Ending.{IsPrefix, ended, whole_file}
 use Rattle.rb_read.proofs.Forms.{goes, Spells, Took, over, Again, fits, exceeds, IsForm}
 use Rattle.rb_read.proofs.Steps.{goes_to, steps, steps-append, SomeWhole, some-whole, not_whole, Stops, stops, Deepens, deepens}
 use Rattle.rb_read.proofs.Completing.{start-fits, completion, Ends, completes, steps-fits}

@@ -20,13 +20,13 @@ use Rattle.rb_syntax.specs.Spelling.{fields_written, op_word, ty_written, lower_
 use Rattle.rb_syntax.proofs.SpellingLemmas.{expr-Num, expr-Var, expr-Call, expr-Build, expr-Binary, expr-To, expr-Let, expr-Match, clause-is}
 use Rattle.rb_read.specs.declared.starting.Form.{Form}
 use Rattle.rb_read.specs.declared.starting.Form.TheVariants as form
-use Rattle.rb_read.specs.Starting.{is_symbol, form_of}
-use Rattle.rb_read.specs.Combining.{Reader, into, nothing, pair, expect, expect_word, optional, in_parens, some_closed, any_closed, beyond}
+use Rattle.rb_read.specs.inner.Starting.{is_symbol, form_of}
+use Rattle.rb_read.specs.inner.Combining.{Reader, into, nothing, pair, expect, expect_word, optional, in_parens, some_closed, any_closed, beyond}
 use Rattle.rb_read.proofs.Open as open_at
 use Rattle.rb_read.proofs.Open.{Open, one, maybe, next, the, the_word, a_lower, a_width, a_type, fields, begins, as_expr, ahead_of, if_so}
-use Rattle.rb_read.specs.Tokens.{lower_name, width}
-use Rattle.rb_read.specs.Reading.{named, called, type_tree, pattern, begins_expression, is_form, expression_one, expression, binding_of, clause_of, conversion_of, matching_of, operation_of}
-use Rattle.rb_read.specs.Reading as reading
+use Rattle.rb_read.specs.inner.Tokens.{lower_name, width}
+use Rattle.rb_read.specs.inner.Reading.{named, called, type_tree, pattern, begins_expression, is_form, expression_one, expression, binding_of, clause_of, conversion_of, matching_of, operation_of}
+use Rattle.rb_read.specs.inner.Reading as reading
 use Rattle.rb_read.proofs.Forms.{IsRight, Again, Clear, IsForm}
 use Rattle.rb_read.proofs.FormLaws.{nothing-form, pair-form, first-strict, iso-form, into-strict, alias-form}
 use Rattle.rb_read.proofs.NodeForms.{AtToken, IsPart, part-form, none-at, node-at, node-again, IsDeep, IsDeepBegun, zero-form}

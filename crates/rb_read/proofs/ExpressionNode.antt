@@ -5,8 +5,8 @@ use Rattle.rb_syntax.specs.declared.token.Token.TheVariants as token
 use Rattle.rb_syntax.specs.declared.tree.PatTree.{PatTree}
 use Rattle.rb_syntax.specs.declared.tree.ExprTree.{ExprTree}
 use Rattle.rb_syntax.specs.Tokens.{tokens}
-use Rattle.rb_read.specs.Combining.{Reader, into}
-use Rattle.rb_read.specs.Reading.{called, arguments, expression_from, expression_one}
+use Rattle.rb_read.specs.inner.Combining.{Reader, into}
+use Rattle.rb_read.specs.inner.Reading.{called, arguments, expression_from, expression_one}
 use Rattle.rb_read.proofs.Loops.{tokens-length, tokens-rest}
 
 pub lower-node : (inside : Reader PatTree) (inner : Reader ExprTree) (total at : ℕ) (ps : List Placed) (p : Placed) (name : List ℕ)

@@ -3,9 +3,10 @@ use Rattle.std.proofs.Common.{◌≡◌, ℕ, ◌-◌, List, length, Result, Ok,
 use Rattle.rb_syntax.specs.declared.token.Placed.{Placed}
 use Rattle.rb_syntax.specs.declared.tree.FileTree.{FileTree}
 use Rattle.rb_syntax.specs.Tokens.{tokens}
-use Rattle.rb_read.specs.Combining.{Fault, stuck, deep}
-use Rattle.rb_read.specs.Reading.{file_items}
-use Rattle.rb_read.specs.Exact.{StopsAt, IsFirstTooDeep, IsNowhereTooDeep, whole_file}
+use Rattle.rb_read.specs.inner.Combining.{Fault, stuck, deep}
+use Rattle.rb_read.specs.inner.Reading.{file_items}
+use Rattle.rb_read.specs.Exact.{StopsAt, IsFirstTooDeep, IsNowhereTooDeep}
+use Rattle.rb_read.specs.inner.Ending.{whole_file}
 use Rattle.rb_read.specs.Files.{IsFile}
 use Rattle.rb_read.proofs.FileReading.{file_of, read-ok, read-stuck, read-deep}
 use Rattle.rb_read.proofs.Loops.{tokens-length}

@@ -4,8 +4,8 @@ use Rattle.rb_syntax.specs.declared.token.Token.{Token}
 use Rattle.rb_syntax.specs.declared.tree.FileTree.{FileTree}
 use Rattle.rb_syntax.specs.Written.{AreWithin}
 use Rattle.rb_syntax.specs.Spelling.{file_written, IsTreeOf}
-use Rattle.rb_read.specs.Combining.{Fault, stuck, deep}
-use Rattle.rb_read.specs.Reading.{begins_item, file_items}
+use Rattle.rb_read.specs.inner.Combining.{Fault, stuck, deep}
+use Rattle.rb_read.specs.inner.Reading.{begins_item, file_items}
 use Rattle.rb_read.specs.Exact.{StopsAt, IsNowhereTooDeep, IsFirstTooDeep}
 use Rattle.rb_read.proofs.ItemForms.{file-form}
 use Rattle.rb_read.proofs.Exact as Exact

@@ -3,7 +3,7 @@ use Rattle.std.proofs.Common.{◌≡◌, ℕ, suc, ◌<◌, List, [], ◌∷◌,
 use Rattle.std.proofs.lemmas.Grind.{common_steps}
 use Rattle.rb_syntax.specs.declared.token.Token.{Token}
 use Rattle.rb_syntax.specs.Written.{Written, tokens_in, Writing}
-use Rattle.rb_read.specs.Combining.{stuck, deep, Reading, Reader, ◌>>=◌, pair, into, nothing}
+use Rattle.rb_read.specs.inner.Combining.{stuck, deep, Reading, Reader, ◌>>=◌, pair, into, nothing}
 use Rattle.rb_read.proofs.Open.{Kind, Open, one, Step, ahead_of, if_so, begins, step, is_done, go_on, run}
 use Rattle.rb_read.proofs.Forms.{goes, Spells, IsRight, Again, fits, exceeds, Clear, IsForm}
 

@@ -12,13 +12,13 @@ use Rattle.rb_syntax.specs.declared.tree.ItemTree.TheVariants as top
 use Rattle.rb_syntax.specs.Written.{Written, Writing, token, number, tokens_in, each, some_with, any_with}
 use Rattle.rb_syntax.specs.Spelling as spelling
 use Rattle.rb_syntax.specs.Spelling.{num, reserved, upper_written, lower_written, ty_written, con_written, param_written, width_written, item_written}
-use Rattle.rb_read.specs.Combining.{Reader, pair, into, nothing, expect, some_closed, any_closed}
+use Rattle.rb_read.specs.inner.Combining.{Reader, pair, into, nothing, expect, some_closed, any_closed}
 use Rattle.rb_read.proofs.Open.{Open, one, many, first, next, the, a_number, a_lower, an_upper, a_type, a_con, a_param, derived, layout_rest, item, begins, start}
 use Rattle.rb_read.proofs.Open as open_at
-use Rattle.rb_read.specs.Tokens as tokens
-use Rattle.rb_read.specs.Tokens.{lower_name, upper_name}
-use Rattle.rb_read.specs.Reading.{LayoutRest, laid_out, auto_from, auto_word, layout_of, con_tree, param_tree, type_tree, expression, layout_tree, begins_item, file_items, fun_of, laid_out_of, type_of}
-use Rattle.rb_read.specs.Reading as reading
+use Rattle.rb_read.specs.inner.Tokens as tokens
+use Rattle.rb_read.specs.inner.Tokens.{lower_name, upper_name}
+use Rattle.rb_read.specs.inner.Reading.{LayoutRest, laid_out, auto_from, auto_word, layout_of, con_tree, param_tree, type_tree, expression, layout_tree, begins_item, file_items, fun_of, laid_out_of, type_of}
+use Rattle.rb_read.specs.inner.Reading as reading
 use Rattle.rb_read.proofs.Forms.{IsRight, Again, Clear, IsForm}
 use Rattle.rb_read.proofs.FormLaws.{nat_lt-zero, nothing-form, pair-form}
 use Rattle.rb_read.proofs.NodeForms.{AtToken, IsPart, part-form, none-at, node-at, node-at-by, node-again, AreMarks, AllAre, is_deeper}

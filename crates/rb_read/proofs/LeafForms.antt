@@ -15,13 +15,13 @@ use Rattle.rb_syntax.specs.declared.token.Token.TheVariants as tok
 use Rattle.rb_syntax.specs.Written.{Written, Writing, token, node, flaw, tokens_in, each, any_with}
 use Rattle.rb_syntax.specs.Spelling.{num, reserved, range_written, field_written, kind_written, part_written, lay_item_written}
 use Rattle.rb_syntax.proofs.LayoutSpelling.{item-Word, item-Inline, part-is, kind-Const, kind-Whole, kind-Slice, kind-Word, kind-Pointer}
-use Rattle.rb_read.specs.Starting.{is_symbol}
-use Rattle.rb_read.specs.Combining.{Reader, Reading, ◌>>=◌, pair, into, expect, optional, any_closed}
+use Rattle.rb_read.specs.inner.Starting.{is_symbol}
+use Rattle.rb_read.specs.inner.Combining.{Reader, Reading, ◌>>=◌, pair, into, expect, optional, any_closed}
 use Rattle.rb_read.proofs.Open.{Open, one, maybe, many, first, the, a_number, a_field, a_range, into_field, begins, if_so, ahead_of}
 use Rattle.rb_read.proofs.Open as open_at
-use Rattle.rb_read.specs.Tokens.{number, field}
-use Rattle.rb_read.specs.Reading.{PathEnd, sliced, numbered, ends_path, range_rest, range, field_in, more_fields, path, path_end_from, held, part_kind_from, part_kind, part, item_from, item_one, no_pointer, pointer, lay_item_tree, held_of, pointer_of, word_of}
-use Rattle.rb_read.specs.Reading as reading
+use Rattle.rb_read.specs.inner.Tokens.{number, field}
+use Rattle.rb_read.specs.inner.Reading.{PathEnd, sliced, numbered, ends_path, range_rest, range, field_in, more_fields, path, path_end_from, held, part_kind_from, part_kind, part, item_from, item_one, no_pointer, pointer, lay_item_tree, held_of, pointer_of, word_of}
+use Rattle.rb_read.specs.inner.Reading as reading
 use Rattle.rb_read.proofs.Forms.{IsRight, Again, Clear, IsForm}
 use Rattle.rb_read.proofs.FormLaws.{nat_lt-zero, all-clear, pair-form, first-strict, iso-form, bars-form, into-strict, alias-form}
 use Rattle.rb_read.proofs.NodeForms.{AtToken, IsPart, part-form, none-at, deep-at, node-at, node-again, deep-again}

@@ -6,8 +6,8 @@ use Rattle.rb_syntax.specs.declared.token.Token.{Token}
 use Rattle.rb_syntax.specs.declared.token.Token.TheVariants as tok
 use Rattle.rb_syntax.specs.Written.{Written, token, tokens_in, Writing, each, each_behind, some_with, any_with}
 use Rattle.rb_syntax.specs.Spelling.{comma, fields_written}
-use Rattle.rb_read.specs.Starting.{is_symbol}
-use Rattle.rb_read.specs.Combining.{stuck, deep, Reading, Reader, ◌>>=◌, into, passing, expect, at_front, begins_with, with_all, behind, some_of, some_closed, any_closed, in_parens, optional, many_of, each_of}
+use Rattle.rb_read.specs.inner.Starting.{is_symbol}
+use Rattle.rb_read.specs.inner.Combining.{stuck, deep, Reading, Reader, ◌>>=◌, into, passing, expect, at_front, begins_with, with_all, behind, some_of, some_closed, any_closed, in_parens, optional, many_of, each_of}
 use Rattle.rb_read.proofs.Open.{Kind, fields, Open, one, maybe, many, first, next, Step, ahead_of, if_so, or_else, begins, step, is_done, stopped, end_of_tokens, go_on, run}
 use Rattle.rb_read.proofs.Forms.{goes, Spells, Took, IsRight, Again, fits, exceeds, Clear, IsForm}
 use Rattle.rb_read.proofs.FormLaws.{ok-bind, ok-same, ok-if, goes-bind, goes-bind-ok, nat_lt-zero, IsStrict, into-again, clear-more, all-clear}

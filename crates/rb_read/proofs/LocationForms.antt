@@ -6,13 +6,13 @@ use Rattle.rb_syntax.specs.declared.token.Token.{Token}
 use Rattle.rb_syntax.specs.declared.token.Token.TheVariants as tok
 use Rattle.rb_syntax.specs.Written.{Writing, token, each}
 use Rattle.rb_syntax.specs.Spelling.{num, range_written, field_written, loc_step_written, loc_written}
-use Rattle.rb_read.specs.Starting.{is_symbol}
-use Rattle.rb_read.specs.Combining.{pair, expect, each_of}
+use Rattle.rb_read.specs.inner.Starting.{is_symbol}
+use Rattle.rb_read.specs.inner.Combining.{pair, expect, each_of}
 use Rattle.rb_read.proofs.Open.{Open, one, maybe, many, the, a_number, a_field, a_range, into_field, begins, if_so, ahead_of}
 use Rattle.rb_read.proofs.Open as open_at
-use Rattle.rb_read.specs.Tokens.{number}
-use Rattle.rb_read.specs.Reading.{range_rest, range, field_in, more_fields, path, location, location_of, range_of, step_of}
-use Rattle.rb_read.specs.Reading as reading
+use Rattle.rb_read.specs.inner.Tokens.{number}
+use Rattle.rb_read.specs.inner.Reading.{range_rest, range, field_in, more_fields, path, location, location_of, range_of, step_of}
+use Rattle.rb_read.specs.inner.Reading as reading
 use Rattle.rb_read.proofs.Forms.{IsForm}
 use Rattle.rb_read.proofs.FormLaws.{first-strict, iso-form, into-strict, alias-form}
 use Rattle.rb_read.proofs.NodeForms.{IsPart}

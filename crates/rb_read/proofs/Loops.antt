@@ -7,8 +7,8 @@ use Rattle.rb_syntax.specs.declared.token.Symbol.{Symbol}
 use Rattle.rb_syntax.specs.Tokens.{tokens}
 use Rattle.rb_read.specs.declared.stop.Stop.{Stop}
 use Rattle.rb_read.specs.declared.stop.Stop.TheVariants as stop
-use Rattle.rb_read.specs.Combining.{Fault, stuck, deep, Reading, Reader, ◌>>=◌, begins_with, expect, at_front, with_all, behind, some_of, beyond}
-use Rattle.rb_read.specs.Gives.{Fails}
+use Rattle.rb_read.specs.inner.Combining.{Fault, stuck, deep, Reading, Reader, ◌>>=◌, begins_with, expect, at_front, with_all, behind, some_of, beyond}
+use Rattle.rb_read.specs.inner.Gives.{Fails}
 
 -- the tokens behind the first
 pub tokens-rest : (ps : List Placed) → tokens (take (length ps - 1) (drop 1 ps)) ≡ drop 1 (tokens ps)

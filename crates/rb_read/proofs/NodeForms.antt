@@ -19,7 +19,7 @@ use Rattle.std.proofs.Common.{◌≡◌, ℕ, suc, ◌-◌, ◌≤◌, List, [],
 use Rattle.std.proofs.lemmas.Grind.{common_steps}
 use Rattle.rb_syntax.specs.declared.token.Token.{Token}
 use Rattle.rb_syntax.specs.Written.{Written, token, number, node, flaw, tokens_in, Writing}
-use Rattle.rb_read.specs.Combining.{stuck, deep, Reader, into, beyond}
+use Rattle.rb_read.specs.inner.Combining.{stuck, deep, Reader, into, beyond}
 use Rattle.rb_read.proofs.Open.{Kind, Open, one, Step, ahead_of, begins, step, is_done, end_of_tokens, go_on, run}
 use Rattle.rb_read.proofs.Forms.{goes, Spells, Took, IsRight, over, Again, fits, exceeds, Clear, IsForm}
 use Rattle.rb_read.proofs.FormLaws.{ok-bind, ok-same, goes-bind, IsStrict, into-again, ahead-ahead}

@@ -9,8 +9,9 @@ use Rattle.rb_syntax.specs.declared.tree.FileTree.{FileTree}
 use Rattle.rb_read.specs.declared.fault.ReadFault.{ReadFault}
 use Rattle.rb_read.specs.declared.fault.ReadFault.TheVariants.{TooDeep, Syntax, Limit, Memory}
 use Rattle.rb_read.specs.declared.limits.Count.{Count}
-use Rattle.rb_read.specs.Combining.{Fault, stuck, deep}
-use Rattle.rb_read.specs.Exact.{IsSpelled, IsPrefix, StopsAt, IsFirstTooDeep, IsNowhereTooDeep}
+use Rattle.rb_read.specs.inner.Combining.{Fault, stuck, deep}
+use Rattle.rb_read.specs.Exact.{IsSpelled, StopsAt, IsFirstTooDeep, IsNowhereTooDeep}
+use Rattle.rb_read.specs.inner.Ending.{IsPrefix}
 use Rattle.rb_read.specs.Limits.{first_over}
 use Rattle.rb_read.specs.Files.{IsFile, IsAnswer, Answers}
 use Rattle.rb_read.proofs.FileReading.{file_of, read-ok, read-only, read-stuck, read-deep}

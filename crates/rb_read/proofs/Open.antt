@@ -9,7 +9,7 @@ use Rattle.rb_syntax.specs.declared.token.Token.TheVariants as token
 use Rattle.rb_syntax.specs.Spelling.{is_width}
 use Rattle.rb_read.specs.declared.starting.Form.{Form}
 use Rattle.rb_read.specs.declared.starting.Form.TheVariants as form
-use Rattle.rb_read.specs.Starting.{is_symbol, is_word, form_of}
+use Rattle.rb_read.specs.inner.Starting.{is_symbol, is_word, form_of}
 
 -- the parts of the grammar, nodes with their level
 pub data Kind : Type 0 where

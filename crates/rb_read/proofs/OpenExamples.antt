@@ -7,7 +7,7 @@ use Rattle.rb_syntax.specs.declared.token.Symbol.{Symbol}
 use Rattle.rb_syntax.specs.declared.token.Symbol.TheVariants.{Equals, Bar, OpenParen, CloseParen, Comma, Semicolon, OpenBrace, CloseBrace, Less, Greater, Colon, OpenBracket, CloseBracket, Dot, At, Arrow, FatArrow, Underscore}
 use Rattle.rb_syntax.specs.declared.token.Token.{Token}
 use Rattle.rb_syntax.specs.declared.token.Token.TheVariants as token
-use Rattle.rb_read.specs.Starting.{form_of}
+use Rattle.rb_read.specs.inner.Starting.{form_of}
 use Rattle.rb_read.proofs.Open.{as_pattern, begins, step, is_done, whole, stopped, too_deep, end_of_tokens, go_on, run, start}
 
 abbrev sym : Symbol → Token

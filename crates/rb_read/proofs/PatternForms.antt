@@ -12,10 +12,10 @@ use Rattle.rb_syntax.specs.Spelling.{Deep, at_level, fields_written, pat_written
 use Rattle.rb_syntax.proofs.SpellingLemmas.{pat-Wild, pat-Var, pat-Num, pat-Con}
 use Rattle.rb_syntax.proofs.LayoutSpelling.{below-Wild, below-Var, below-Num, below-Con}
 use Rattle.rb_syntax.proofs.PatternInduction.{induction}
-use Rattle.rb_read.specs.Combining.{Reader, into, nothing, in_parens, beyond}
+use Rattle.rb_read.specs.inner.Combining.{Reader, into, nothing, in_parens, beyond}
 use Rattle.rb_read.proofs.Open.{maybe, fields, pat, below, prov, begins, as_pattern}
-use Rattle.rb_read.specs.Reading.{named, begins_pattern, pattern_from, pattern_one, pattern, begins_below, below_from, below_one, is_upper, provenance_from, provenance_one, provenance}
-use Rattle.rb_read.specs.Reading as reading
+use Rattle.rb_read.specs.inner.Reading.{named, begins_pattern, pattern_from, pattern_one, pattern, begins_below, below_from, below_one, is_upper, provenance_from, provenance_one, provenance}
+use Rattle.rb_read.specs.inner.Reading as reading
 use Rattle.rb_read.proofs.Forms.{IsRight, Again, Clear, IsForm}
 use Rattle.rb_read.proofs.FormLaws.{nothing-form}
 use Rattle.rb_read.proofs.NodeForms.{AtToken, IsPart, part-form, none-at, node-at, node-again, IsDeep, IsDeepBegun, zero-form}

@@ -6,8 +6,8 @@ use Rattle.rb_syntax.specs.declared.token.Placed.{Placed}
 use Rattle.rb_syntax.specs.declared.token.Token.{Token}
 use Rattle.rb_syntax.specs.Tokens.{tokens}
 use Rattle.rb_read.specs.declared.stop.Stop.{Stop}
-use Rattle.rb_read.specs.Gives.{Gives}
-use Rattle.rb_read.specs.Reading.{lay_item_tree, item_one, pointed}
+use Rattle.rb_read.specs.inner.Gives.{Gives}
+use Rattle.rb_read.specs.inner.Reading.{lay_item_tree, item_one, pointed}
 
 pub item-one : (n : ℕ) (ts : List Token) → lay_item_tree n ts ≡ item_one (λ us. pointed n us) ts
 unfolding lay_item_tree pointed

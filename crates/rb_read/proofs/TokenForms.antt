@@ -10,10 +10,10 @@ use Rattle.rb_syntax.specs.declared.token.Token.{Token}
 use Rattle.rb_syntax.specs.declared.token.Token.TheVariants as tok
 use Rattle.rb_syntax.specs.Written.{Written, token, number, Writing, checked}
 use Rattle.rb_syntax.specs.Spelling.{is_width, num, uint_written, lower_written, upper_written}
-use Rattle.rb_read.specs.Starting.{symbol_number, word_number, is_symbol, is_word}
-use Rattle.rb_read.specs.Combining.{into, nothing, passing, expect, expect_word}
+use Rattle.rb_read.specs.inner.Starting.{symbol_number, word_number, is_symbol, is_word}
+use Rattle.rb_read.specs.inner.Combining.{into, nothing, passing, expect, expect_word}
 use Rattle.rb_read.proofs.Open.{Kind, the, the_word, a_lower, an_upper, a_number, a_width, a_field, if_so, begins}
-use Rattle.rb_read.specs.Tokens as tokens
+use Rattle.rb_read.specs.inner.Tokens as tokens
 use Rattle.rb_read.proofs.Forms.{IsRight}
 use Rattle.rb_read.proofs.FormLaws.{nat_lt-zero, nothing-form}
 use Rattle.rb_read.proofs.NodeForms.{IsPart, part-form, AtToken, none-at, node-at, node-again, if-at}

@@ -7,11 +7,11 @@ use Rattle.rb_syntax.specs.declared.tree.TyTree.{TyTree}
 use Rattle.rb_syntax.specs.declared.tree.TyTree.TheVariants as ty
 use Rattle.rb_syntax.specs.Written.{Written, Writing, token, number, tokens_in}
 use Rattle.rb_syntax.specs.Spelling.{is_width, ty_written, fields_written, con_written, param_written}
-use Rattle.rb_read.specs.Starting.{is_symbol}
-use Rattle.rb_read.specs.Combining.{Reading, Reader, ◌>>=◌, pair, into, nothing, expect, in_parens}
-use Rattle.rb_read.specs.Tokens.{lower_name}
+use Rattle.rb_read.specs.inner.Starting.{is_symbol}
+use Rattle.rb_read.specs.inner.Combining.{Reading, Reader, ◌>>=◌, pair, into, nothing, expect, in_parens}
+use Rattle.rb_read.specs.inner.Tokens.{lower_name}
 use Rattle.rb_read.proofs.Open.{Open, one, maybe, the, an_upper, fields, a_type, a_con, a_param, begins, ahead_of}
-use Rattle.rb_read.specs.Reading.{named, type_from, type_tree, con_tree, param_tree, parameter_of}
+use Rattle.rb_read.specs.inner.Reading.{named, type_from, type_tree, con_tree, param_tree, parameter_of}
 use Rattle.rb_read.proofs.Forms.{IsRight, Again, Clear, IsForm}
 use Rattle.rb_read.proofs.FormLaws.{nat_lt-zero, nothing-form, pair-form, first-strict, iso-form, into-strict, alias-form}
 use Rattle.rb_read.proofs.ListForms.{in_parens-form}

@@ -3,9 +3,9 @@
 ghost use Rattle.std.specs.Prelude.{◌≡◌, ℕ, ◌<◌, ◌^◌, Bool};
 ghost use Rattle.rb_syntax.specs.declared.token.Token.{Token};
 ghost use Rattle.rb_syntax.specs.Tokens.{tokens};
-ghost use Rattle.rb_read.specs.Combining as combining;
-ghost use Rattle.rb_read.specs.Combining.{Reader};
-ghost use Rattle.rb_read.specs.Gives.{Gives};
+ghost use Rattle.rb_read.specs.inner.Combining as combining;
+ghost use Rattle.rb_read.specs.inner.Combining.{Reader};
+ghost use Rattle.rb_read.specs.inner.Gives.{Gives};
 
 use crate::stop::Stop;
 use rb_core::seq::Seq;

@@ -4,9 +4,9 @@ ghost use Rattle.std.specs.Prelude.{◌≡◌, ◌<◌, ◌^◌};
 ghost use Rattle.rb_syntax.specs.declared.token.Symbol.TheVariants as symbols;
 ghost use Rattle.rb_syntax.specs.declared.tree.ExprTree.TheVariants as exprs;
 ghost use Rattle.rb_syntax.specs.Tokens.{tokens};
-ghost use Rattle.rb_read.specs.Combining as combining;
-ghost use Rattle.rb_read.specs.Reading as reading;
-ghost use Rattle.rb_read.specs.Gives.{Gives};
+ghost use Rattle.rb_read.specs.inner.Combining as combining;
+ghost use Rattle.rb_read.specs.inner.Reading as reading;
+ghost use Rattle.rb_read.specs.inner.Gives.{Gives};
 
 use crate::beyond::beyond;
 use crate::list::{read_any_closed, read_in_parens, read_some_closed};
@@ -52,7 +52,7 @@ fn is_form(form: Form) -> bool
 /// `Stuck` at the first token at which no expression goes on, or `Deep` at the first that begins a node
 /// beyond the levels, whichever stands first; or want of memory.
 #[cycle(expressions)]
-#[tactic(auto, unfolding(crate::specs::Reading::expression))]
+#[tactic(auto, unfolding(crate::specs::inner::Reading::expression))]
 pub fn read_expression<'a>(
     alloc: Global,
     levels: u32,
@@ -85,7 +85,7 @@ fn read_boxed<'a>(
 
 // An expression whose parts have so many levels left.
 #[cycle(expressions)]
-#[tactic(auto, unfolding(crate::specs::Reading::expression_one, crate::specs::Reading::expression_from))]
+#[tactic(auto, unfolding(crate::specs::inner::Reading::expression_one, crate::specs::inner::Reading::expression_from))]
 fn read_expression_node<'a>(
     alloc: Global,
     levels: u32,
@@ -114,7 +114,7 @@ fn read_expression_node<'a>(
 
 // A variable or a call of a function, behind its name.
 #[cycle(expressions)]
-#[tactic(auto, unfolding(crate::specs::Reading::arguments, crate::specs::Combining::optional, crate::specs::Combining::pair, crate::specs::Combining::into))]
+#[tactic(auto, unfolding(crate::specs::inner::Reading::arguments, crate::specs::inner::Combining::optional, crate::specs::inner::Combining::pair, crate::specs::inner::Combining::into))]
 fn read_called<'a>(
     alloc: Global,
     levels: u32,
@@ -164,7 +164,7 @@ fn read_arguments<'a>(
 
 // A constructor with its fields, behind its name.
 #[cycle(expressions)]
-#[tactic(auto, unfolding(crate::specs::Combining::into))]
+#[tactic(auto, unfolding(crate::specs::inner::Combining::into))]
 fn read_built<'a>(
     alloc: Global,
     levels: u32,
@@ -207,7 +207,7 @@ fn read_fields<'a>(
 
 // An expression behind the reserved word that it begins with, by the form of that word.
 #[cycle(expressions)]
-#[tactic(auto, unfolding(crate::specs::Reading::from_form))]
+#[tactic(auto, unfolding(crate::specs::inner::Reading::from_form))]
 fn read_form<'a>(
     alloc: Global,
     levels: u32,
@@ -232,7 +232,7 @@ fn read_form<'a>(
 
 // An operation behind its word: `(a, b)` in `add(a, b)`.
 #[cycle(expressions)]
-#[tactic(auto, unfolding(crate::specs::Reading::operation, crate::specs::Combining::pair, crate::specs::Combining::into))]
+#[tactic(auto, unfolding(crate::specs::inner::Reading::operation, crate::specs::inner::Combining::pair, crate::specs::inner::Combining::into))]
 fn read_operation<'a>(
     alloc: Global,
     levels: u32,
@@ -256,7 +256,7 @@ fn read_operation<'a>(
 
 // A conversion behind its word: `u8(a)` in `to u8(a)`.
 #[cycle(expressions)]
-#[tactic(auto, unfolding(crate::specs::Reading::conversion, crate::specs::Combining::pair, crate::specs::Combining::into))]
+#[tactic(auto, unfolding(crate::specs::inner::Reading::conversion, crate::specs::inner::Combining::pair, crate::specs::inner::Combining::into))]
 fn read_conversion<'a>(
     alloc: Global,
     levels: u32,
@@ -278,7 +278,7 @@ fn read_conversion<'a>(
 
 // A `let` behind its word: `x: T = a in b`.
 #[cycle(expressions)]
-#[tactic(auto, unfolding(crate::specs::Reading::binding, crate::specs::Combining::pair, crate::specs::Combining::into))]
+#[tactic(auto, unfolding(crate::specs::inner::Reading::binding, crate::specs::inner::Combining::pair, crate::specs::inner::Combining::into))]
 fn read_binding<'a>(
     alloc: Global,
     levels: u32,
@@ -303,7 +303,7 @@ fn read_binding<'a>(
 
 // A match behind its word: `a { p => e, q => f }`.
 #[cycle(expressions)]
-#[tactic(auto, unfolding(crate::specs::Reading::matching, crate::specs::Reading::clause_tree, crate::specs::Combining::pair, crate::specs::Combining::into))]
+#[tactic(auto, unfolding(crate::specs::inner::Reading::matching, crate::specs::inner::Reading::clause_tree, crate::specs::inner::Combining::pair, crate::specs::inner::Combining::into))]
 fn read_matching<'a>(
     alloc: Global,
     levels: u32,
@@ -352,7 +352,7 @@ fn read_clauses<'a>(
 
 // A clause of a match, `p => e`.
 #[cycle(expressions)]
-#[tactic(auto, unfolding(crate::specs::Reading::clause_tree, crate::specs::Combining::pair, crate::specs::Combining::into))]
+#[tactic(auto, unfolding(crate::specs::inner::Reading::clause_tree, crate::specs::inner::Combining::pair, crate::specs::inner::Combining::into))]
 fn read_clause<'a>(
     alloc: Global,
     levels: u32,

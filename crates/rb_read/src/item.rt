@@ -5,10 +5,10 @@ ghost use Rattle.rb_core.specs.Limits.{most_levels};
 ghost use Rattle.rb_syntax.specs.declared.token.Symbol.TheVariants as symbol;
 ghost use Rattle.rb_syntax.specs.declared.token.Token.TheVariants as token;
 ghost use Rattle.rb_syntax.specs.Tokens.{tokens};
-ghost use Rattle.rb_read.specs.Combining as combining;
-ghost use Rattle.rb_read.specs.Reading as reading;
-ghost use Rattle.rb_read.specs.Tokens.{number};
-ghost use Rattle.rb_read.specs.Gives.{Gives, seen_rest};
+ghost use Rattle.rb_read.specs.inner.Combining as combining;
+ghost use Rattle.rb_read.specs.inner.Reading as reading;
+ghost use Rattle.rb_read.specs.inner.Tokens.{number};
+ghost use Rattle.rb_read.specs.inner.Gives.{Gives, seen_rest};
 
 use crate::each::Repeat;
 use crate::expression::read_expression;
@@ -78,7 +78,7 @@ fn read_parameters(
 }
 
 // How a layout is derived: the word `boxed` or `packed`.
-#[tactic(auto, unfolding(crate::specs::Reading::auto_word, crate::specs::Reading::auto_from))]
+#[tactic(auto, unfolding(crate::specs::inner::Reading::auto_word, crate::specs::inner::Reading::auto_from))]
 fn read_auto(placed: &[Placed]) -> Result<(Auto, &[Placed]), Stop>
     ensures { Gives (λ x. (x.0, tokens x.1.now)) result (reading.auto_word (tokens placed.now)) }
 {
@@ -93,7 +93,7 @@ fn read_auto(placed: &[Placed]) -> Result<(Auto, &[Placed]), Stop>
 }
 
 // A derived layout behind its equals sign: `boxed;`.
-#[tactic(auto, unfolding(crate::specs::Reading::layout_rest_from, crate::specs::Combining::pair, crate::specs::Combining::into))]
+#[tactic(auto, unfolding(crate::specs::inner::Reading::layout_rest_from, crate::specs::inner::Combining::pair, crate::specs::inner::Combining::into))]
 fn read_derived(placed: &[Placed]) -> Result<(LayoutRest, &[Placed]), Stop>
     ensures { Gives (λ x. (seen_rest x.0, tokens x.1.now)) result
         (reading.layout_rest_from 0 0 (token.Symbol symbol.Equals) (tokens placed.now)) }
@@ -104,7 +104,7 @@ fn read_derived(placed: &[Placed]) -> Result<(LayoutRest, &[Placed]), Stop>
 }
 
 // A written layout behind the `<` that opens its shape: `64, 64> = ...;`.
-#[tactic(auto, unfolding(crate::specs::Reading::layout_rest_from, crate::specs::Combining::pair, crate::specs::Combining::into))]
+#[tactic(auto, unfolding(crate::specs::inner::Reading::layout_rest_from, crate::specs::inner::Combining::pair, crate::specs::inner::Combining::into))]
 fn read_laid_out(
     alloc: Global,
     levels: u32,
@@ -123,7 +123,7 @@ fn read_laid_out(
 }
 
 // A layout behind its type's name: `<64> = ...;` or `= boxed;`.
-#[tactic(auto, unfolding(crate::specs::Reading::layout_rest, crate::specs::Reading::layout_rest_from))]
+#[tactic(auto, unfolding(crate::specs::inner::Reading::layout_rest, crate::specs::inner::Reading::layout_rest_from))]
 fn read_layout_rest(
     alloc: Global,
     levels: u32,
@@ -145,7 +145,7 @@ fn read_layout_rest(
 }
 
 // A layout behind the word `layout`, whose number is `at`: `T <64> = ...;` or `T = boxed;`.
-#[tactic(auto, unfolding(crate::specs::Reading::layout_item, crate::specs::Combining::pair, crate::specs::Combining::into))]
+#[tactic(auto, unfolding(crate::specs::inner::Reading::layout_item, crate::specs::inner::Combining::pair, crate::specs::inner::Combining::into))]
 fn read_layout(
     alloc: Global,
     levels: u32,
@@ -171,7 +171,7 @@ fn read_layout(
 }
 
 // A type behind the word `type`: `T = A | B(u8);`.
-#[tactic(auto, unfolding(crate::specs::Reading::type_item, crate::specs::Combining::pair, crate::specs::Combining::into))]
+#[tactic(auto, unfolding(crate::specs::inner::Reading::type_item, crate::specs::inner::Combining::pair, crate::specs::inner::Combining::into))]
 fn read_type_item(
     alloc: Global,
     total: usize,
@@ -187,7 +187,7 @@ fn read_type_item(
 }
 
 // A function behind the word `fun`: `f(x: T): U = e;`.
-#[tactic(auto, unfolding(crate::specs::Reading::fun_item, crate::specs::Combining::pair, crate::specs::Combining::into))]
+#[tactic(auto, unfolding(crate::specs::inner::Reading::fun_item, crate::specs::inner::Combining::pair, crate::specs::inner::Combining::into))]
 fn read_fun(
     alloc: Global,
     levels: u32,
@@ -220,7 +220,7 @@ impl Repeat for ItemTree {
 
     ghost begins = { λ t. reading.begins_item t };
 
-    #[tactic(auto, unfolding(crate::specs::Reading::file_item, crate::specs::Reading::file_item_from))]
+    #[tactic(auto, unfolding(crate::specs::inner::Reading::file_item, crate::specs::inner::Reading::file_item_from))]
     fn read(alloc: Global, total: usize, placed: &[Placed]) -> Result<(ItemTree, &[Placed]), Stop> {
         match placed {
             [] => Err(Stop::Stuck(0)),

@@ -3,10 +3,10 @@
 ghost use Rattle.std.specs.Prelude.{◌≡◌, ◌-◌, ◌<◌, ◌^◌, length};
 ghost use Rattle.rb_syntax.specs.declared.token.Word.TheVariants as word;
 ghost use Rattle.rb_syntax.specs.Tokens.{tokens};
-ghost use Rattle.rb_read.specs.Combining as combining;
-ghost use Rattle.rb_read.specs.Reading as reading;
-ghost use Rattle.rb_read.specs.Starting as starting;
-ghost use Rattle.rb_read.specs.Gives.{Gives};
+ghost use Rattle.rb_read.specs.inner.Combining as combining;
+ghost use Rattle.rb_read.specs.inner.Reading as reading;
+ghost use Rattle.rb_read.specs.inner.Starting as starting;
+ghost use Rattle.rb_read.specs.inner.Gives.{Gives};
 
 use crate::beyond::beyond;
 use crate::leaf::read_some_items;
@@ -61,7 +61,7 @@ fn begins_else(placed: &[Placed]) -> bool
 }
 
 // A leaf, `Cons(_, _) : { word 64 { [0:64] .0 } }`, with so many levels left for what is in it.
-#[tactic(auto, unfolding(crate::specs::Reading::leaf, crate::specs::Combining::pair, crate::specs::Combining::into))]
+#[tactic(auto, unfolding(crate::specs::inner::Reading::leaf, crate::specs::inner::Combining::pair, crate::specs::inner::Combining::into))]
 fn read_leaf(
     alloc: Global,
     levels: u32,
@@ -82,7 +82,7 @@ fn read_leaf(
 
 // An arm of a split, `0 => ...`, with so many levels left for its tree.
 #[cycle(splits)]
-#[tactic(auto, unfolding(crate::specs::Reading::arm_tree, crate::specs::Combining::pair, crate::specs::Combining::into))]
+#[tactic(auto, unfolding(crate::specs::inner::Reading::arm_tree, crate::specs::inner::Combining::pair, crate::specs::inner::Combining::into))]
 fn read_arm<'a>(
     alloc: Global,
     levels: u32,
@@ -127,7 +127,7 @@ fn read_arms<'a>(
 
 // The `else` of a split, `else => ...`, or nothing.
 #[cycle(splits)]
-#[tactic(auto, unfolding(crate::specs::Combining::optional, crate::specs::Reading::else_tree, crate::specs::Combining::pair, crate::specs::Combining::into))]
+#[tactic(auto, unfolding(crate::specs::inner::Combining::optional, crate::specs::inner::Reading::else_tree, crate::specs::inner::Combining::pair, crate::specs::inner::Combining::into))]
 fn read_else<'a>(
     alloc: Global,
     levels: u32,
@@ -151,7 +151,7 @@ fn read_else<'a>(
 
 // A split behind its word: `0[0:1] { 0 => ... else => ... }`.
 #[cycle(splits)]
-#[tactic(auto, unfolding(crate::specs::Reading::split_rest, crate::specs::Combining::pair, crate::specs::Combining::into))]
+#[tactic(auto, unfolding(crate::specs::inner::Reading::split_rest, crate::specs::inner::Combining::pair, crate::specs::inner::Combining::into))]
 fn read_split<'a>(
     alloc: Global,
     levels: u32,
@@ -172,7 +172,7 @@ fn read_split<'a>(
 
 // A layout's tree, a split or a leaf, whose parts have so many levels left.
 #[cycle(splits)]
-#[tactic(auto, unfolding(crate::specs::Reading::tree_by))]
+#[tactic(auto, unfolding(crate::specs::inner::Reading::tree_by))]
 fn read_tree_node<'a>(
     alloc: Global,
     levels: u32,
@@ -201,7 +201,7 @@ fn read_tree_node<'a>(
 /// `Stuck` at the first token at which no tree goes on, or `Deep` at the first that begins a node beyond the
 /// levels, whichever stands first; or want of memory.
 #[cycle(splits)]
-#[tactic(auto, unfolding(crate::specs::Reading::layout_tree))]
+#[tactic(auto, unfolding(crate::specs::inner::Reading::layout_tree))]
 pub fn read_layout_tree<'a>(
     alloc: Global,
     levels: u32,

@@ -6,10 +6,10 @@ ghost use Rattle.rb_syntax.specs.declared.token.Symbol.TheVariants as symbol;
 ghost use Rattle.rb_syntax.specs.declared.token.Token.TheVariants as token;
 ghost use Rattle.rb_syntax.specs.declared.token.Word.TheVariants as word;
 ghost use Rattle.rb_syntax.specs.Tokens.{tokens};
-ghost use Rattle.rb_read.specs.Combining as combining;
-ghost use Rattle.rb_read.specs.Gives.{Gives, seen_end};
-ghost use Rattle.rb_read.specs.Reading as reading;
-ghost use Rattle.rb_read.specs.Reading.{pointed};
+ghost use Rattle.rb_read.specs.inner.Combining as combining;
+ghost use Rattle.rb_read.specs.inner.Gives.{Gives, seen_end};
+ghost use Rattle.rb_read.specs.inner.Reading as reading;
+ghost use Rattle.rb_read.specs.inner.Reading.{pointed};
 
 use crate::each::read_each;
 use crate::list::{read_any_closed, read_some_closed};
@@ -29,7 +29,7 @@ pub enum PathEnd {
 }
 
 // `[0:8]` or `word 1` behind a path, or nothing.
-#[tactic(auto, unfolding(crate::specs::Combining::optional, crate::specs::Reading::path_end, crate::specs::Reading::path_end_from, crate::specs::Combining::into))]
+#[tactic(auto, unfolding(crate::specs::inner::Combining::optional, crate::specs::inner::Reading::path_end, crate::specs::inner::Reading::path_end_from, crate::specs::inner::Combining::into))]
 fn read_path_end(placed: &[Placed]) -> Result<(Option<PathEnd>, &[Placed]), Stop>
     ensures { Gives (λ x. (seen_end x.0, tokens x.1.now)) result
         (combining.optional reading.ends_path reading.path_end (tokens placed.now)) }
@@ -63,7 +63,7 @@ fn held(path: Seq<u32>, end: Option<PathEnd>) -> PartKind
 }
 
 // What a part holds of a field, behind its path's first dot.
-#[tactic(auto, unfolding(crate::specs::Reading::part_kind_from, crate::specs::Reading::more_fields, crate::specs::Combining::pair, crate::specs::Combining::into))]
+#[tactic(auto, unfolding(crate::specs::inner::Reading::part_kind_from, crate::specs::inner::Reading::more_fields, crate::specs::inner::Combining::pair, crate::specs::inner::Combining::into))]
 fn read_held(alloc: Global, total: usize, placed: &[Placed]) -> Result<(PartKind, &[Placed]), Stop>
     requires { total < 2 ^ 32 }
     ensures { Gives (λ x. (x.0, tokens x.1.now)) result
@@ -80,7 +80,7 @@ fn read_held(alloc: Global, total: usize, placed: &[Placed]) -> Result<(PartKind
 // A pointer part behind its arrow: `8 { inline .1 }`. Where no level is left, the arrow, which was
 // taken already, begins a node too deep.
 #[cycle(leaf)]
-#[tactic(auto, unfolding(crate::specs::Reading::pointed, crate::specs::Reading::no_pointer, crate::specs::Reading::pointer, crate::specs::Combining::pair, crate::specs::Combining::into))]
+#[tactic(auto, unfolding(crate::specs::inner::Reading::pointed, crate::specs::inner::Reading::no_pointer, crate::specs::inner::Reading::pointer, crate::specs::inner::Combining::pair, crate::specs::inner::Combining::into))]
 fn read_pointed<'a>(
     alloc: Global,
     levels: u32,
@@ -101,7 +101,7 @@ fn read_pointed<'a>(
 
 // What a part holds: `= 5`, `.0`, `.0[0:8]`, `.0 word 1` or `-> 8 { inline .1 }`.
 #[cycle(leaf)]
-#[tactic(auto, unfolding(crate::specs::Reading::part_kind, crate::specs::Reading::part_kind_from, crate::specs::Combining::into))]
+#[tactic(auto, unfolding(crate::specs::inner::Reading::part_kind, crate::specs::inner::Reading::part_kind_from, crate::specs::inner::Combining::into))]
 fn read_part_kind<'a>(
     alloc: Global,
     levels: u32,
@@ -127,7 +127,7 @@ fn read_part_kind<'a>(
 
 // A part of a word, `[0:8] .0`: its range of bits, and what it holds.
 #[cycle(leaf)]
-#[tactic(auto, unfolding(crate::specs::Reading::part, crate::specs::Combining::pair, crate::specs::Combining::into))]
+#[tactic(auto, unfolding(crate::specs::inner::Reading::part, crate::specs::inner::Combining::pair, crate::specs::inner::Combining::into))]
 fn read_part<'a>(
     alloc: Global,
     levels: u32,
@@ -167,7 +167,7 @@ fn read_parts<'a>(
 
 // A word of a leaf or block behind the word `word`: `32 { [0:32] .0 }`, its width and its parts.
 #[cycle(leaf)]
-#[tactic(auto, unfolding(crate::specs::Reading::item_from, crate::specs::Combining::pair, crate::specs::Combining::into))]
+#[tactic(auto, unfolding(crate::specs::inner::Reading::item_from, crate::specs::inner::Combining::pair, crate::specs::inner::Combining::into))]
 fn read_word<'a>(
     alloc: Global,
     levels: u32,
@@ -186,7 +186,7 @@ fn read_word<'a>(
 
 // An item of a leaf or block: a word with its parts, or the words of a field, `inline .1`.
 #[cycle(leaf)]
-#[tactic(auto, unfolding(crate::specs::Reading::item_one, crate::specs::Reading::item_from, crate::specs::Combining::into))]
+#[tactic(auto, unfolding(crate::specs::inner::Reading::item_one, crate::specs::inner::Reading::item_from, crate::specs::inner::Combining::into))]
 fn read_item<'a>(
     alloc: Global,
     levels: u32,

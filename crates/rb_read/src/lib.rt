@@ -18,10 +18,10 @@
 //! with a token, or where a token begins a node and no level is left: readers call each other no deeper than
 //! that. A file that ends too early is at fault behind its last token.
 //!
-//! The definition of a file is not these readers but its spelling: the tree is the one whose tokens these
-//! are, and a token is at fault if the tokens before it begin some file and no file goes on with it. Only a
-//! file that is spelled is counted: its types, its functions, and what each of its items has, against the
-//! limits.
+//! The definition of a file is not these readers, which stand in `specs/inner`, but its spelling: the tree
+//! is the one whose tokens these are, and a token is at fault if the tokens before it begin some file and
+//! no file goes on with it. Only a file that is spelled is counted: its types, its functions, and what each
+//! of its items has, against the limits.
 #![tactic(auto)]
 
 mod beyond;

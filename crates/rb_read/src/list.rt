@@ -2,9 +2,9 @@
 
 ghost use Rattle.std.specs.Prelude.{◌≡◌, ◌<◌, ◌^◌};
 ghost use Rattle.rb_syntax.specs.Tokens.{tokens};
-ghost use Rattle.rb_read.specs.Combining as combining;
-ghost use Rattle.rb_read.specs.Combining.{Reader};
-ghost use Rattle.rb_read.specs.Gives.{Gives, Reads};
+ghost use Rattle.rb_read.specs.inner.Combining as combining;
+ghost use Rattle.rb_read.specs.inner.Combining.{Reader};
+ghost use Rattle.rb_read.specs.inner.Gives.{Gives, Reads};
 
 use crate::stop::Stop;
 use crate::tokens::{begins_with, expect};
@@ -47,7 +47,7 @@ pub(crate) fn read_some_closed<'a, T: Drop, F: Fn(&'a [Placed]) -> Result<(T, &'
 /// # Errors
 ///
 /// Where `read` stops, or `Stuck` where neither symbol stands behind a part; or want of memory.
-#[tactic(auto, unfolding(crate::specs::Combining::any_closed))]
+#[tactic(auto, unfolding(crate::specs::inner::Combining::any_closed))]
 pub(crate) fn read_any_closed<'a, T: Drop, F: Fn(&'a [Placed]) -> Result<(T, &'a [Placed]), Stop>>(
     alloc: Global,
     read: F,
@@ -69,7 +69,7 @@ pub(crate) fn read_any_closed<'a, T: Drop, F: Fn(&'a [Placed]) -> Result<(T, &'a
 /// # Errors
 ///
 /// Where `read` stops, or `Stuck` where neither symbol stands behind a part; or want of memory.
-#[tactic(auto, unfolding(crate::specs::Combining::in_parens))]
+#[tactic(auto, unfolding(crate::specs::inner::Combining::in_parens))]
 pub(crate) fn read_in_parens<'a, T: Drop, F: Fn(&'a [Placed]) -> Result<(T, &'a [Placed]), Stop>>(
     alloc: Global,
     read: F,

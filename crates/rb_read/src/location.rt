@@ -3,9 +3,9 @@
 ghost use Rattle.std.specs.Prelude.{◌≡◌, ◌∷◌, ◌<◌, ◌^◌, IfOk};
 ghost use Rattle.rb_syntax.specs.declared.token.Symbol.TheVariants as symbol;
 ghost use Rattle.rb_syntax.specs.Tokens.{tokens};
-ghost use Rattle.rb_read.specs.Starting as starting;
-ghost use Rattle.rb_read.specs.Reading as reading;
-ghost use Rattle.rb_read.specs.Gives.{Gives};
+ghost use Rattle.rb_read.specs.inner.Starting as starting;
+ghost use Rattle.rb_read.specs.inner.Reading as reading;
+ghost use Rattle.rb_read.specs.inner.Gives.{Gives};
 
 use crate::each::{Repeat, read_each};
 use crate::stop::Stop;
@@ -20,7 +20,7 @@ use std::alloc::{AllocError, Global};
 /// # Errors
 ///
 /// `Stuck` at the first token at which no range goes on.
-#[tactic(auto, unfolding(crate::specs::Reading::range_rest, crate::specs::Combining::pair, crate::specs::Combining::into))]
+#[tactic(auto, unfolding(crate::specs::inner::Reading::range_rest, crate::specs::inner::Combining::pair, crate::specs::inner::Combining::into))]
 pub fn read_range_rest(placed: &[Placed]) -> Result<((u64, u64), &[Placed]), Stop>
     ensures { Gives (λ x. (x.0, tokens x.1.now)) result (reading.range_rest (tokens placed.now)) }
 {
@@ -36,7 +36,7 @@ pub fn read_range_rest(placed: &[Placed]) -> Result<((u64, u64), &[Placed]), Sto
 /// # Errors
 ///
 /// `Stuck` at the first token at which no range goes on.
-#[tactic(auto, unfolding(crate::specs::Reading::range, crate::specs::Combining::pair, crate::specs::Combining::into))]
+#[tactic(auto, unfolding(crate::specs::inner::Reading::range, crate::specs::inner::Combining::pair, crate::specs::inner::Combining::into))]
 pub fn read_range(placed: &[Placed]) -> Result<((u64, u64), &[Placed]), Stop>
     ensures { Gives (λ x. (x.0, tokens x.1.now)) result (reading.range (tokens placed.now)) }
 {
@@ -51,7 +51,7 @@ impl Repeat for u32 {
 
     ghost begins = { λ t. starting.is_symbol symbol.Dot t };
 
-    #[tactic(auto, unfolding(crate::specs::Reading::field_in, crate::specs::Combining::pair, crate::specs::Combining::into))]
+    #[tactic(auto, unfolding(crate::specs::inner::Reading::field_in, crate::specs::inner::Combining::pair, crate::specs::inner::Combining::into))]
     fn read(_alloc: Global, _total: usize, placed: &[Placed]) -> Result<(u32, &[Placed]), Stop> {
         let rest = expect(Symbol::Dot, placed)?;
         let (field, rest) = read_field(rest)?;
@@ -81,7 +81,7 @@ pub(crate) fn joined(first: u32, others: Seq<u32>) -> Result<Seq<u32>, AllocErro
 /// # Errors
 ///
 /// `Stuck` at the first token at which no path goes on; or want of memory.
-#[tactic(auto, unfolding(crate::specs::Reading::path, crate::specs::Reading::more_fields, crate::specs::Combining::pair, crate::specs::Combining::into))]
+#[tactic(auto, unfolding(crate::specs::inner::Reading::path, crate::specs::inner::Reading::more_fields, crate::specs::inner::Combining::pair, crate::specs::inner::Combining::into))]
 pub fn read_path(
     alloc: Global,
     total: usize,
@@ -102,7 +102,7 @@ impl Repeat for Step {
 
     ghost begins = { λ t. starting.is_symbol symbol.Arrow t };
 
-    #[tactic(auto, unfolding(crate::specs::Reading::loc_step, crate::specs::Combining::pair, crate::specs::Combining::into))]
+    #[tactic(auto, unfolding(crate::specs::inner::Reading::loc_step, crate::specs::inner::Combining::pair, crate::specs::inner::Combining::into))]
     fn read(_alloc: Global, _total: usize, placed: &[Placed]) -> Result<(Step, &[Placed]), Stop> {
         let rest = expect(Symbol::Arrow, placed)?;
         let (align, rest) = read_number(rest)?;
@@ -131,7 +131,7 @@ impl Repeat for Step {
 /// # Errors
 ///
 /// `Stuck` at the first token at which no location goes on; or want of memory.
-#[tactic(auto, unfolding(crate::specs::Reading::location, crate::specs::Combining::pair, crate::specs::Combining::into))]
+#[tactic(auto, unfolding(crate::specs::inner::Reading::location, crate::specs::inner::Combining::pair, crate::specs::inner::Combining::into))]
 pub fn read_location(
     alloc: Global,
     total: usize,

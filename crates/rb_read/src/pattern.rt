@@ -3,9 +3,9 @@
 ghost use Rattle.std.specs.Prelude.{◌≡◌, ◌<◌, ◌^◌};
 ghost use Rattle.rb_syntax.specs.declared.tree.PatTree.TheVariants as pats;
 ghost use Rattle.rb_syntax.specs.Tokens.{tokens};
-ghost use Rattle.rb_read.specs.Combining as combining;
-ghost use Rattle.rb_read.specs.Reading as reading;
-ghost use Rattle.rb_read.specs.Gives.{Gives};
+ghost use Rattle.rb_read.specs.inner.Combining as combining;
+ghost use Rattle.rb_read.specs.inner.Reading as reading;
+ghost use Rattle.rb_read.specs.inner.Gives.{Gives};
 
 use crate::beyond::beyond;
 use crate::list::read_in_parens;
@@ -37,7 +37,7 @@ fn begins_pattern(placed: &[Placed]) -> bool
 /// `Stuck` at the first token at which no pattern goes on, or `Deep` at the first that begins a node beyond
 /// the levels, whichever stands first; or want of memory.
 #[cycle(patterns)]
-#[tactic(auto, unfolding(crate::specs::Reading::pattern))]
+#[tactic(auto, unfolding(crate::specs::inner::Reading::pattern))]
 pub fn read_pattern<'a>(
     alloc: Global,
     levels: u32,
@@ -55,7 +55,7 @@ pub fn read_pattern<'a>(
 
 // A pattern whose subpatterns have so many levels left.
 #[cycle(patterns)]
-#[tactic(auto, unfolding(crate::specs::Reading::pattern_one, crate::specs::Reading::pattern_from))]
+#[tactic(auto, unfolding(crate::specs::inner::Reading::pattern_one, crate::specs::inner::Reading::pattern_from))]
 fn read_pattern_node<'a>(
     alloc: Global,
     levels: u32,
@@ -86,7 +86,7 @@ fn read_pattern_node<'a>(
 
 // A constructor's pattern, behind its name: its subpatterns have so many levels left.
 #[cycle(patterns)]
-#[tactic(auto, unfolding(crate::specs::Combining::into))]
+#[tactic(auto, unfolding(crate::specs::inner::Combining::into))]
 fn read_constructed<'a>(
     alloc: Global,
     levels: u32,

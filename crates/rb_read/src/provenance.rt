@@ -4,9 +4,9 @@
 ghost use Rattle.std.specs.Prelude.{◌≡◌, ◌<◌, ◌^◌};
 ghost use Rattle.rb_syntax.specs.declared.tree.PatTree.TheVariants as pats;
 ghost use Rattle.rb_syntax.specs.Tokens.{tokens};
-ghost use Rattle.rb_read.specs.Combining as combining;
-ghost use Rattle.rb_read.specs.Reading as reading;
-ghost use Rattle.rb_read.specs.Gives.{Gives};
+ghost use Rattle.rb_read.specs.inner.Combining as combining;
+ghost use Rattle.rb_read.specs.inner.Reading as reading;
+ghost use Rattle.rb_read.specs.inner.Gives.{Gives};
 
 use crate::beyond::beyond;
 use crate::list::read_in_parens;
@@ -50,7 +50,7 @@ fn begins_below(placed: &[Placed]) -> bool
 ///
 /// `Stuck` at the first token at which no provenance goes on, or `Deep` at the first that begins a node
 /// beyond the levels, whichever stands first; or want of memory.
-#[tactic(auto, unfolding(crate::specs::Reading::provenance))]
+#[tactic(auto, unfolding(crate::specs::inner::Reading::provenance))]
 pub fn read_provenance(
     alloc: Global,
     levels: u32,
@@ -67,7 +67,7 @@ pub fn read_provenance(
 }
 
 // A provenance with so many levels left below its constructor.
-#[tactic(auto, unfolding(crate::specs::Reading::provenance_one, crate::specs::Reading::provenance_from))]
+#[tactic(auto, unfolding(crate::specs::inner::Reading::provenance_one, crate::specs::inner::Reading::provenance_from))]
 fn read_provenance_node(
     alloc: Global,
     levels: u32,
@@ -92,7 +92,7 @@ fn read_provenance_node(
 
 // What stands below a provenance's constructor, with so many levels left.
 #[cycle(below)]
-#[tactic(auto, unfolding(crate::specs::Reading::below))]
+#[tactic(auto, unfolding(crate::specs::inner::Reading::below))]
 fn read_below<'a>(
     alloc: Global,
     levels: u32,
@@ -111,7 +111,7 @@ fn read_below<'a>(
 // What stands below a provenance's constructor: a constructor with its own parts, which have so
 // many levels left, or `_`.
 #[cycle(below)]
-#[tactic(auto, unfolding(crate::specs::Reading::below_one, crate::specs::Reading::below_from))]
+#[tactic(auto, unfolding(crate::specs::inner::Reading::below_one, crate::specs::inner::Reading::below_from))]
 fn read_below_node<'a>(
     alloc: Global,
     levels: u32,
@@ -137,7 +137,7 @@ fn read_below_node<'a>(
 
 // A constructor in a provenance, behind its name: its parts have so many levels left.
 #[cycle(below)]
-#[tactic(auto, unfolding(crate::specs::Combining::into))]
+#[tactic(auto, unfolding(crate::specs::inner::Combining::into))]
 fn read_constructed<'a>(
     alloc: Global,
     levels: u32,

@@ -7,10 +7,10 @@ ghost use Rattle.rb_syntax.specs.declared.tree.FileTree.{FileTree};
 ghost use Rattle.rb_syntax.specs.Tokens.{tokens};
 ghost use Rattle.rb_read.specs.declared.fault.ReadFault.{ReadFault};
 ghost use Rattle.rb_read.specs.declared.fault.ReadFault.TheVariants.{Memory};
-ghost use Rattle.rb_read.specs.Exact as exact;
 ghost use Rattle.rb_read.specs.Files.{IsFile, IsAnswer, Answers};
-ghost use Rattle.rb_read.specs.Gives.{Gives};
-ghost use Rattle.rb_read.specs.Reading as reading;
+ghost use Rattle.rb_read.specs.inner.Ending as ending;
+ghost use Rattle.rb_read.specs.inner.Gives.{Gives};
+ghost use Rattle.rb_read.specs.inner.Reading as reading;
 
 use crate::each::read_each;
 use crate::fault::ReadFault;
@@ -22,9 +22,9 @@ use rb_syntax::tree::{FileTree, ItemTree};
 use std::alloc::Global;
 
 // The file of the items that were read; it is stuck where a token is left behind them.
-#[tactic(auto, unfolding(crate::specs::Exact::ended))]
+#[tactic(auto, unfolding(crate::specs::inner::Ending::ended))]
 fn ended(items: Seq<ItemTree>, placed: &[Placed]) -> Result<FileTree, Stop>
-    ensures { Gives (λ file. file) result (exact.ended items (tokens placed.now)) }
+    ensures { Gives (λ file. file) result (ending.ended items (tokens placed.now)) }
 {
     if placed.is_empty() {
         Ok(FileTree { items })
@@ -34,11 +34,11 @@ fn ended(items: Seq<ItemTree>, placed: &[Placed]) -> Result<FileTree, Stop>
 }
 
 // The file that the tokens spell, in at most so many levels as are allowed.
-#[tactic(auto, unfolding(crate::specs::Exact::whole_file, crate::specs::Reading::file_items))]
+#[tactic(auto, unfolding(crate::specs::inner::Ending::whole_file, crate::specs::inner::Reading::file_items))]
 fn read_tree(alloc: Global, placed: &[Placed]) -> Result<FileTree, Stop>
     requires { length placed.now < 2 ^ 32 }
     ensures { Gives (λ file. file) result
-        (exact.whole_file (reading.file_items (length placed.now) most_levels (tokens placed.now))) }
+        (ending.whole_file (reading.file_items (length placed.now) most_levels (tokens placed.now))) }
 {
     let (items, rest) = read_each(alloc, placed.len(), placed)?;
     let file = ended(items, rest)?;

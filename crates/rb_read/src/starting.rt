@@ -1,7 +1,7 @@
 //! What a token begins.
 
 ghost use Rattle.std.specs.Prelude.{◌≡◌};
-ghost use Rattle.rb_read.specs.Starting as starting;
+ghost use Rattle.rb_read.specs.inner.Starting as starting;
 
 use rb_core::expression::Op;
 use rb_syntax::token::Word;
@@ -16,7 +16,7 @@ pub enum Form {
 }
 
 /// What a reserved word begins as an expression, or `Other` where it begins none.
-#[tactic(auto, unfolding(crate::specs::Starting::form_of))]
+#[tactic(auto, unfolding(crate::specs::inner::Starting::form_of))]
 pub fn form_of(word: Word) -> Form
     ensures { result ≡ starting.form_of word }
 {

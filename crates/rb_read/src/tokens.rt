@@ -3,9 +3,9 @@
 
 ghost use Rattle.std.specs.Prelude.{◌≡◌, ◌-◌, ◌<◌, ◌^◌, length};
 ghost use Rattle.rb_syntax.specs.Tokens.{tokens};
-ghost use Rattle.rb_read.specs.Combining as combining;
-ghost use Rattle.rb_read.specs.Tokens as reading;
-ghost use Rattle.rb_read.specs.Gives.{Gives};
+ghost use Rattle.rb_read.specs.inner.Combining as combining;
+ghost use Rattle.rb_read.specs.inner.Tokens as reading;
+ghost use Rattle.rb_read.specs.inner.Gives.{Gives};
 
 use crate::stop::Stop;
 use rb_syntax::token::{Placed, Symbol, Token, Word};
@@ -38,7 +38,7 @@ pub fn begins_with(symbol: Symbol, placed: &[Placed]) -> bool
 /// # Errors
 ///
 /// `Stuck` where another token stands there, or none.
-#[tactic(auto, unfolding(crate::specs::Combining::passing))]
+#[tactic(auto, unfolding(crate::specs::inner::Combining::passing))]
 pub fn expect(symbol: Symbol, placed: &[Placed]) -> Result<&[Placed], Stop>
     ensures { Gives (λ r. (tt, tokens r.now)) result (combining.expect symbol (tokens placed.now)) }
 {
@@ -56,7 +56,7 @@ pub fn expect(symbol: Symbol, placed: &[Placed]) -> Result<&[Placed], Stop>
 /// # Errors
 ///
 /// `Stuck` where another token stands there, or none.
-#[tactic(auto, unfolding(crate::specs::Combining::passing))]
+#[tactic(auto, unfolding(crate::specs::inner::Combining::passing))]
 pub fn expect_word(word: Word, placed: &[Placed]) -> Result<&[Placed], Stop>
     ensures { Gives (λ r. (tt, tokens r.now)) result (combining.expect_word word (tokens placed.now)) }
 {
@@ -74,7 +74,7 @@ pub fn expect_word(word: Word, placed: &[Placed]) -> Result<&[Placed], Stop>
 /// # Errors
 ///
 /// `Stuck` where another token stands there, or none; or want of memory.
-#[tactic(auto, unfolding(crate::specs::Tokens::lower_name))]
+#[tactic(auto, unfolding(crate::specs::inner::Tokens::lower_name))]
 pub fn read_lower(
     alloc: Global,
     total: usize,
@@ -101,7 +101,7 @@ pub fn read_lower(
 /// # Errors
 ///
 /// `Stuck` where another token stands there, or none; or want of memory.
-#[tactic(auto, unfolding(crate::specs::Tokens::upper_name))]
+#[tactic(auto, unfolding(crate::specs::inner::Tokens::upper_name))]
 pub fn read_upper(
     alloc: Global,
     total: usize,
@@ -128,7 +128,7 @@ pub fn read_upper(
 /// # Errors
 ///
 /// `Stuck` where another token stands there, or none.
-#[tactic(auto, unfolding(crate::specs::Tokens::number))]
+#[tactic(auto, unfolding(crate::specs::inner::Tokens::number))]
 pub fn read_number(placed: &[Placed]) -> Result<(u64, &[Placed]), Stop>
     ensures { Gives (λ x. (x.0, tokens x.1.now)) result (reading.number (tokens placed.now)) }
 {
@@ -146,7 +146,7 @@ pub fn read_number(placed: &[Placed]) -> Result<(u64, &[Placed]), Stop>
 /// # Errors
 ///
 /// `Stuck` where another token stands there, or none, or a number of 2^32 or more.
-#[tactic(auto, unfolding(crate::specs::Tokens::field))]
+#[tactic(auto, unfolding(crate::specs::inner::Tokens::field))]
 pub fn read_field(placed: &[Placed]) -> Result<(u32, &[Placed]), Stop>
     ensures { Gives (λ x. (x.0, tokens x.1.now)) result (reading.field (tokens placed.now)) }
 {
@@ -164,7 +164,7 @@ pub fn read_field(placed: &[Placed]) -> Result<(u32, &[Placed]), Stop>
 /// # Errors
 ///
 /// `Stuck` where another token stands there, or none, or another width.
-#[tactic(auto, unfolding(crate::specs::Tokens::width))]
+#[tactic(auto, unfolding(crate::specs::inner::Tokens::width))]
 pub fn read_width(placed: &[Placed]) -> Result<(u8, &[Placed]), Stop>
     ensures { Gives (λ x. (x.0, tokens x.1.now)) result (reading.width (tokens placed.now)) }
 {

@@ -2,9 +2,9 @@
 
 ghost use Rattle.std.specs.Prelude.{◌<◌, ◌^◌};
 ghost use Rattle.rb_syntax.specs.Tokens.{tokens};
-ghost use Rattle.rb_read.specs.Combining as combining;
-ghost use Rattle.rb_read.specs.Reading as reading;
-ghost use Rattle.rb_read.specs.Gives.{Gives};
+ghost use Rattle.rb_read.specs.inner.Combining as combining;
+ghost use Rattle.rb_read.specs.inner.Reading as reading;
+ghost use Rattle.rb_read.specs.inner.Gives.{Gives};
 
 use crate::list::read_in_parens;
 use crate::stop::Stop;
@@ -19,7 +19,7 @@ use std::alloc::Global;
 /// # Errors
 ///
 /// `Stuck` where neither stands there; or want of memory.
-#[tactic(auto, unfolding(crate::specs::Reading::type_tree, crate::specs::Reading::type_from))]
+#[tactic(auto, unfolding(crate::specs::inner::Reading::type_tree, crate::specs::inner::Reading::type_from))]
 pub fn read_type(
     alloc: Global,
     total: usize,
@@ -60,7 +60,7 @@ fn read_fields(
 /// # Errors
 ///
 /// `Stuck` at the first token at which no constructor goes on; or want of memory.
-#[tactic(auto, unfolding(crate::specs::Reading::con_tree, crate::specs::Combining::pair, crate::specs::Combining::into))]
+#[tactic(auto, unfolding(crate::specs::inner::Reading::con_tree, crate::specs::inner::Combining::pair, crate::specs::inner::Combining::into))]
 pub fn read_constructor(
     alloc: Global,
     total: usize,
@@ -79,7 +79,7 @@ pub fn read_constructor(
 /// # Errors
 ///
 /// `Stuck` at the first token at which no parameter goes on; or want of memory.
-#[tactic(auto, unfolding(crate::specs::Reading::param_tree, crate::specs::Combining::pair, crate::specs::Combining::into))]
+#[tactic(auto, unfolding(crate::specs::inner::Reading::param_tree, crate::specs::inner::Combining::pair, crate::specs::inner::Combining::into))]
 pub fn read_parameter(
     alloc: Global,
     total: usize,

@@ -1,6 +1,6 @@
 use Rattle.std.proofs.Common.{◌≡◌, ◌-◌, length}
 use Rattle.rb_syntax.specs.Tokens.{tokens}
-use Rattle.rb_read.specs.Combining.{many_of, with_all}
+use Rattle.rb_read.specs.inner.Combining.{many_of, with_all}
 use Rattle.rb_read.proofs.each.read_each.Given as goal
 
 -- the parts so far and what is read of the rest are what is read of all

@@ -1,5 +1,5 @@
 use Rattle.std.proofs.Common.{rules}
-use Rattle.rb_read.specs.Reading.{pattern, expression, clause_tree, begins_expression}
+use Rattle.rb_read.specs.inner.Reading.{pattern, expression, clause_tree, begins_expression}
 use Rattle.rb_read.proofs.ExpressionNode.{lower-node}
 use Rattle.rb_read.proofs.Loops.{beyond-fails}
 use Rattle.rb_read.proofs.expression.+expressions.Goals as goal

@@ -1,5 +1,5 @@
 use Rattle.std.proofs.Common.{rules}
-use Rattle.rb_read.specs.Reading.{con_tree}
+use Rattle.rb_read.specs.inner.Reading.{con_tree}
 use Rattle.rb_read.proofs.item.read_constructors.Goals as goal
 
 pub returns : goal.returns

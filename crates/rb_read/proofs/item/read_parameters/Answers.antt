@@ -1,5 +1,5 @@
 use Rattle.std.proofs.Common.{rules}
-use Rattle.rb_read.specs.Reading.{param_tree}
+use Rattle.rb_read.specs.inner.Reading.{param_tree}
 use Rattle.rb_read.proofs.item.read_parameters.Goals as goal
 
 pub returns : goal.returns

@@ -1,5 +1,5 @@
 use Rattle.std.proofs.Common.{rules}
-use Rattle.rb_read.specs.Tokens.{number}
+use Rattle.rb_read.specs.inner.Tokens.{number}
 use Rattle.rb_read.proofs.item.read_shape.Goals as goal
 
 pub returns : goal.returns

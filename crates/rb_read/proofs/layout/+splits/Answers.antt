@@ -1,6 +1,6 @@
 use Rattle.std.proofs.Common.{◌≡◌, ◌-◌, length, sym, arith}
 use Rattle.std.proofs.lemmas.Result.{err_from_is_err_and}
-use Rattle.rb_read.specs.Reading.{layout_tree, begins_tree}
+use Rattle.rb_read.specs.inner.Reading.{layout_tree, begins_tree}
 use Rattle.rb_read.proofs.EachLoops.{stops, ends-each, goes_over, no_more}
 use Rattle.rb_read.proofs.Loops.{beyond-fails}
 use Rattle.rb_read.proofs.layout.+splits.Goals as goal

@@ -1,8 +1,8 @@
 use Rattle.std.proofs.Common.{◌≡◌, ◌+◌, ◌-◌, ◌*◌, length}
 use Rattle.rb_syntax.specs.Tokens.{tokens}
-use Rattle.rb_read.specs.Combining.{many_of, with_all}
-use Rattle.rb_read.specs.Reading.{arm_tree, layout_tree}
-use Rattle.rb_read.specs.Starting.{is_number}
+use Rattle.rb_read.specs.inner.Combining.{many_of, with_all}
+use Rattle.rb_read.specs.inner.Reading.{arm_tree, layout_tree}
+use Rattle.rb_read.specs.inner.Starting.{is_number}
 use Rattle.rb_read.proofs.layout.+splits.Given as goal
 
 abbrev pub decreases-read_tree_node : goal.decreases-read_tree_node

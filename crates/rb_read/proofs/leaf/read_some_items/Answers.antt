@@ -1,7 +1,7 @@
 use Rattle.std.proofs.Common.{rules}
 use Rattle.rb_syntax.specs.Tokens.{tokens}
-use Rattle.rb_read.specs.Gives.{Gives}
-use Rattle.rb_read.specs.Reading.{pointed, item_one, lay_item_tree}
+use Rattle.rb_read.specs.inner.Gives.{Gives}
+use Rattle.rb_read.specs.inner.Reading.{pointed, item_one, lay_item_tree}
 use Rattle.rb_read.proofs.Pointers.{gives-item}
 use Rattle.rb_read.proofs.leaf.read_some_items.Goals as goal
 

@@ -1,7 +1,7 @@
 use Rattle.std.proofs.Common.{◌≡◌, ◌-◌, length}
 use Rattle.rb_syntax.specs.Tokens.{tokens}
-use Rattle.rb_read.specs.Combining.{Reader, some_of, with_all}
-use Rattle.rb_read.specs.Gives.{Reads}
+use Rattle.rb_read.specs.inner.Combining.{Reader, some_of, with_all}
+use Rattle.rb_read.specs.inner.Gives.{Reads}
 use Rattle.rb_read.proofs.list.read_some_closed.Given as goal
 
 -- the parts so far and what is read of the rest are what is read of all

@@ -1,5 +1,5 @@
 use Rattle.std.proofs.Common.{rules}
-use Rattle.rb_read.specs.Reading.{pattern, begins_pattern}
+use Rattle.rb_read.specs.inner.Reading.{pattern, begins_pattern}
 use Rattle.rb_read.proofs.Loops.{beyond-fails}
 use Rattle.rb_read.proofs.pattern.+patterns.Goals as goal
 

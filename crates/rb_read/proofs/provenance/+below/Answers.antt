@@ -1,5 +1,5 @@
 use Rattle.std.proofs.Common.{rules}
-use Rattle.rb_read.specs.Reading.{below, begins_below}
+use Rattle.rb_read.specs.inner.Reading.{below, begins_below}
 use Rattle.rb_read.proofs.Loops.{beyond-fails}
 use Rattle.rb_read.proofs.provenance.+below.Goals as goal
 

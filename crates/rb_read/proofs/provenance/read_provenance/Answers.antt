@@ -1,4 +1,4 @@
-use Rattle.rb_read.specs.Reading.{provenance, is_upper}
+use Rattle.rb_read.specs.inner.Reading.{provenance, is_upper}
 use Rattle.rb_read.proofs.Loops.{beyond-fails}
 use Rattle.rb_read.proofs.provenance.read_provenance.Goals as goal
 

@@ -1,5 +1,5 @@
 use Rattle.std.proofs.Common.{rules}
-use Rattle.rb_read.specs.Reading.{type_tree}
+use Rattle.rb_read.specs.inner.Reading.{type_tree}
 use Rattle.rb_read.proofs.types.read_fields.Goals as goal
 
 pub returns : goal.returns

@@ -3,14 +3,14 @@ use Rattle.std.specs.Prelude.{ℕ, suc, ◌-◌, ◌^◌, ◌∷◌, length, nat
 use Rattle.rb_syntax.specs.declared.token.Token.TheVariants as token
 use Rattle.rb_syntax.specs.declared.tree.NameTree.{NameTree}
 use Rattle.rb_syntax.specs.Spelling.{is_width}
-use Rattle.rb_read.specs.Combining.{Reader, stuck}
+use Rattle.rb_read.specs.inner.Combining.{Reader, stuck}
 
--- a name that begins with a small letter, with the number of the tokens before it, of `total` tokens in all
+-- a name that begins with a small letter, with the number of its token, of `total` tokens in all
 unfoldable pub lower_name : ℕ → Reader NameTree
 lower_name total (token.Lower name ∷ ts) = Ok (record { at = total - suc (length ts); text = name }, ts)
 lower_name total ts = Err (stuck (length ts))
 
--- a name that begins with a capital, with the number of the tokens before it, of `total` tokens in all
+-- a name that begins with a capital, with the number of its token, of `total` tokens in all
 unfoldable pub upper_name : ℕ → Reader NameTree
 upper_name total (token.Upper name ∷ ts) = Ok (record { at = total - suc (length ts); text = name }, ts)
 upper_name total ts = Err (stuck (length ts))
@@ -20,7 +20,7 @@ unfoldable pub number : Reader ℕ
 number (token.Num n ∷ ts) = Ok (n, ts)
 number ts = Err (stuck (length ts))
 
--- the number of a field, below 2^32; it is stuck at a greater one
+-- the number of a field, below 2^32; it is stuck at one of 2^32 or more
 unfoldable pub field : Reader ℕ
 field (token.Num n ∷ ts) = if nat_lt n (2 ^ 32) then Ok (n, ts) else Err (stuck (suc (length ts)))
 field ts = Err (stuck (length ts))

@@ -9,8 +9,8 @@ use Rattle.rb_read.specs.declared.leaf.PathEnd.{PathEnd}
 use Rattle.rb_read.specs.declared.leaf.PathEnd.TheVariants as path_end
 use Rattle.rb_read.specs.declared.stop.Stop as stops
 use Rattle.rb_read.specs.declared.stop.Stop.TheVariants as stop
-use Rattle.rb_read.specs.Combining.{Fault, Reader, stuck, deep}
-use Rattle.rb_read.specs.Reading as reading
+use Rattle.rb_read.specs.inner.Combining.{Fault, Reader, stuck, deep}
+use Rattle.rb_read.specs.inner.Reading as reading
 
 -- why the code stops is the fault that a reader gives, or it is want of memory, which says nothing of the tokens
 abbrev pub Fails : {R : Type 0} → stops.Stop → Result R Fault → Type 0

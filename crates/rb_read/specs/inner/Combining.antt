@@ -4,7 +4,7 @@ use Rattle.rb_syntax.specs.declared.token.Symbol.{Symbol}
 use Rattle.rb_syntax.specs.declared.token.Symbol.TheVariants as symbol
 use Rattle.rb_syntax.specs.declared.token.Word.{Word}
 use Rattle.rb_syntax.specs.declared.token.Token.{Token}
-use Rattle.rb_read.specs.Starting.{is_symbol, is_word}
+use Rattle.rb_read.specs.inner.Starting.{is_symbol, is_word}
 
 -- why nothing is read: a token at which nothing goes on, or one that begins a node beyond the limit; each with the
 -- number of the tokens from it on

@@ -36,11 +36,11 @@ use Rattle.rb_syntax.specs.declared.tree.ItemTree.TheVariants as top
 use Rattle.rb_syntax.specs.Spelling.{is_width}
 use Rattle.rb_read.specs.declared.starting.Form.{Form}
 use Rattle.rb_read.specs.declared.starting.Form.TheVariants as form
-use Rattle.rb_read.specs.Starting.{is_symbol, is_word, is_number, form_of}
-use Rattle.rb_read.specs.Combining.{Reader, stuck, deep, pair, into, expect, expect_word, some_closed, any_closed, in_parens, optional, each_of, beyond}
-use Rattle.rb_read.specs.Tokens.{lower_name, upper_name, number, field, width}
+use Rattle.rb_read.specs.inner.Starting.{is_symbol, is_word, is_number, form_of}
+use Rattle.rb_read.specs.inner.Combining.{Reader, stuck, deep, pair, into, expect, expect_word, some_closed, any_closed, in_parens, optional, each_of, beyond}
+use Rattle.rb_read.specs.inner.Tokens.{lower_name, upper_name, number, field, width}
 
--- the name whose token has number `at`
+-- the name with this text, whose token has number `at`
 abbrev pub named : ℕ → List ℕ → NameTree
 named at name = record { at = at; text = name }
 
@@ -50,25 +50,27 @@ refused ts = Err (stuck (suc (length ts)))
 
 -- Types, constructors and parameters.
 
--- a type, by its first token and over those behind it
+-- a type, by its first token and over those behind it: of integers of 1 to 64 bits, or a name with the number of its
+-- token
 unfoldable pub type_from : ℕ → Token → Reader TyTree
 type_from total (token.Uint bits) ts = if is_width bits then Ok (ty.Int bits, ts) else refused ts
 type_from total (token.Upper name) ts = Ok (ty.Named (named (total - suc (length ts)) name), ts)
 type_from total _ ts = refused ts
 
--- a type, `u8` or `T`
+-- a type, `u8` or `T`; it is stuck where no token is left
 unfoldable pub type_tree : ℕ → Reader TyTree
 type_tree total [] = Err (stuck 0)
 type_tree total (t ∷ ts) = type_from total t ts
 
--- a constructor of a type, `A` or `B(u8, T)`
+-- a constructor of a type, `A` or `B(u8, T)`: its name with the number of its token, and the types of its fields,
+-- none where no parenthesis opens
 unfoldable pub con_tree : ℕ → Reader ConTree
 con_tree total = into (λ (name, fields). record { name = name; fields = fields })
     (pair (upper_name total) (in_parens (type_tree total)))
 
 -- What is made of a form takes the form's parts in their order, with `_` for each symbol or word beside them.
 
--- a parameter made of its name, and its type behind the colon
+-- a parameter made of its name, whose token's number it has too, and its type behind the colon
 abbrev pub parameter_of : NameTree × (Unit {0} × TyTree) → ParamTree
 parameter_of (name, (_, ty)) = record { at = name.at; var = name; ty = ty }
 
@@ -93,7 +95,7 @@ pattern_from inner at (token.Num n) ts = Ok (pat.Num at n, ts)
 pattern_from inner at (token.Symbol symbol.Underscore) ts = Ok (pat.Wild at, ts)
 pattern_from inner at _ ts = refused ts
 
--- a pattern, where `inner` reads the patterns inside
+-- a pattern, where `inner` reads the patterns inside; it is stuck where no token is left
 unfoldable pub pattern_one : Reader PatTree → ℕ → Reader PatTree
 pattern_one inner total [] = Err (stuck 0)
 pattern_one inner total (t ∷ ts) = pattern_from inner (total - suc (length ts)) t ts
@@ -120,7 +122,8 @@ below_from inner at (token.Upper name) ts = into (λ ps. pat.Con at (named at na
 below_from inner at (token.Symbol symbol.Underscore) ts = Ok (pat.Wild at, ts)
 below_from inner at _ ts = refused ts
 
--- what stands below a provenance's constructor, where `inner` reads what is inside
+-- what stands below a provenance's constructor, where `inner` reads what is inside; it is stuck where no token is
+-- left
 unfoldable pub below_one : Reader PatTree → ℕ → Reader PatTree
 below_one inner total [] = Err (stuck 0)
 below_one inner total (t ∷ ts) = below_from inner (total - suc (length ts)) t ts
@@ -136,7 +139,7 @@ unfoldable pub provenance_from : Reader PatTree → ℕ → Token → Reader Pat
 provenance_from inner at (token.Upper name) ts = into (λ ps. pat.Con at (named at name) ps) (in_parens inner) ts
 provenance_from inner at _ ts = refused ts
 
--- a provenance, where `inner` reads what is below its constructor
+-- a provenance, where `inner` reads what is below its constructor; it is stuck where no token is left
 unfoldable pub provenance_one : Reader PatTree → ℕ → Reader PatTree
 provenance_one inner total [] = Err (stuck 0)
 provenance_one inner total (t ∷ ts) = provenance_from inner (total - suc (length ts)) t ts
@@ -188,7 +191,8 @@ clause_of (pattern, (_, body)) = record { pat = pattern; body = body }
 abbrev pub matching_of : ℕ → ExprTree × (Unit {0} × List ClauseTree) → ExprTree
 matching_of at (matched, (_, clauses)) = expr.Match at matched clauses
 
--- over the readers of the patterns and expressions inside, with the number of the node's token
+-- over the readers `inside` of the patterns and `inner` of the expressions inside, the number `total` of all tokens,
+-- and the number `at` of the node's first token
 module _ (inside : Reader PatTree) (inner : Reader ExprTree) (total at : ℕ) where
   -- the arguments of a call in parentheses, any number, or nothing where no parenthesis opens
   unfoldable pub arguments : Reader (Option (List ExprTree))
@@ -236,7 +240,8 @@ module _ (inside : Reader PatTree) (inner : Reader ExprTree) (total at : ℕ) wh
   expression_from (token.Reserved w) ts = from_form (form_of w) ts
   expression_from _ ts = refused ts
 
--- an expression, where `inside` reads the patterns inside, and `inner` the expressions
+-- an expression, where `inside` reads the patterns inside, and `inner` the expressions; it is stuck where no token is
+-- left
 unfoldable pub expression_one : Reader PatTree → Reader ExprTree → ℕ → Reader ExprTree
 expression_one inside inner total [] = Err (stuck 0)
 expression_one inside inner total (t ∷ ts) = expression_from inside inner total (total - suc (length ts)) t ts
@@ -273,18 +278,18 @@ more_fields = each_of (λ t. is_symbol symbol.Dot t) field_in
 unfoldable pub path : Reader (List ℕ)
 path = into (λ (first, others). first ∷ others) (pair field_in more_fields)
 
--- a step of a location made of the alignment, the byte, the width, and the range of bits
+-- a step of a location made of the alignment, the byte, the width, and the range of bits by first bit and length
 abbrev pub step_of : Unit {0} × (ℕ × (Unit {0} × (ℕ × (Unit {0} × (ℕ × (ℕ × ℕ)))))) → Step
 step_of (_, (align, (_, (byte, (_, (width, (first, bits))))))) =
     record { align = align; byte = byte; width = width; o = first; l = bits }
 
--- a step of a location, `-> 4 @0:8[0:8]`: alignment, byte, width, and range of bits
+-- a step of a location, `-> 4 @0:8[0:8]`: alignment, byte, width, and range of bits by first bit and length
 unfoldable pub loc_step : Reader Step
 loc_step = into step_of
     (pair (expect symbol.Arrow) (pair number (pair (expect symbol.At) (pair number
     (pair (expect symbol.Colon) (pair number range))))))
 
--- a location made of a word's number, its range of bits, and the steps behind it
+-- a location made of a word's number, a range of its bits by first bit and length, and the steps behind it
 abbrev pub location_of : ℕ × ((ℕ × ℕ) × List Step) → Loc
 location_of (word, ((first, bits), steps)) = record { word = word; o = first; l = bits; steps = steps }
 
@@ -294,7 +299,7 @@ location = into location_of (pair number (pair range (each_of (λ t. is_symbol s
 
 -- Parts and items of a leaf.
 
--- what stands behind a path in a part: the bits of a slice, or a word's number
+-- what stands behind a path in a part: a slice's first bit and length, or a word's number
 pub data PathEnd : Type 0 where
   sliced : ℕ → ℕ → PathEnd
   numbered : ℕ → PathEnd
@@ -310,12 +315,13 @@ path_end_from (token.Symbol symbol.OpenBracket) ts = into (λ r. sliced r.0 r.1)
 path_end_from (token.Reserved word.Word) ts = into (λ j. numbered j) number ts
 path_end_from _ ts = refused ts
 
--- what stands behind a path in a part, `[0:8]` or `word 1`
+-- what stands behind a path in a part, `[0:8]` or `word 1`; it is stuck where no token is left
 unfoldable pub path_end : Reader PathEnd
 path_end [] = Err (stuck 0)
 path_end (t ∷ ts) = path_end_from t ts
 
--- what a part holds of the field at a path: all of it where nothing stands behind the path, some bits, or one word
+-- what a part holds of the field at a path: all of it where nothing stands behind the path, some bits by first bit
+-- and length, or the word with a number
 abbrev pub held : List ℕ → Option PathEnd → PartKind
 held fields None = kind.Whole fields
 held fields (Some (sliced first bits)) = kind.Slice fields first bits
@@ -325,11 +331,11 @@ held fields (Some (numbered j)) = kind.Word fields j
 abbrev pub held_of : ℕ × (List ℕ × Option PathEnd) → PartKind
 held_of (first, (others, end)) = held (first ∷ others) end
 
--- a part of a word made of its range of bits, and what it holds
+-- a part of a word made of its range of bits, by first bit and length, and what it holds
 abbrev pub part_of : (ℕ × ℕ) × PartKind → PartDecl
 part_of ((first, bits), kind) = record { o = first; l = bits; kind = kind }
 
--- a word of a leaf or block made of its width, and its parts
+-- a word of a leaf or block made of its width in bits, and its parts
 abbrev pub word_of : ℕ × (Unit {0} × List PartDecl) → LayItem
 word_of (bits, (_, parts)) = lay_item.Word bits parts
 
@@ -343,7 +349,8 @@ module _ (pointed : Reader PartKind) where
   part_kind_from (token.Symbol symbol.Arrow) ts = pointed ts
   part_kind_from _ ts = refused ts
 
-  -- what a part holds: `= 5`, `.0`, `.0[0:8]`, `.0 word 1` or `-> 8 { inline .1 }`
+  -- what a part holds: `= 5`, `.0`, `.0[0:8]`, `.0 word 1` or `-> 8 { inline .1 }`; it is stuck where no token is
+  -- left
   unfoldable pub part_kind : Reader PartKind
   part_kind [] = Err (stuck 0)
   part_kind (t ∷ ts) = part_kind_from t ts
@@ -359,7 +366,8 @@ module _ (pointed : Reader PartKind) where
   item_from (token.Reserved word.Inline) ts = into (λ p. lay_item.Inline p) path ts
   item_from _ ts = refused ts
 
-  -- an item of a leaf or block: a word with its parts, `word 32 { [0:32] .0 }`, or the words of a field, `inline .1`
+  -- an item of a leaf or block: a word with its parts, `word 32 { [0:32] .0 }`, or the words of a field, `inline .1`;
+  -- it is stuck where no token is left
   unfoldable pub item_one : Reader LayItem
   item_one [] = Err (stuck 0)
   item_one (t ∷ ts) = item_from t ts
@@ -432,7 +440,7 @@ leaf n total at = into (leaf_of at)
     (some_closed (lay_item_tree n) symbol.Comma symbol.CloseBrace))))
 
 -- a layout's tree, by its first token: a split, behind whose word `inner` reads the trees inside, or a leaf, which
--- `whole` reads
+-- `whole` reads from its name on; it is stuck where no token is left
 unfoldable pub tree_by : Reader SplitTree → Reader SplitTree → Reader SplitTree
 tree_by inner whole [] = Err (stuck 0)
 tree_by inner whole (token.Reserved word.Split ∷ ts) = split_rest inner ts
@@ -446,7 +454,8 @@ layout_tree (suc n) total ts = tree_by (λ us. layout_tree n total us) (λ us. l
 
 -- Items.
 
--- a layout behind its type's name: its shape and tree, or the word of a derived one
+-- a layout behind its type's name: the widths in bits of its shape's words, and its tree, or the word of a derived
+-- one
 pub data LayoutRest : Type 0 where
   laid_out : List ℕ → SplitTree → LayoutRest
   derived : Auto → LayoutRest
@@ -457,7 +466,7 @@ auto_from (token.Reserved word.Boxed) ts = Ok (auto.Boxed, ts)
 auto_from (token.Reserved word.Packed) ts = Ok (auto.Packed, ts)
 auto_from _ ts = refused ts
 
--- how a layout is derived: the word `boxed` or `packed`
+-- how a layout is derived: the word `boxed` or `packed`; it is stuck where no token is left
 unfoldable pub auto_word : Reader Auto
 auto_word [] = Err (stuck 0)
 auto_word (t ∷ ts) = auto_from t ts
@@ -476,7 +485,8 @@ abbrev pub fun_of : NameTree × (Unit {0} × (List ParamTree × (Unit {0} × (Ty
 fun_of (name, (_, (params, (_, (result, (_, (body, _))))))) =
     top.Funs (record { name = name; params = params; result = result; body = body })
 
--- over the levels of a body or a layout, and the number of all tokens
+-- over the levels `limit` that the body of each function and the tree of each layout may have, and the number `total`
+-- of all tokens
 module _ (limit total : ℕ) where
   -- a layout behind its type's name, by its first token and over those behind it
   unfoldable pub layout_rest_from : Token → Reader LayoutRest
@@ -487,7 +497,7 @@ module _ (limit total : ℕ) where
       into (λ p. derived p.0) (pair auto_word (expect symbol.Semicolon)) ts
   layout_rest_from _ ts = refused ts
 
-  -- a layout behind its type's name, `<64> = ..;` or `= boxed;`
+  -- a layout behind its type's name, `<64> = ..;` or `= boxed;`; it is stuck where no token is left
   unfoldable pub layout_rest : Reader LayoutRest
   layout_rest [] = Err (stuck 0)
   layout_rest (t ∷ ts) = layout_rest_from t ts
@@ -521,7 +531,7 @@ module _ (limit total : ℕ) where
   file_item_from at (token.Reserved word.Fun) ts = fun_item ts
   file_item_from at _ ts = refused ts
 
-  -- an item of a file: a type, a layout or a function
+  -- an item of a file: a type, a layout or a function; it is stuck where no token is left
   unfoldable pub file_item : Reader ItemTree
   file_item [] = Err (stuck 0)
   file_item (t ∷ ts) = file_item_from (total - suc (length ts)) t ts
@@ -533,6 +543,7 @@ begins_item (token.Reserved word.Layout) = true
 begins_item (token.Reserved word.Fun) = true
 begins_item _ = false
 
--- the items of a file of `total` tokens, with so many levels left for each body and layout
+-- the items of a file of `total` tokens, with so many levels left for each body and for each layout's tree; there may
+-- be none, and from the first token on that begins no item all are handed on
 unfoldable pub file_items : ℕ → ℕ → Reader (List ItemTree)
 file_items total limit = each_of begins_item (file_item limit total)
