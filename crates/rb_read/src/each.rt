@@ -1,60 +1,45 @@
 //! Reads parts that stand one after the other.
+//!
+//! They are read from the front of the tokens that are left, `placed`, and handed on with those
+//! behind them. Whether one begins there is told by `begins`, and one is taken by `read`: the
+//! clause holds for each test and each reader that these follow.
 
-ghost use Rattle.std.specs.Prelude.{◌≡◌, ℕ, ◌<◌, ◌^◌, Bool};
+ghost use Rattle.std.specs.Prelude.{Bool};
 ghost use Rattle.rb_syntax.specs.declared.token.Token.{Token};
 ghost use Rattle.rb_syntax.specs.Tokens.{tokens};
 ghost use Rattle.rb_read.specs.inner.Combining as combining;
 ghost use Rattle.rb_read.specs.inner.Combining.{Reader};
-ghost use Rattle.rb_read.specs.inner.Gives.{Gives};
+ghost use Rattle.rb_read.specs.inner.Gives.{Gives, Reads, Tests};
 
 use crate::stop::Stop;
 use rb_core::seq::Seq;
 use rb_syntax::token::Placed;
 use std::alloc::Global;
 
-/// A part that may stand any number of times, known by its first token.
-pub(crate) trait Repeat: Sized {
-    ghost reader: { ℕ → Reader Self };
-
-    ghost begins: { Token → Bool };
-
-    /// Reads one such part from the front, and gives it with the tokens behind it. Of the file
-    /// there are `total` tokens in all, by which places are numbered.
-    ///
-    /// # Errors
-    ///
-    /// `Stuck` at the first token at which no such part goes on, or `Deep` at the first that begins
-    /// a node nested deeper than the limit, whichever stands first; or want of memory.
-    fn read(alloc: Global, total: usize, placed: &[Placed]) -> Result<(Self, &[Placed]), Stop>
-        requires { total < 2 ^ 32 }
-        ensures { Gives (λ x. (x.0, tokens x.1.now)) result (reader total (tokens placed.now)) };
-
-    /// Whether the first token begins one.
-    fn begins_with(placed: &[Placed]) -> bool
-        ensures { result ≡ combining.at_front begins (tokens placed.now) };
-}
-
-/// Parts one after the other, as long as the first token begins one, with the tokens behind them.
+/// Parts one after the other, as long as the first token `begins` one, each taken by `read`, with
+/// the tokens behind them. There may be none.
 ///
 /// # Errors
 ///
-/// Where the reader of a part stops; or want of memory.
-pub(crate) fn read_each<T: Repeat + Drop>(
-    alloc: Global,
-    total: usize,
-    placed: &[Placed],
-) -> Result<(Seq<T>, &[Placed]), Stop>
-    requires { total < 2 ^ 32 }
-    ensures { Gives (λ x. (x.0, tokens x.1.now)) result
-        (combining.each_of T.begins (T.reader total) (tokens placed.now)) }
+/// Where `read` stops; or want of memory.
+pub(crate) fn read_each<
+    'a,
+    T: Drop,
+    B: Fn(&'a [Placed]) -> bool,
+    F: Fn(&'a [Placed]) -> Result<(T, &'a [Placed]), Stop>,
+>(alloc: Global, begins: B, read: F, placed: &'a [Placed]) -> Result<(Seq<T>, &'a [Placed]), Stop>
+    requires told { B.IsAlwaysCallable begins }
+    requires taken { F.IsAlwaysCallable read }
+    ensures { (test : Token → Bool) (part : Reader T) → Tests test (B.post begins) → Reads part (F.post read)
+        → Gives (λ x. (x.0, tokens x.1.now)) result (combining.each_of test part (tokens placed.now)) }
 {
     let mut parts = Seq::new(alloc);
     let mut rest = placed;
     for _turn in 0..placed.len() {
-        if !T::begins_with(rest) {
+        if !begins(rest) {
             return Ok((parts, rest));
         }
-        let (part, behind) = T::read(alloc, total, rest)?;
+        let (part, behind) = read(rest)?;
         parts.push(part)?;
         rest = behind;
     }

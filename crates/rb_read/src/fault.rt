@@ -31,7 +31,8 @@ pub enum ReadFault {
     /// The first token that begins a node deeper than 128 levels.
     #[error("nesting over 128 at token {0}")]
     TooDeep(u32),
-    /// The first token at which no file goes on, or the number of tokens where they are no whole file.
+    /// The first token at which no file goes on, or the number of tokens where they are no whole
+    /// file.
     #[error("syntax at token {0}")]
     Syntax(u32),
     /// The first count that is over its limit.

@@ -1,4 +1,8 @@
 //! Reads the items of a file.
+//!
+//! Each reader takes the tokens that are left, `placed`, and gives what it read with those behind
+//! it. Of the file there are `total` tokens in all, so that a token's number follows from how many
+//! are left. How many levels are left, `levels` says.
 
 ghost use Rattle.std.specs.Prelude.{◌≡◌, ◌<◌, ◌^◌};
 ghost use Rattle.rb_core.specs.Limits.{most_levels};
@@ -10,7 +14,7 @@ ghost use Rattle.rb_read.specs.inner.Reading as reading;
 ghost use Rattle.rb_read.specs.inner.Tokens.{number};
 ghost use Rattle.rb_read.specs.inner.Gives.{Gives, seen_rest};
 
-use crate::each::Repeat;
+use crate::each::read_each;
 use crate::expression::read_expression;
 use crate::layout::read_layout_tree;
 use crate::list::{read_any_closed, read_some_closed};
@@ -214,35 +218,59 @@ fn read_fun(
     Ok((ItemTree::Funs(fun), rest))
 }
 
-/// An item of a file: a type, a layout or a function.
-impl Repeat for ItemTree {
-    ghost reader = { reading.file_item most_levels };
-
-    ghost begins = { λ t. reading.begins_item t };
-
-    #[tactic(auto, unfolding(crate::specs::inner::Reading::file_item, crate::specs::inner::Reading::file_item_from))]
-    fn read(alloc: Global, total: usize, placed: &[Placed]) -> Result<(ItemTree, &[Placed]), Stop> {
-        match placed {
-            [] => Err(Stop::Stuck(0)),
-            [first, rest @ ..] => match first.token {
-                Token::Reserved(Word::Type) => read_type_item(alloc, total, rest),
-                Token::Reserved(Word::Layout) => {
-                    let at = number_of(total, placed);
-                    read_layout(alloc, MOST_LEVELS, total, at, rest)
-                }
-                Token::Reserved(Word::Fun) => read_fun(alloc, MOST_LEVELS, total, rest),
-                _ => Err(Stop::Stuck(placed.len())),
-            },
-        }
+// An item of a file: a type, a layout or a function.
+#[tactic(auto, unfolding(crate::specs::inner::Reading::file_item, crate::specs::inner::Reading::file_item_from))]
+fn read_item(alloc: Global, total: usize, placed: &[Placed]) -> Result<(ItemTree, &[Placed]), Stop>
+    requires { total < 2 ^ 32 }
+    ensures { Gives (λ x. (x.0, tokens x.1.now)) result (reading.file_item most_levels total (tokens placed.now)) }
+{
+    match placed {
+        [] => Err(Stop::Stuck(0)),
+        [first, rest @ ..] => match first.token {
+            Token::Reserved(Word::Type) => read_type_item(alloc, total, rest),
+            Token::Reserved(Word::Layout) => {
+                let at = number_of(total, placed);
+                read_layout(alloc, MOST_LEVELS, total, at, rest)
+            }
+            Token::Reserved(Word::Fun) => read_fun(alloc, MOST_LEVELS, total, rest),
+            _ => Err(Stop::Stuck(placed.len())),
+        },
     }
+}
 
-    fn begins_with(placed: &[Placed]) -> bool {
-        match placed {
-            [] => false,
-            [first, ..] => matches!(
-                &first.token,
-                Token::Reserved(Word::Type | Word::Layout | Word::Fun)
-            ),
-        }
+// Whether the first token begins an item of a file.
+fn begins_item(placed: &[Placed]) -> bool
+    ensures { result ≡ combining.at_front (λ t. reading.begins_item t) (tokens placed.now) }
+{
+    match placed {
+        [] => false,
+        [first, ..] => matches!(
+            &first.token,
+            Token::Reserved(Word::Type | Word::Layout | Word::Fun)
+        ),
     }
+}
+
+/// The items of a file of `total` tokens, as long as the first token begins one; there may be none.
+/// Each body, and the tree of each layout, has at most `MOST_LEVELS` levels.
+///
+/// # Errors
+///
+/// `Stuck` at the first token at which an item that was begun does not go on, or `Deep` at the
+/// first that begins a node beyond the levels, whichever stands first; or want of memory.
+pub fn read_items(
+    alloc: Global,
+    total: usize,
+    placed: &[Placed],
+) -> Result<(Seq<ItemTree>, &[Placed]), Stop>
+    requires { total < 2 ^ 32 }
+    ensures { Gives (λ x. (x.0, tokens x.1.now)) result
+        (reading.file_items total most_levels (tokens placed.now)) }
+{
+    read_each(
+        alloc,
+        |rest| begins_item(rest),
+        |rest| read_item(alloc, total, rest),
+        placed,
+    )
 }

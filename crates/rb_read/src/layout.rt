@@ -1,4 +1,8 @@
 //! Reads trees of layouts. Trees are counted by the levels that are left.
+//!
+//! Each reader takes the tokens that are left, `placed`, and gives what it read with those behind
+//! it. Of the file there are `total` tokens in all, so that a token's number follows from how many
+//! are left. How many levels are left, `levels` says.
 
 ghost use Rattle.std.specs.Prelude.{◌≡◌, ◌-◌, ◌<◌, ◌^◌, length};
 ghost use Rattle.rb_syntax.specs.declared.token.Word.TheVariants as word;
@@ -9,6 +13,7 @@ ghost use Rattle.rb_read.specs.inner.Starting as starting;
 ghost use Rattle.rb_read.specs.inner.Gives.{Gives};
 
 use crate::beyond::beyond;
+use crate::each::read_each;
 use crate::leaf::read_some_items;
 use crate::location::read_location;
 use crate::provenance::read_provenance;
@@ -76,7 +81,7 @@ fn read_leaf(
     let (provenance, rest) = read_provenance(alloc, levels, total, placed)?;
     let rest = expect(Symbol::Colon, rest)?;
     let rest = expect(Symbol::OpenBrace, rest)?;
-    let (items, rest) = read_some_items(alloc, levels, total, rest)?;
+    let (items, rest) = read_some_items(alloc, levels, rest)?;
     Ok((SplitTree::Leaf(at, provenance, items), rest))
 }
 
@@ -112,17 +117,16 @@ fn read_arms<'a>(
         (combining.each_of starting.is_number (reading.arm_tree (λ us. reading.layout_tree levels total us))
         (tokens placed.now)) }
 {
-    let mut arms = Seq::new(alloc);
-    let mut rest = placed;
-    for _turn in 0..placed.len() {
-        if !begins_arm(rest) {
-            return Ok((arms, rest));
-        }
-        let (arm, behind) = read_arm(alloc, levels, total, rest)?;
-        arms.push(arm)?;
-        rest = behind;
-    }
-    Ok((arms, rest))
+    read_each(
+        alloc,
+        |rest| begins_arm(rest),
+        |rest|
+            requires { total < 2 ^ 32 }
+            ensures { Gives (λ x. (x.0, tokens x.1.now)) result
+                (reading.arm_tree (λ us. reading.layout_tree levels total us) (tokens rest.now)) }
+        { read_arm(alloc, levels, total, rest) },
+        placed,
+    )
 }
 
 // The `else` of a split, `else => ...`, or nothing.
@@ -162,7 +166,7 @@ fn read_split<'a>(
     ensures { Gives (λ x. (x.0, tokens x.1.now)) result
         (reading.split_rest (λ us. reading.layout_tree levels total us) (tokens placed.now)) }
 {
-    let (loc, rest) = read_location(alloc, total, placed)?;
+    let (loc, rest) = read_location(alloc, placed)?;
     let rest = expect(Symbol::OpenBrace, rest)?;
     let (arms, rest) = read_arms(alloc, levels, total, rest)?;
     let (other, rest) = read_else(alloc, levels, total, rest)?;
@@ -198,8 +202,8 @@ fn read_tree_node<'a>(
 ///
 /// # Errors
 ///
-/// `Stuck` at the first token at which no tree goes on, or `Deep` at the first that begins a node beyond the
-/// levels, whichever stands first; or want of memory.
+/// `Stuck` at the first token at which no tree goes on, or `Deep` at the first that begins a node
+/// beyond the levels, whichever stands first; or want of memory.
 #[cycle(splits)]
 #[tactic(auto, unfolding(crate::specs::inner::Reading::layout_tree))]
 pub fn read_layout_tree<'a>(

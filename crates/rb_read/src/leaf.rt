@@ -1,7 +1,10 @@
 //! The words of a leaf or a block, and their parts. Pointer parts are counted by the levels that
 //! are left.
+//!
+//! Each reader takes the tokens that are left, `placed`, and gives what it read with those behind
+//! it. How many levels are left, `levels` says.
 
-ghost use Rattle.std.specs.Prelude.{◌≡◌, ◌<◌, ◌^◌};
+ghost use Rattle.std.specs.Prelude.{◌≡◌};
 ghost use Rattle.rb_syntax.specs.declared.token.Symbol.TheVariants as symbol;
 ghost use Rattle.rb_syntax.specs.declared.token.Token.TheVariants as token;
 ghost use Rattle.rb_syntax.specs.declared.token.Word.TheVariants as word;
@@ -11,9 +14,8 @@ ghost use Rattle.rb_read.specs.inner.Gives.{Gives, seen_end};
 ghost use Rattle.rb_read.specs.inner.Reading as reading;
 ghost use Rattle.rb_read.specs.inner.Reading.{pointed};
 
-use crate::each::read_each;
 use crate::list::{read_any_closed, read_some_closed};
-use crate::location::{joined, read_path, read_range, read_range_rest};
+use crate::location::{joined, read_more_fields, read_path, read_range, read_range_rest};
 use crate::stop::Stop;
 use crate::tokens::{expect, read_field, read_number};
 use rb_core::seq::Seq;
@@ -63,14 +65,13 @@ fn held(path: Seq<u32>, end: Option<PathEnd>) -> PartKind
 }
 
 // What a part holds of a field, behind its path's first dot.
-#[tactic(auto, unfolding(crate::specs::inner::Reading::part_kind_from, crate::specs::inner::Reading::more_fields, crate::specs::inner::Combining::pair, crate::specs::inner::Combining::into))]
-fn read_held(alloc: Global, total: usize, placed: &[Placed]) -> Result<(PartKind, &[Placed]), Stop>
-    requires { total < 2 ^ 32 }
+#[tactic(auto, unfolding(crate::specs::inner::Reading::part_kind_from, crate::specs::inner::Combining::pair, crate::specs::inner::Combining::into))]
+fn read_held(alloc: Global, placed: &[Placed]) -> Result<(PartKind, &[Placed]), Stop>
     ensures { Gives (λ x. (x.0, tokens x.1.now)) result
         (reading.part_kind_from reading.no_pointer (token.Symbol symbol.Dot) (tokens placed.now)) }
 {
     let (first, rest) = read_field(placed)?;
-    let (others, rest) = read_each(alloc, total, rest)?;
+    let (others, rest) = read_more_fields(alloc, rest)?;
     let (end, rest) = read_path_end(rest)?;
     let path = joined(first, others)?;
     let kind = held(path, end);
@@ -84,10 +85,8 @@ fn read_held(alloc: Global, total: usize, placed: &[Placed]) -> Result<(PartKind
 fn read_pointed<'a>(
     alloc: Global,
     levels: u32,
-    total: usize,
     placed: &'a [Placed],
 ) -> Result<(PartKind, &'a [Placed]), Stop>
-    requires { total < 2 ^ 32 }
     ensures { Gives (λ x. (x.0, tokens x.1.now)) result (pointed levels (tokens placed.now)) }
 {
     if levels == 0 {
@@ -95,7 +94,7 @@ fn read_pointed<'a>(
     }
     let (align, rest) = read_number(placed)?;
     let rest = expect(Symbol::OpenBrace, rest)?;
-    let (items, rest) = read_items(alloc, levels - 1, total, rest)?;
+    let (items, rest) = read_items(alloc, levels - 1, rest)?;
     Ok((PartKind::Pointer(align, items), rest))
 }
 
@@ -105,10 +104,8 @@ fn read_pointed<'a>(
 fn read_part_kind<'a>(
     alloc: Global,
     levels: u32,
-    total: usize,
     placed: &'a [Placed],
 ) -> Result<(PartKind, &'a [Placed]), Stop>
-    requires { total < 2 ^ 32 }
     ensures { Gives (λ x. (x.0, tokens x.1.now)) result (reading.part_kind (pointed levels) (tokens placed.now)) }
 {
     match placed {
@@ -118,8 +115,8 @@ fn read_part_kind<'a>(
                 let (n, rest) = read_number(rest)?;
                 Ok((PartKind::Const(n), rest))
             }
-            Token::Symbol(Symbol::Dot) => read_held(alloc, total, rest),
-            Token::Symbol(Symbol::Arrow) => read_pointed(alloc, levels, total, rest),
+            Token::Symbol(Symbol::Dot) => read_held(alloc, rest),
+            Token::Symbol(Symbol::Arrow) => read_pointed(alloc, levels, rest),
             _ => Err(Stop::Stuck(placed.len())),
         },
     }
@@ -131,14 +128,12 @@ fn read_part_kind<'a>(
 fn read_part<'a>(
     alloc: Global,
     levels: u32,
-    total: usize,
     placed: &'a [Placed],
 ) -> Result<(PartDecl, &'a [Placed]), Stop>
-    requires { total < 2 ^ 32 }
     ensures { Gives (λ x. (x.0, tokens x.1.now)) result (reading.part (pointed levels) (tokens placed.now)) }
 {
     let ((o, l), rest) = read_range(placed)?;
-    let (kind, rest) = read_part_kind(alloc, levels, total, rest)?;
+    let (kind, rest) = read_part_kind(alloc, levels, rest)?;
     Ok((PartDecl { o, l, kind }, rest))
 }
 
@@ -147,19 +142,16 @@ fn read_part<'a>(
 fn read_parts<'a>(
     alloc: Global,
     levels: u32,
-    total: usize,
     placed: &'a [Placed],
 ) -> Result<(Seq<PartDecl>, &'a [Placed]), Stop>
-    requires { total < 2 ^ 32 }
     ensures { Gives (λ x. (x.0, tokens x.1.now)) result
         (combining.any_closed (reading.part (pointed levels)) symbol.CloseBrace (tokens placed.now)) }
 {
     read_any_closed(
         alloc,
         |rest|
-            requires { total < 2 ^ 32 }
             ensures { Gives (λ x. (x.0, tokens x.1.now)) result (reading.part (pointed levels) (tokens rest.now)) }
-        { read_part(alloc, levels, total, rest) },
+        { read_part(alloc, levels, rest) },
         Symbol::CloseBrace,
         placed,
     )
@@ -171,16 +163,14 @@ fn read_parts<'a>(
 fn read_word<'a>(
     alloc: Global,
     levels: u32,
-    total: usize,
     placed: &'a [Placed],
 ) -> Result<(LayItem, &'a [Placed]), Stop>
-    requires { total < 2 ^ 32 }
     ensures { Gives (λ x. (x.0, tokens x.1.now)) result
         (reading.item_from (pointed levels) (token.Reserved word.Word) (tokens placed.now)) }
 {
     let (bits, rest) = read_number(placed)?;
     let rest = expect(Symbol::OpenBrace, rest)?;
-    let (parts, rest) = read_parts(alloc, levels, total, rest)?;
+    let (parts, rest) = read_parts(alloc, levels, rest)?;
     Ok((LayItem::Word(bits, parts), rest))
 }
 
@@ -190,18 +180,16 @@ fn read_word<'a>(
 fn read_item<'a>(
     alloc: Global,
     levels: u32,
-    total: usize,
     placed: &'a [Placed],
 ) -> Result<(LayItem, &'a [Placed]), Stop>
-    requires { total < 2 ^ 32 }
     ensures { Gives (λ x. (x.0, tokens x.1.now)) result (reading.item_one (pointed levels) (tokens placed.now)) }
 {
     match placed {
         [] => Err(Stop::Stuck(0)),
         [first, rest @ ..] => match first.token {
-            Token::Reserved(Word::Word) => read_word(alloc, levels, total, rest),
+            Token::Reserved(Word::Word) => read_word(alloc, levels, rest),
             Token::Reserved(Word::Inline) => {
-                let (path, rest) = read_path(alloc, total, rest)?;
+                let (path, rest) = read_path(alloc, rest)?;
                 Ok((LayItem::Inline(path), rest))
             }
             _ => Err(Stop::Stuck(placed.len())),
@@ -214,19 +202,16 @@ fn read_item<'a>(
 fn read_items<'a>(
     alloc: Global,
     levels: u32,
-    total: usize,
     placed: &'a [Placed],
 ) -> Result<(Seq<LayItem>, &'a [Placed]), Stop>
-    requires { total < 2 ^ 32 }
     ensures { Gives (λ x. (x.0, tokens x.1.now)) result
         (combining.any_closed (λ us. reading.lay_item_tree levels us) symbol.CloseBrace (tokens placed.now)) }
 {
     read_any_closed(
         alloc,
         |rest|
-            requires { total < 2 ^ 32 }
             ensures { Gives (λ x. (x.0, tokens x.1.now)) result (reading.item_one (pointed levels) (tokens rest.now)) }
-        { read_item(alloc, levels, total, rest) },
+        { read_item(alloc, levels, rest) },
         Symbol::CloseBrace,
         placed,
     )
@@ -236,15 +221,13 @@ fn read_items<'a>(
 ///
 /// # Errors
 ///
-/// `Stuck` at the first token at which no items go on, or `Deep` at the first that begins a pointer part beyond
-/// the levels, whichever stands first; or want of memory.
+/// `Stuck` at the first token at which no items go on, or `Deep` at the first that begins a pointer
+/// part beyond the levels, whichever stands first; or want of memory.
 pub(crate) fn read_some_items(
     alloc: Global,
     levels: u32,
-    total: usize,
     placed: &[Placed],
 ) -> Result<(Seq<LayItem>, &[Placed]), Stop>
-    requires { total < 2 ^ 32 }
     ensures { Gives (λ x. (x.0, tokens x.1.now)) result
         (combining.some_closed (λ us. reading.lay_item_tree levels us) symbol.Comma symbol.CloseBrace
         (tokens placed.now)) }
@@ -252,9 +235,8 @@ pub(crate) fn read_some_items(
     read_some_closed(
         alloc,
         |rest|
-            requires { total < 2 ^ 32 }
             ensures { Gives (λ x. (x.0, tokens x.1.now)) result (reading.item_one (pointed levels) (tokens rest.now)) }
-        { read_item(alloc, levels, total, rest) },
+        { read_item(alloc, levels, rest) },
         Symbol::Comma,
         Symbol::CloseBrace,
         placed,

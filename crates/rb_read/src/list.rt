@@ -1,4 +1,8 @@
 //! Reads lists: parts with a separator between, and the symbol that closes them.
+//!
+//! A list is read from the front of the tokens that are left, `placed`, and handed on with those
+//! behind it. One part is taken by `read`, which answers as a reader of parts would: the clauses
+//! hold for each reader that `read` follows.
 
 ghost use Rattle.std.specs.Prelude.{◌≡◌, ◌<◌, ◌^◌};
 ghost use Rattle.rb_syntax.specs.Tokens.{tokens};

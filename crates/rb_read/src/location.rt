@@ -1,13 +1,17 @@
 //! Ranges, paths and locations.
+//!
+//! Each reader takes the tokens that are left, `placed`, and gives what it read with those behind
+//! it.
 
-ghost use Rattle.std.specs.Prelude.{◌≡◌, ◌∷◌, ◌<◌, ◌^◌, IfOk};
+ghost use Rattle.std.specs.Prelude.{◌≡◌, ◌∷◌, IfOk};
 ghost use Rattle.rb_syntax.specs.declared.token.Symbol.TheVariants as symbol;
 ghost use Rattle.rb_syntax.specs.Tokens.{tokens};
+ghost use Rattle.rb_read.specs.inner.Combining as combining;
 ghost use Rattle.rb_read.specs.inner.Starting as starting;
 ghost use Rattle.rb_read.specs.inner.Reading as reading;
 ghost use Rattle.rb_read.specs.inner.Gives.{Gives};
 
-use crate::each::{Repeat, read_each};
+use crate::each::read_each;
 use crate::stop::Stop;
 use crate::tokens::{begins_with, expect, read_field, read_number};
 use rb_core::seq::Seq;
@@ -45,22 +49,30 @@ pub fn read_range(placed: &[Placed]) -> Result<((u64, u64), &[Placed]), Stop>
     Ok((range, rest))
 }
 
-/// A field in a path, `.0`.
-impl Repeat for u32 {
-    ghost reader = { λ _ ts. reading.field_in ts };
+// A field in a path, `.0`.
+#[tactic(auto, unfolding(crate::specs::inner::Reading::field_in, crate::specs::inner::Combining::pair, crate::specs::inner::Combining::into))]
+fn read_field_in(placed: &[Placed]) -> Result<(u32, &[Placed]), Stop>
+    ensures { Gives (λ x. (x.0, tokens x.1.now)) result (reading.field_in (tokens placed.now)) }
+{
+    let rest = expect(Symbol::Dot, placed)?;
+    let (field, rest) = read_field(rest)?;
+    Ok((field, rest))
+}
 
-    ghost begins = { λ t. starting.is_symbol symbol.Dot t };
-
-    #[tactic(auto, unfolding(crate::specs::inner::Reading::field_in, crate::specs::inner::Combining::pair, crate::specs::inner::Combining::into))]
-    fn read(_alloc: Global, _total: usize, placed: &[Placed]) -> Result<(u32, &[Placed]), Stop> {
-        let rest = expect(Symbol::Dot, placed)?;
-        let (field, rest) = read_field(rest)?;
-        Ok((field, rest))
-    }
-
-    fn begins_with(placed: &[Placed]) -> bool {
-        begins_with(Symbol::Dot, placed)
-    }
+/// The fields of a path behind its first, any number: `.1.2` in `.0.1.2`.
+///
+/// # Errors
+///
+/// `Stuck` where no number of a field stands behind a dot; or want of memory.
+pub fn read_more_fields(alloc: Global, placed: &[Placed]) -> Result<(Seq<u32>, &[Placed]), Stop>
+    ensures { Gives (λ x. (x.0, tokens x.1.now)) result (reading.more_fields (tokens placed.now)) }
+{
+    read_each(
+        alloc,
+        |rest| begins_with(Symbol::Dot, rest),
+        read_field_in,
+        placed,
+    )
 }
 
 /// A path's fields: the first, which is read on its own, before the others.
@@ -81,49 +93,49 @@ pub(crate) fn joined(first: u32, others: Seq<u32>) -> Result<Seq<u32>, AllocErro
 /// # Errors
 ///
 /// `Stuck` at the first token at which no path goes on; or want of memory.
-#[tactic(auto, unfolding(crate::specs::inner::Reading::path, crate::specs::inner::Reading::more_fields, crate::specs::inner::Combining::pair, crate::specs::inner::Combining::into))]
-pub fn read_path(
-    alloc: Global,
-    total: usize,
-    placed: &[Placed],
-) -> Result<(Seq<u32>, &[Placed]), Stop>
-    requires { total < 2 ^ 32 }
+#[tactic(auto, unfolding(crate::specs::inner::Reading::path, crate::specs::inner::Combining::pair, crate::specs::inner::Combining::into))]
+pub fn read_path(alloc: Global, placed: &[Placed]) -> Result<(Seq<u32>, &[Placed]), Stop>
     ensures { Gives (λ x. (x.0, tokens x.1.now)) result (reading.path (tokens placed.now)) }
 {
-    let (first, rest) = u32::read(alloc, total, placed)?;
-    let (others, rest) = read_each(alloc, total, rest)?;
+    let (first, rest) = read_field_in(placed)?;
+    let (others, rest) = read_more_fields(alloc, rest)?;
     let path = joined(first, others)?;
     Ok((path, rest))
 }
 
-/// A step of a location, `-> 4 @0:8[0:8]`: alignment, byte, width, and range of bits.
-impl Repeat for Step {
-    ghost reader = { λ _ ts. reading.loc_step ts };
+// A step of a location, `-> 4 @0:8[0:8]`: alignment, byte, width, and range of bits.
+#[tactic(auto, unfolding(crate::specs::inner::Reading::loc_step, crate::specs::inner::Combining::pair, crate::specs::inner::Combining::into))]
+fn read_step(placed: &[Placed]) -> Result<(Step, &[Placed]), Stop>
+    ensures { Gives (λ x. (x.0, tokens x.1.now)) result (reading.loc_step (tokens placed.now)) }
+{
+    let rest = expect(Symbol::Arrow, placed)?;
+    let (align, rest) = read_number(rest)?;
+    let rest = expect(Symbol::At, rest)?;
+    let (byte, rest) = read_number(rest)?;
+    let rest = expect(Symbol::Colon, rest)?;
+    let (width, rest) = read_number(rest)?;
+    let ((o, l), rest) = read_range(rest)?;
+    let step = Step {
+        align,
+        byte,
+        width,
+        o,
+        l,
+    };
+    Ok((step, rest))
+}
 
-    ghost begins = { λ t. starting.is_symbol symbol.Arrow t };
-
-    #[tactic(auto, unfolding(crate::specs::inner::Reading::loc_step, crate::specs::inner::Combining::pair, crate::specs::inner::Combining::into))]
-    fn read(_alloc: Global, _total: usize, placed: &[Placed]) -> Result<(Step, &[Placed]), Stop> {
-        let rest = expect(Symbol::Arrow, placed)?;
-        let (align, rest) = read_number(rest)?;
-        let rest = expect(Symbol::At, rest)?;
-        let (byte, rest) = read_number(rest)?;
-        let rest = expect(Symbol::Colon, rest)?;
-        let (width, rest) = read_number(rest)?;
-        let ((o, l), rest) = read_range(rest)?;
-        let step = Step {
-            align,
-            byte,
-            width,
-            o,
-            l,
-        };
-        Ok((step, rest))
-    }
-
-    fn begins_with(placed: &[Placed]) -> bool {
-        begins_with(Symbol::Arrow, placed)
-    }
+// The steps of a location, any number.
+fn read_steps(alloc: Global, placed: &[Placed]) -> Result<(Seq<Step>, &[Placed]), Stop>
+    ensures { Gives (λ x. (x.0, tokens x.1.now)) result
+        (combining.each_of (λ t. starting.is_symbol symbol.Arrow t) reading.loc_step (tokens placed.now)) }
+{
+    read_each(
+        alloc,
+        |rest| begins_with(Symbol::Arrow, rest),
+        read_step,
+        placed,
+    )
 }
 
 /// A location, `0[0:32] -> 4 @0:8[0:8]`: a range of bits in a word, and any number of steps.
@@ -132,17 +144,12 @@ impl Repeat for Step {
 ///
 /// `Stuck` at the first token at which no location goes on; or want of memory.
 #[tactic(auto, unfolding(crate::specs::inner::Reading::location, crate::specs::inner::Combining::pair, crate::specs::inner::Combining::into))]
-pub fn read_location(
-    alloc: Global,
-    total: usize,
-    placed: &[Placed],
-) -> Result<(Loc, &[Placed]), Stop>
-    requires { total < 2 ^ 32 }
+pub fn read_location(alloc: Global, placed: &[Placed]) -> Result<(Loc, &[Placed]), Stop>
     ensures { Gives (λ x. (x.0, tokens x.1.now)) result (reading.location (tokens placed.now)) }
 {
     let (word, rest) = read_number(placed)?;
     let ((o, l), rest) = read_range(rest)?;
-    let (steps, rest) = read_each(alloc, total, rest)?;
+    let (steps, rest) = read_steps(alloc, rest)?;
     let loc = Loc { word, o, l, steps };
     Ok((loc, rest))
 }

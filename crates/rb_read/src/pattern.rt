@@ -1,4 +1,8 @@
 //! Reads patterns.
+//!
+//! Each reader takes the tokens that are left, `placed`, and gives what it read with those behind
+//! it. Of the file there are `total` tokens in all, so that a token's number follows from how many
+//! are left. A node's first token has number `at`. How many levels are left, `levels` says.
 
 ghost use Rattle.std.specs.Prelude.{◌≡◌, ◌<◌, ◌^◌};
 ghost use Rattle.rb_syntax.specs.declared.tree.PatTree.TheVariants as pats;
@@ -34,8 +38,8 @@ fn begins_pattern(placed: &[Placed]) -> bool
 ///
 /// # Errors
 ///
-/// `Stuck` at the first token at which no pattern goes on, or `Deep` at the first that begins a node beyond
-/// the levels, whichever stands first; or want of memory.
+/// `Stuck` at the first token at which no pattern goes on, or `Deep` at the first that begins a
+/// node beyond the levels, whichever stands first; or want of memory.
 #[cycle(patterns)]
 #[tactic(auto, unfolding(crate::specs::inner::Reading::pattern))]
 pub fn read_pattern<'a>(

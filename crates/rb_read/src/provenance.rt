@@ -1,5 +1,9 @@
 //! Reads provenances. A provenance is the pattern at the head of a leaf: a constructor, with
 //! constructors and `_` below it.
+//!
+//! Each reader takes the tokens that are left, `placed`, and gives what it read with those behind
+//! it. Of the file there are `total` tokens in all, so that a token's number follows from how many
+//! are left. A node's first token has number `at`. How many levels are left, `levels` says.
 
 ghost use Rattle.std.specs.Prelude.{◌≡◌, ◌<◌, ◌^◌};
 ghost use Rattle.rb_syntax.specs.declared.tree.PatTree.TheVariants as pats;
@@ -48,8 +52,8 @@ fn begins_below(placed: &[Placed]) -> bool
 ///
 /// # Errors
 ///
-/// `Stuck` at the first token at which no provenance goes on, or `Deep` at the first that begins a node
-/// beyond the levels, whichever stands first; or want of memory.
+/// `Stuck` at the first token at which no provenance goes on, or `Deep` at the first that begins a
+/// node beyond the levels, whichever stands first; or want of memory.
 #[tactic(auto, unfolding(crate::specs::inner::Reading::provenance))]
 pub fn read_provenance(
     alloc: Global,

@@ -12,8 +12,8 @@ ghost use Rattle.rb_read.specs.inner.Ending as ending;
 ghost use Rattle.rb_read.specs.inner.Gives.{Gives};
 ghost use Rattle.rb_read.specs.inner.Reading as reading;
 
-use crate::each::read_each;
 use crate::fault::ReadFault;
+use crate::item::read_items;
 use crate::limits::first_over;
 use crate::stop::Stop;
 use rb_core::seq::Seq;
@@ -34,13 +34,13 @@ fn ended(items: Seq<ItemTree>, placed: &[Placed]) -> Result<FileTree, Stop>
 }
 
 // The file that the tokens spell, in at most so many levels as are allowed.
-#[tactic(auto, unfolding(crate::specs::inner::Ending::whole_file, crate::specs::inner::Reading::file_items))]
+#[tactic(auto, unfolding(crate::specs::inner::Ending::whole_file))]
 fn read_tree(alloc: Global, placed: &[Placed]) -> Result<FileTree, Stop>
     requires { length placed.now < 2 ^ 32 }
     ensures { Gives (λ file. file) result
         (ending.whole_file (reading.file_items (length placed.now) most_levels (tokens placed.now))) }
 {
-    let (items, rest) = read_each(alloc, placed.len(), placed)?;
+    let (items, rest) = read_items(alloc, placed.len(), placed)?;
     let file = ended(items, rest)?;
     Ok(file)
 }
@@ -81,9 +81,9 @@ fn read_limited(alloc: Global, placed: &[Placed]) -> Result<FileTree, ReadFault>
 ///
 /// # Errors
 ///
-/// `TooDeep` at the first token that begins a node deeper than 128 levels; else `Syntax` at the first at
-/// which no file goes on; else `Limit` for the first count over its limit. `Memory` where memory is wanting,
-/// which says nothing of the tokens.
+/// `TooDeep` at the first token that begins a node deeper than 128 levels; else `Syntax` at the
+/// first at which no file goes on; else `Limit` for the first count over its limit. `Memory` where
+/// memory is wanting, which says nothing of the tokens.
 pub fn read_file(alloc: Global, placed: &[Placed]) -> Result<FileTree, ReadFault>
     requires { length placed.now < 2 ^ 32 }
     ensures answer { Answers (tokens placed.now) result }

@@ -1,5 +1,6 @@
 //! Reads one token. Each function takes the tokens that are left and gives what it read with those
-//! behind it.
+//! behind it. Of the file there are `total` tokens in all, so that a token's number follows from how
+//! many are left.
 
 ghost use Rattle.std.specs.Prelude.{◌≡◌, ◌-◌, ◌<◌, ◌^◌, length};
 ghost use Rattle.rb_syntax.specs.Tokens.{tokens};

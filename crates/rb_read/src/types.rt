@@ -1,4 +1,8 @@
 //! Reads types, constructors and parameters.
+//!
+//! Each reader takes the tokens that are left, `placed`, and gives what it read with those behind
+//! it. Of the file there are `total` tokens in all, so that a token's number follows from how many
+//! are left.
 
 ghost use Rattle.std.specs.Prelude.{◌<◌, ◌^◌};
 ghost use Rattle.rb_syntax.specs.Tokens.{tokens};

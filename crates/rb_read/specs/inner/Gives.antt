@@ -1,6 +1,7 @@
 -- What code answers, against what a reader gives.
-use Rattle.std.specs.Prelude.{◌≡◌, List, Option, Some, None, Result, Ok, Err}
+use Rattle.std.specs.Prelude.{◌≡◌, List, Bool, Option, Some, None, Result, Ok, Err}
 use denote.Ref.{Bor}
+use Rattle.rb_syntax.specs.declared.token.Token.{Token}
 use Rattle.rb_syntax.specs.declared.token.Placed.{Placed}
 use Rattle.rb_syntax.specs.Tokens.{tokens}
 use Rattle.rb_read.specs.declared.item.LayoutRest.{LayoutRest}
@@ -9,7 +10,7 @@ use Rattle.rb_read.specs.declared.leaf.PathEnd.{PathEnd}
 use Rattle.rb_read.specs.declared.leaf.PathEnd.TheVariants as path_end
 use Rattle.rb_read.specs.declared.stop.Stop as stops
 use Rattle.rb_read.specs.declared.stop.Stop.TheVariants as stop
-use Rattle.rb_read.specs.inner.Combining.{Fault, Reader, stuck, deep}
+use Rattle.rb_read.specs.inner.Combining.{Fault, Reader, at_front, stuck, deep}
 use Rattle.rb_read.specs.inner.Reading as reading
 
 -- why the code stops is the fault that a reader gives, or it is want of memory, which says nothing of the tokens
@@ -32,6 +33,11 @@ Answer A = Result (A × Bor (List Placed)) stops.Stop
 abbrev pub Reads : {A : Type 0} → Reader A → (Bor (List Placed) → Answer A → Type 0) → Type 0
 Reads {A} reader may = (placed : Bor (List Placed)) (result : Answer A) → may placed result
     → Gives (λ x. (x.0, tokens x.1.now)) result (reader (tokens placed.now))
+
+-- each answer that `may` be given at tokens is whether there is a first one, and it passes the test
+abbrev pub Tests : (Token → Bool) → (Bor (List Placed) → Bool → Type 0) → Type 0
+Tests test may = (placed : Bor (List Placed)) (result : Bool) → may placed result
+    → result ≡ at_front test (tokens placed.now)
 
 -- what stands behind a path in a part, or nothing, as the code holds it, in the form that its reader gives
 abbrev pub seen_end : Option PathEnd → Option reading.PathEnd
