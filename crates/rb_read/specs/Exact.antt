@@ -1,4 +1,6 @@
--- Which token is at fault.
+-- Which token is at fault. Tokens are numbered from 0 on. A node is an expression, a pattern (a leaf's provenance and
+-- what is below its constructor are patterns too), a layout's tree, or a pointer part of a leaf. Its level is 1 where
+-- no node is around it, else one more than that of the innermost node around it.
 use Rattle.std.specs.Prelude.{◌≡◌, ℕ, suc, ◌<◌, ◌≤◌, List, ◌++◌, length, take}
 use Rattle.rb_core.specs.Limits.{most_levels}
 use Rattle.rb_core.specs.Stopping.{StopsAtIn}
@@ -15,7 +17,8 @@ IsSpelled ts = (file : FileTree) × (spell file ≡ ts) × HaveNoFlaw (file_writ
 abbrev pub StopsAt : List Token → ℕ → Type 0
 StopsAt ts p = StopsAtIn IsSpelled ts p
 
--- Token `p` begins a node one level deeper than is allowed, in some file that begins with the tokens up to it.
+-- token `p` of `ts` begins a node one level deeper than is allowed, in some file of the grammar that begins with the
+-- tokens up to and with this one, and goes on with any tokens, `more`; never where there is no token `p`
 pub record IsTooDeepAt (ts : List Token) (p : ℕ) : Type 0 where
   pub within : p < length ts
   pub more : List Token

@@ -59,12 +59,13 @@ functions_in [] = []
 functions_in (top.Funs f ∷ items) = f ∷ functions_in items
 functions_in (_ ∷ items) = functions_in items
 
--- the counts of a file's items that have a limit: of the types, of the functions, and then item by item as written
+-- the counts of a file's items that have a limit: of the types, of the functions, and then item by item as written;
+-- the file's bytes are not among them, since they are counted where the file is read
 abbrev pub counts : List ItemTree → List Count
 counts items =
     counted Types (length (types_in items)) ∷ counted Functions (length (functions_in items))
     ∷ flat_map item_counts items
 
--- the first count of a file that is over its limit, or none
+-- the first of a file's counts, in the order of `counts`, that is over its limit, or none; its bytes are not counted
 abbrev pub first_over : FileTree → Option Count
 first_over file = find is_over (counts file.items)

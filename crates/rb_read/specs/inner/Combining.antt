@@ -7,7 +7,7 @@ use Rattle.rb_syntax.specs.declared.token.Token.{Token}
 use Rattle.rb_read.specs.inner.Starting.{is_symbol, is_word}
 
 -- why nothing is read: a token at which nothing goes on, or one that begins a node beyond the limit; each with the
--- number of the tokens from it on
+-- number of the tokens from it on, itself counted, where 0 means behind the last token
 pub data Fault : Type 0 where
   stuck : (left : ℕ) → Fault
   deep : (left : ℕ) → Fault
@@ -26,11 +26,11 @@ abbrev pub ◌>>=◌ : {A B : Type 0} → Reading A → (A × List Token → Rea
 (Ok x) >>= f = f x
 (Err e) >>= f = Err e
 
--- reads one part, and then another behind it
+-- reads one part, and then another behind it, and gives both; a fault of either stays
 unfoldable pub pair : {A B : Type 0} → Reader A → Reader B → Reader (A × B)
 pair r s ts = r ts >>= λ x. s x.1 >>= λ y. Ok ((x.0, y.0), y.1)
 
--- reads a part, and gives what `make` makes of it
+-- reads a part, and gives what `make` makes of it; a fault stays
 unfoldable pub into : {A B : Type 0} → (A → B) → Reader A → Reader B
 into make r ts = r ts >>= λ x. Ok (make x.0, x.1)
 
@@ -72,21 +72,27 @@ behind separator close go x ts =
     else (expect close ts >>= λ y. Ok (x ∷ [], y.1))
 
 -- one part or more, each but the last with a separator behind it, and then the symbol that closes them; of so many
--- parts at most, beyond which it is stuck
+-- parts at most. With none of them left to read, it is stuck at 0, that is, behind the last token, even where tokens
+-- stand
 unfoldable pub some_of : {A : Type 0} → Reader A → Symbol → Symbol → ℕ → Reader (List A)
 some_of r separator close zero ts = Err (stuck 0)
 some_of r separator close (suc n) ts =
     r ts >>= λ x. behind separator close (λ us. some_of r separator close n us) x.0 x.1
 
--- one part or more with a separator between, and the symbol that closes them; there are no more parts than tokens
+-- one part or more with a separator between, and the symbol that closes them; at most as many parts as tokens. Behind
+-- a separator a part must be read: a separator just before the close leaves no way on, unless `r` reads a part there
 abbrev pub some_closed : {A : Type 0} → Reader A → Symbol → Symbol → Reader (List A)
 some_closed r separator close ts = some_of r separator close (length ts) ts
 
--- any number of parts with commas between, and the symbol that closes them
+-- any number of parts with commas between, and the symbol that closes them, which may stand there at once; at most as
+-- many parts as tokens. Behind a comma a part must be read: a comma just before the close leaves no way on, unless
+-- `r` reads a part there
 unfoldable pub any_closed : {A : Type 0} → Reader A → Symbol → Reader (List A)
 any_closed r close ts = if begins_with close ts then Ok ([], drop 1 ts) else some_closed r symbol.Comma close ts
 
--- one part or more in parentheses with commas between, or nothing where no parenthesis opens
+-- one part or more in parentheses with commas between, or nothing where no parenthesis opens. Behind the opening one
+-- and behind a comma a part must be read: `()` and a comma just before the closing one leave no way on, unless `r`
+-- reads a part there; at most as many parts as tokens
 unfoldable pub in_parens : {A : Type 0} → Reader A → Reader (List A)
 in_parens r ts =
     if begins_with symbol.OpenParen ts then some_closed r symbol.Comma symbol.CloseParen (drop 1 ts) else Ok ([], ts)
@@ -101,7 +107,8 @@ many_of test r zero ts = Ok ([], ts)
 many_of test r (suc n) ts =
     if at_front test ts then (r ts >>= λ x. with_all (x.0 ∷ []) (many_of test r n x.1)) else Ok ([], ts)
 
--- parts one after the other, as long as the first token passes the test; there are no more parts than tokens
+-- parts one after the other, as long as the first token passes the test; there may be none, and at most as many as
+-- tokens. The tokens behind them are handed on, and a fault in a part stays
 abbrev pub each_of : {A : Type 0} → (Token → Bool) → Reader A → Reader (List A)
 each_of test r ts = many_of test r (length ts) ts
 

@@ -1,4 +1,6 @@
--- What code answers, against what a reader gives.
+-- What code answers, against what a reader gives. A reader takes tokens and gives one result. Code takes the tokens
+-- with their places in the file, `placed`, and its postcondition `may` says which answers it may give to them. Code
+-- can also run out of memory, which a reader never does.
 use Rattle.std.specs.Prelude.{◌≡◌, List, Bool, Option, Some, None, Result, Ok, Err}
 use denote.Ref.{Bor}
 use Rattle.rb_syntax.specs.declared.token.Token.{Token}
@@ -29,12 +31,14 @@ Gives seen (Err e) r = Fails e r
 abbrev pub Answer : Type 0 → Type 0
 Answer A = Result (A × Bor (List Placed)) stops.Stop
 
--- each answer that `may` be given at tokens is what the reader gives there, or want of memory
+-- each answer that code with the postcondition `may` can give to tokens is what the reader gives there, or want of
+-- memory; the places of the tokens do not matter
 abbrev pub Reads : {A : Type 0} → Reader A → (Bor (List Placed) → Answer A → Type 0) → Type 0
 Reads {A} reader may = (placed : Bor (List Placed)) (result : Answer A) → may placed result
     → Gives (λ x. (x.0, tokens x.1.now)) result (reader (tokens placed.now))
 
--- each answer that `may` be given at tokens is whether there is a first one, and it passes the test
+-- each answer that code with the postcondition `may` can give to tokens is whether there is a first token, and it
+-- passes the test; the places of the tokens do not matter
 abbrev pub Tests : (Token → Bool) → (Bor (List Placed) → Bool → Type 0) → Type 0
 Tests test may = (placed : Bor (List Placed)) (result : Bool) → may placed result
     → result ≡ at_front test (tokens placed.now)

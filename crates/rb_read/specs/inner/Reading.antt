@@ -2,7 +2,7 @@
 -- or what is below its constructor, a layout's tree, or a pointer part of a leaf. It is read with a number of levels
 -- left, and the nodes inside it with one fewer; with none left it is too deep. `total` is the number of all tokens of
 -- the file, so that what begins at `ts` has the number `total - length ts`. A function named `.._from` takes the
--- first token apart from those behind it.
+-- first token apart from those behind it. A token is refused where the reader is stuck at it.
 use Rattle.std.specs.Prelude.{ℕ, zero, suc, ◌-◌, List, [], ◌∷◌, length, Bool, true, false, if◌then◌else◌, Option, Some, None, Ok, Err}
 use Rattle.rb_core.specs.declared.expression.Op.{Op}
 use Rattle.rb_core.specs.declared.types.Auto.TheVariants as auto
@@ -44,14 +44,14 @@ use Rattle.rb_read.specs.inner.Tokens.{lower_name, upper_name, number, field, wi
 abbrev pub named : ℕ → List ℕ → NameTree
 named at name = record { at = at; text = name }
 
--- no form that is wanted begins with the token before these: stuck there
+-- no form that is wanted begins with the token before these: it is stuck at that one
 abbrev pub refused : {A : Type 0} → Reader A
 refused ts = Err (stuck (suc (length ts)))
 
 -- Types, constructors and parameters.
 
--- a type, by its first token and over those behind it: of integers of 1 to 64 bits, or a name with the number of its
--- token
+-- a type, by its first token and over those behind it: of integers of 1 to 64 bits, or a name with a capital, with
+-- the number of its token; a width of 0 or over 64, and any other token, is refused
 unfoldable pub type_from : ℕ → Token → Reader TyTree
 type_from total (token.Uint bits) ts = if is_width bits then Ok (ty.Int bits, ts) else refused ts
 type_from total (token.Upper name) ts = Ok (ty.Named (named (total - suc (length ts)) name), ts)
@@ -87,7 +87,8 @@ begins_pattern (token.Lower name) = true
 begins_pattern (token.Num n) = true
 begins_pattern t = is_symbol symbol.Underscore t
 
--- a pattern, by its first token, which has number `at`, and over those behind it; `inner` reads the patterns inside
+-- a pattern, by its first token, which has number `at`, and over those behind it: a name, a number or `_`; any other
+-- token is refused. `inner` reads the patterns inside
 unfoldable pub pattern_from : Reader PatTree → ℕ → Token → Reader PatTree
 pattern_from inner at (token.Upper name) ts = into (λ ps. pat.Con at (named at name) ps) (in_parens inner) ts
 pattern_from inner at (token.Lower name) ts = Ok (pat.Var at (named at name), ts)
@@ -115,8 +116,8 @@ abbrev pub begins_below : Token → Bool
 begins_below (token.Upper name) = true
 begins_below t = is_symbol symbol.Underscore t
 
--- what stands below a provenance's constructor, by its first token, which has number `at`, and over those behind it;
--- `inner` reads what is inside
+-- what stands below a provenance's constructor, by its first token, which has number `at`, and over those behind it:
+-- a name with a capital, or `_`; any other token is refused. `inner` reads what is inside
 unfoldable pub below_from : Reader PatTree → ℕ → Token → Reader PatTree
 below_from inner at (token.Upper name) ts = into (λ ps. pat.Con at (named at name) ps) (in_parens inner) ts
 below_from inner at (token.Symbol symbol.Underscore) ts = Ok (pat.Wild at, ts)
@@ -133,8 +134,8 @@ unfoldable pub below : ℕ → ℕ → Reader PatTree
 below zero total ts = beyond begins_below ts
 below (suc n) total ts = below_one (λ us. below n total us) total ts
 
--- a provenance, by its first token, which has number `at`, and over those behind it; `inner` reads what is below its
--- constructor
+-- a provenance, by its first token, which has number `at`, and over those behind it: a name with a capital; any other
+-- token is refused. `inner` reads what is below its constructor
 unfoldable pub provenance_from : Reader PatTree → ℕ → Token → Reader PatTree
 provenance_from inner at (token.Upper name) ts = into (λ ps. pat.Con at (named at name) ps) (in_parens inner) ts
 provenance_from inner at _ ts = refused ts
@@ -224,7 +225,8 @@ module _ (inside : Reader PatTree) (inner : Reader ExprTree) (total at : ℕ) wh
   matching = into (matching_of at)
       (pair inner (pair (expect symbol.OpenBrace) (some_closed clause_tree symbol.Comma symbol.CloseBrace)))
 
-  -- an expression behind the reserved word that it begins with, by the form of that word; none for `Other`
+  -- an expression behind the reserved word that it begins with, by the form of that word; with the form `Other` the
+  -- word is refused
   unfoldable pub from_form : Form → Reader ExprTree
   from_form (form.Operation op) ts = operation op ts
   from_form form.Conversion ts = conversion ts
@@ -232,7 +234,8 @@ module _ (inside : Reader PatTree) (inner : Reader ExprTree) (total at : ℕ) wh
   from_form form.Matching ts = matching ts
   from_form form.Other ts = refused ts
 
-  -- an expression, by its first token and over those behind it
+  -- an expression, by its first token and over those behind it: a number, a name, or a reserved word that begins one;
+  -- any other token is refused
   unfoldable pub expression_from : Token → Reader ExprTree
   expression_from (token.Num n) ts = Ok (expr.Num at n, ts)
   expression_from (token.Lower name) ts = into (λ o. called at name o) arguments ts
@@ -309,7 +312,8 @@ abbrev pub ends_path : Token → Bool
 ends_path (token.Reserved w) = is_word word.Word (token.Reserved w)
 ends_path t = is_symbol symbol.OpenBracket t
 
--- what stands behind a path in a part, by its first token and over those behind it
+-- what stands behind a path in a part, by its first token and over those behind it: `[` or the word `word`; any other
+-- token is refused
 unfoldable pub path_end_from : Token → Reader PathEnd
 path_end_from (token.Symbol symbol.OpenBracket) ts = into (λ r. sliced r.0 r.1) range_rest ts
 path_end_from (token.Reserved word.Word) ts = into (λ j. numbered j) number ts
@@ -341,7 +345,7 @@ word_of (bits, (_, parts)) = lay_item.Word bits parts
 
 -- over the reader of what stands behind `->` in a part
 module _ (pointed : Reader PartKind) where
-  -- what a part holds, by its first token and over those behind it
+  -- what a part holds, by its first token and over those behind it: `=`, `.` or `->`; any other token is refused
   unfoldable pub part_kind_from : Token → Reader PartKind
   part_kind_from (token.Symbol symbol.Equals) ts = into (λ n. kind.Const n) number ts
   part_kind_from (token.Symbol symbol.Dot) ts =
@@ -359,7 +363,8 @@ module _ (pointed : Reader PartKind) where
   unfoldable pub part : Reader PartDecl
   part = into part_of (pair range part_kind)
 
-  -- a word or the words of a field, by the first token and over those behind it
+  -- a word or the words of a field, by the first token and over those behind it: the word `word` or `inline`; any
+  -- other token is refused
   unfoldable pub item_from : Token → Reader LayItem
   item_from (token.Reserved word.Word) ts =
       into word_of (pair number (pair (expect symbol.OpenBrace) (any_closed part symbol.CloseBrace))) ts
@@ -372,7 +377,8 @@ module _ (pointed : Reader PartKind) where
   item_one [] = Err (stuck 0)
   item_one (t ∷ ts) = item_from t ts
 
--- what is read behind `->` in a part where no level is left: nothing, since that token begins a node too deep
+-- what is read behind `->` in a part where no level is left: nothing, since the `->` before these tokens begins a
+-- node too deep
 unfoldable pub no_pointer : Reader PartKind
 no_pointer ts = Err (deep (suc (length ts)))
 
@@ -460,7 +466,8 @@ pub data LayoutRest : Type 0 where
   laid_out : List ℕ → SplitTree → LayoutRest
   derived : Auto → LayoutRest
 
--- how a layout is derived, by the token that says so and over those behind it
+-- how a layout is derived, by the token that says so, the word `boxed` or `packed`, and over those behind it; any
+-- other token is refused
 unfoldable pub auto_from : Token → Reader Auto
 auto_from (token.Reserved word.Boxed) ts = Ok (auto.Boxed, ts)
 auto_from (token.Reserved word.Packed) ts = Ok (auto.Packed, ts)
@@ -488,7 +495,8 @@ fun_of (name, (_, (params, (_, (result, (_, (body, _))))))) =
 -- over the levels `limit` that the body of each function and the tree of each layout may have, and the number `total`
 -- of all tokens
 module _ (limit total : ℕ) where
-  -- a layout behind its type's name, by its first token and over those behind it
+  -- a layout behind its type's name, by the first token there and over those behind it: `<`, or `=` for a derived
+  -- one; any other token is refused
   unfoldable pub layout_rest_from : Token → Reader LayoutRest
   layout_rest_from (token.Symbol symbol.Less) ts = into laid_out_of
       (pair (some_closed number symbol.Comma symbol.Greater) (pair (expect symbol.Equals)
@@ -524,7 +532,8 @@ module _ (limit total : ℕ) where
       (pair (expect symbol.Colon) (pair (type_tree total) (pair (expect symbol.Equals)
       (pair (expression limit total) (expect symbol.Semicolon))))))))
 
-  -- an item of a file, by its first token, which has number `at`, and over those behind it
+  -- an item of a file, by its first token, which has number `at`, and over those behind it: the word `type`, `layout`
+  -- or `fun`; any other token is refused
   unfoldable pub file_item_from : ℕ → Token → Reader ItemTree
   file_item_from at (token.Reserved word.Type) ts = type_item ts
   file_item_from at (token.Reserved word.Layout) ts = layout_item at ts

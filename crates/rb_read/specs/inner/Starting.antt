@@ -1,4 +1,5 @@
--- What a token is, and what it begins.
+-- What a token is, and what it begins. A form is a kind of expression that begins with a reserved word: an operation,
+-- a conversion to a width, a binding, or a match. The form `Other` says that no expression begins with the word.
 use Rattle.std.specs.Prelude.{ℕ, Bool, true, false, ◌==◌}
 use Rattle.rb_core.specs.declared.expression.Op.TheVariants as op
 use Rattle.rb_syntax.specs.declared.token.Word.{Word}
@@ -10,7 +11,7 @@ use Rattle.rb_syntax.specs.declared.token.Token.TheVariants as token
 use Rattle.rb_read.specs.declared.starting.Form.{Form}
 use Rattle.rb_read.specs.declared.starting.Form.TheVariants as form
 
--- a number for each symbol, by which symbols are compared
+-- a number for each symbol, by which symbols are compared: different symbols have different numbers
 abbrev pub symbol_number : Symbol → ℕ
 symbol_number symbol.Equals = 0
 symbol_number symbol.Bar = 1
@@ -31,7 +32,7 @@ symbol_number symbol.Arrow = 15
 symbol_number symbol.FatArrow = 16
 symbol_number symbol.Underscore = 17
 
--- a number for each reserved word, by which words are compared
+-- a number for each reserved word, by which words are compared: different words have different numbers
 abbrev pub word_number : Word → ℕ
 word_number word.Type = 0
 word_number word.Layout = 1
@@ -70,7 +71,7 @@ abbrev pub is_number : Token → Bool
 is_number (token.Num n) = true
 is_number _ = false
 
--- what a reserved word begins as an expression, or `Other` where it begins none
+-- the form of the expression that a reserved word begins, or `Other` where it begins none
 unfoldable pub form_of : Word → Form
 form_of word.Add = form.Operation op.Add
 form_of word.Sub = form.Operation op.Sub

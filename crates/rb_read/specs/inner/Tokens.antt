@@ -15,7 +15,7 @@ unfoldable pub upper_name : ℕ → Reader NameTree
 upper_name total (token.Upper name ∷ ts) = Ok (record { at = total - suc (length ts); text = name }, ts)
 upper_name total ts = Err (stuck (length ts))
 
--- a number
+-- a number, with no bound of its own
 unfoldable pub number : Reader ℕ
 number (token.Num n ∷ ts) = Ok (n, ts)
 number ts = Err (stuck (length ts))
@@ -25,7 +25,7 @@ unfoldable pub field : Reader ℕ
 field (token.Num n ∷ ts) = if nat_lt n (2 ^ 32) then Ok (n, ts) else Err (stuck (suc (length ts)))
 field ts = Err (stuck (length ts))
 
--- the width of a type of integers, 1 to 64; it is stuck at another
+-- the width in bits of a type of integers, 1 to 64; it is stuck at one of 0 or over 64
 unfoldable pub width : Reader ℕ
 width (token.Uint bits ∷ ts) = if is_width bits then Ok (bits, ts) else Err (stuck (suc (length ts)))
 width ts = Err (stuck (length ts))
