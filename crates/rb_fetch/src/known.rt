@@ -32,7 +32,10 @@ pub(crate) struct Below {
     pub kept: Seq<usize>,
 }
 
-/// What follows of the leaves of a whole of type `ty` where the part at a place has this leaf.
+/// What follows where the part of a whole at a place has this leaf: the constructors of the part,
+/// and which of `leaves`, those that the whole could have so far, it can still have. The whole is
+/// of type `ty`, and `leaves` are numbers in its layout; `leaf` is a number in the layout of the
+/// part's own type.
 ///
 /// # Errors
 ///

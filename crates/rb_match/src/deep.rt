@@ -1,5 +1,12 @@
 //! Code of a test of a part whose leaves take subvalues apart: on the way of each leaf, what other tests
 //! need of it is saved.
+//!
+//! A hole is a target of a jump or a switch that is still open, with the number of what it is to
+//! lead to. Behind a look at a part that is a group of its leaves: one leaf by itself, or all
+//! leaves that lead on to one node of the graph and of which nothing is saved. An edge is a hole
+//! that is to lead to a node, with the facts that are known there of the value that is matched. The
+//! way of a leaf is what runs do behind the look where the part has that leaf, until they leave by
+//! an edge.
 
 ghost use Rattle.std.specs.Prelude.{◌≡◌, ◌∷◌, [], IfOk, OnOk, length};
 ghost use Rattle.rb_target.specs.Growth.{Grows};
@@ -258,7 +265,11 @@ fn edges_onward<'a>(
     Ok(edges)
 }
 
-// The ways of all leaves, from the slots of the part's words.
+// Code that looks which leaf a part has, from the slots of its words, and behind the look the way
+// of each leaf. Answers the edges by which the ways leave. `onward` says for each leaf, in their
+// order, where its values lead on; nothing where none of them can be here. A leaf of which parts
+// are saved has code of its own. Other leaves leave by the holes of the look itself, with what was
+// known before the test.
 fn open_ways<'a>(
     alloc: Global,
     body: &mut Body,

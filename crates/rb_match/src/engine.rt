@@ -1,4 +1,11 @@
 //! Code of a shared graph: each node once, from the root down.
+//!
+//! A hole is a target of a jump or a switch that is still open: the number of the instruction,
+//! which of its targets it is, and in `leaf` the number of what it is to lead to. An edge is a hole
+//! that is to lead to a node of the graph, whose number is its `leaf`, with the facts that are
+//! known there of the value that is matched. A way is one of the ends to which the holes of a list
+//! lead: those with the number `k` lead to way `k`. While the code is made these are nodes, and
+//! once all nodes have their code they are clauses.
 
 ghost use Rattle.std.specs.Prelude.{◌≡◌, ◌∷◌, [], IfOk, OnOk, length};
 ghost use Rattle.rb_target.specs.Growth.{Grows};
@@ -18,7 +25,8 @@ use rb_target::body::{Body, Hole};
 use rb_target::instr::Instr;
 use std::alloc::{AllocError, Global};
 
-// The holes that lead to a node, as ways to the one target.
+// The holes of the edges that lead to a node, in their order. Each has the number 0 in place of the
+// node's, since all of them get one target: they are of one way. None where no edge leads there.
 fn landing(alloc: Global, edges: &[Edge], node: usize) -> Result<Seq<Hole>, AllocError>
     ensures { IfOk result (λ holes. holes ≡ landing_of node edges.now) }
 {
@@ -44,7 +52,9 @@ fn others<'a>(edges: Seq<Edge<'a>>, node: usize) -> Seq<Edge<'a>>
     Seq::from_vec(rest)
 }
 
-/// Sets the targets of a node's edges to the end of the code.
+/// Lets all edges to a node lead to the end of the code, where the node's own code is to begin, and
+/// answers the edges to other nodes, which stay open, in their order. Where no edge leads to the
+/// node, the code stays as it is.
 ///
 /// # Errors
 ///

@@ -1,4 +1,6 @@
--- The code of a decision tree.
+-- The code of a decision tree. A hole is an open target of the code, with the number of the clause to which it is to
+-- lead. An edge is a hole for a node instead; a tree's code leaves by none, since each is closed once its node has
+-- code. A way through the tree is the positions that are tested from its root down to one clause, one after another.
 use Rattle.std.specs.Prelude.{◌≡◌, ℕ, ◌≤◌, List, map, length, Bool, Some}
 use Rattle.rb_core.specs.declared.value.Value.{Value}
 use Rattle.rb_core.specs.declared.types.Ty.{Ty}
@@ -33,7 +35,9 @@ pub record LeavesTree (plan : Plan) (ty : Ty) (pats : List Pat) (tree : Tree) (f
   pub looked : (p : Place) → IsPlaceIn p path → IsLookedAt plan.program.types ty pats p.path p.ty
   pub leaves : Leaves final next holes n (looks plan path) start s w k (λ s' m. Unit {0})
 
--- the code of a tree leads each value out by a hole of the clause that the tree takes of it
+-- what the code of a decision tree owes in one plan: the code from old to new, over reads of the words of a value of
+-- type ty, adds to the old code, and each run of it, in any finished code that closes its holes, leaves by a hole of
+-- the clause that the tree takes of the value; of a value of which the tree takes no clause it says nothing
 pub record TreeTakes (plan : Plan) (ty : Ty) (words : List Read) (pats : List Pat) (tree : Tree) (old new : Sheet)
     (holes : List Hole) : Type 0 where
   pub adds : Adds plan old new
