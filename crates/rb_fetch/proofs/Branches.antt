@@ -53,7 +53,7 @@ root_shown leaf k u is m =
 
 module _ (agreed : LaidOut) (flat : agreed.layouts ≡ flat_layouts agreed.covered.program) (agrees : Agrees agreed.covered.program) (t : ℕ) (leaves : List ℕ) (seen : Seen) (xs : List Subvalue) (path : List ℕ) where
   module _ (words : List ℕ) (l : ℕ) (con : ConRef) (root : HasRoot agreed.layouts con.ty l con.con) (ps : List Place) (below : shown_heads ps ≡ map (head_under path) (heads_in (leaf_at agreed.layouts con.ty l)))
-      (a b c : Sheet) (ys : List Subvalue) (ways : List Way) (fetches : FetchesFields agreed path con l words a b xs ys)
+      (a b c : Sheet) (ys : List Subvalue) (ways : List Way) (fetches : FetchesFields agreed path con.ty l words a b xs ys)
       (chooses : ChoosesFrom agreed t (leaves_beside agreed.layouts t (shown_heads ps) (leaves_that_can_be agreed.layouts t path con.con leaves)) (seen_more agreed.covered.program.types seen path ps) ys b c ways)
       (opened : AreOpen (length b.code) c.code ways) where
     abbrev here : Head
@@ -188,7 +188,7 @@ module _ (agreed : LaidOut) (flat : agreed.layouts ≡ flat_layouts agreed.cover
 
     pub chooses_under : ChoosesUnder agreed t leaves seen xs path con.ty words l a c ways
     chooses_under plan k layout inner ready read =
-        let f = fetches plan inner root.0 ready.of read (is_inner_leaf plan k layout inner ready read) root.2 in
+        let f = fetches plan inner root.0 ready.of read (is_inner_leaf plan k layout inner ready read) in
         let ch = chooses plan k layout (ready1 plan k layout inner ready read f) in
         record {
           adds = Adds-trans plan a b c f.adds ch.adds;

@@ -121,36 +121,36 @@ made types at c ps u of m = go (out-Value u) refl (sym (matches-Con u at c ps) �
           many = passed ps us b.1 ∙ ap length (sym subs_are);
         }
 
-module _ (agreed : LaidOut) (typed : IsTyped agreed.covered.program) (flat : agreed.layouts ≡ flat_layouts agreed.covered.program) (agrees : Agrees agreed.covered.program) (path : List ℕ) (con : ConRef) (l : ℕ) (words : List ℕ)
-    (old new : Sheet) (xs ys : List Subvalue) (found : Leaf) (is_found : leaf_at agreed.layouts con.ty l ≡ Some found) (at : ℕ) (root : ConRef) (ps : List Pat) (is_root : found.prov ≡ Con at root ps) (hs : List Held)
-    (more : ys ≡ xs ++ parts_under path 0 hs) (fetches : FetchesParts agreed con.ty l root ps (length ps) [] words old new hs) where
-  module _ (plan : Plan) (inner : Layout) (leaf : Leaf) (of : IsPlanOf agreed plan) (read : IsRead plan con.ty inner words old.slots) (is_leaf : slice_get inner.leaves l ≡ Some leaf) where
+module _ (agreed : LaidOut) (typed : IsTyped agreed.covered.program) (flat : agreed.layouts ≡ flat_layouts agreed.covered.program) (agrees : Agrees agreed.covered.program) (path : List ℕ) (ty : ℕ) (l : ℕ) (words : List ℕ)
+    (old new : Sheet) (xs ys : List Subvalue) (found : Leaf) (is_found : leaf_at agreed.layouts ty l ≡ Some found) (at : ℕ) (root : ConRef) (ps : List Pat) (is_root : found.prov ≡ Con at root ps) (hs : List Held)
+    (more : ys ≡ xs ++ parts_under path 0 hs) (fetches : FetchesParts agreed ty l root ps (length ps) [] words old new hs) where
+  module _ (plan : Plan) (inner : Layout) (leaf : Leaf) (of : IsPlanOf agreed plan) (read : IsRead plan ty inner words old.slots) (is_leaf : slice_get inner.leaves l ≡ Some leaf) where
     same_leaf : found ≡ leaf
-    same_leaf = same_Some found leaf (sym is_found ∙ ap (λ o. leaf_within o l) (ap (λ ls. layout_of ls con.ty) (sym of.layouts) ∙ read.is_inner) ∙ is_leaf)
+    same_leaf = same_Some found leaf (sym is_found ∙ ap (λ o. leaf_within o l) (ap (λ ls. layout_of ls ty) (sym of.layouts) ∙ read.is_inner) ∙ is_leaf)
 
     prov : leaf.prov ≡ Con at root ps
     prov = ap (λ (y : Leaf). y.prov) (sym same_leaf) ∙ is_root
 
-    abbrev position : PositionAt plan con.ty l [] (Named con.ty)
+    abbrev position : PositionAt plan ty l [] (Named ty)
     position = record { layout = inner; leaf = leaf; pat = leaf.prov; is_layout = read.is_inner; is_leaf = is_leaf; is_position = refl }
 
-    got : (length hs ≡ length ps) × PartsAreFetched plan con.ty l inner root ps [] words old new hs
-    got = fetches plan of at (Named con.ty) position prov read.below read.count
+    got : (length hs ≡ length ps) × PartsAreFetched plan ty l inner root ps [] words old new hs
+    got = fetches plan of at (Named ty) position prov read.below read.count
 
     abbrev sound : IsTyped plan.program × AreAgreed plan.program plan.layouts
-    sound = of_plan agreed typed flat agrees con.ty plan of
+    sound = of_plan agreed typed flat agrees ty plan of
 
-    root_type_is : root.ty ≡ con.ty
+    root_type_is : root.ty ≡ ty
     root_type_is =
-        let r : root_type (out-Pat leaf.prov) ≡ Named con.ty = root_is plan sound.0 sound.1 con.ty l inner leaf read.is_inner is_leaf in
-        let e : Named root.ty ≡ Named con.ty = ap root_type (sym (outs-Con at root ps)) ∙ ap (λ p. root_type (out-Pat p)) (sym prov) ∙ r in
-        same_Some root.ty con.ty (ap number_of e)
+        let r : root_type (out-Pat leaf.prov) ≡ Named ty = root_is plan sound.0 sound.1 ty l inner leaf read.is_inner is_leaf in
+        let e : Named root.ty ≡ Named ty = ap root_type (sym (outs-Con at root ps)) ∙ ap (λ p. root_type (out-Pat p)) (sym prov) ∙ r in
+        same_Some root.ty ty (ap number_of e)
       where
         number_of : Ty → Option ℕ
         number_of (Named t) = Some t
         number_of (Int bits) = None
 
-    module _ (v u : Value) (at_u : part_at v path ≡ Some u) (of_u : is_of_type plan.program.types u (Named con.ty) ≡ true) (is : leaf_of inner u ≡ Some l) where
+    module _ (v u : Value) (at_u : part_at v path ≡ Some u) (of_u : is_of_type plan.program.types u (Named ty) ≡ true) (is : leaf_of inner u ≡ Some l) where
       u_made : IsMade plan.program.types root ps u
       u_made =
           made plan.program.types at root ps u (ap (λ t. is_of_type plan.program.types u (Named t)) root_type_is ∙ of_u)
@@ -188,7 +188,7 @@ module _ (agreed : LaidOut) (typed : IsTyped agreed.covered.program) (flat : agr
           let rep = held_each plan clean s m hs (subs u) a.number a.held t.0 held a.is_held t.1 in
           subst (λ (y : Subvalue). Rep plan m clean y.held.ty w (slots_at s y.held.slots)) (sym a.is_part) (subst (λ y. Rep plan m clean a.held.ty y (slots_at s a.held.slots)) same rep)
 
-      goes : (clean : Bool) → Piece plan old.slots old new Nowhere (mend_leaf (choose_of plan.layouts) leaf) (λ s1 m. IsGood m × Rep plan m clean (Named con.ty) u (slots_at s1 words))
+      goes : (clean : Bool) → Piece plan old.slots old new Nowhere (mend_leaf (choose_of plan.layouts) leaf) (λ s1 m. IsGood m × Rep plan m clean (Named ty) u (slots_at s1 words))
           (AtEnd new (λ s1 m. PartsHold plan clean v s1 m (parts_under path 0 hs)))
       goes clean =
           let many : length hs ≤ length (subs u) = let a = got.0 in let b = u_made.many in omega (arith, a, b) in
@@ -196,7 +196,7 @@ module _ (agreed : LaidOut) (typed : IsTyped agreed.covered.program) (flat : agr
           let all_ps : take (length hs) ps ≡ ps = take-all (length hs) ps (let a = got.0 in omega (arith, a)) in
           let cost : sum_by (mend_under plan.layouts) (take (length hs) ps) ≡ mend_leaf (choose_of plan.layouts) leaf = ap (sum_by (mend_under plan.layouts)) all_ps ∙ sym (mend_fields plan.layouts leaf at root ps prov) in
           let p = got.1.runs clean u u is refl many in
-          let Pre : List ℕ → Memory → Type 0 = λ s1 m. IsGood m × Rep plan m clean (Named con.ty) u (slots_at s1 words) in
+          let Pre : List ℕ → Memory → Type 0 = λ s1 m. IsGood m × Rep plan m clean (Named ty) u (slots_at s1 words) in
           piece_weaken plan old.slots old.slots old new Nowhere (sum_by (mend_under plan.layouts) (take (length hs) ps)) (mend_leaf (choose_of plan.layouts) leaf) Pre Pre
           (AtEnd new (λ s1 m. AreHeld plan clean s1 m hs (take (length hs) (subs u)))) (AtEnd new (λ s1 m. PartsHold plan clean v s1 m (parts_under path 0 hs))) (omega arith) (omega (arith, cost)) (λ s1 m x. x)
           (λ pc s1 m x. (x.0, hold_parts clean s1 m (subst (λ ws. AreHeld plan clean s1 m hs ws) all_vs x.1))) p
@@ -207,8 +207,8 @@ module _ (agreed : LaidOut) (typed : IsTyped agreed.covered.program) (flat : agr
         let g = given_each plan new.slots hs a.number a.held got.1.given a.is_held in
         subst (λ (y : Subvalue). AllBelow new.slots y.held.slots × (length y.held.slots ≡ words_of plan y.held.ty)) (sym a.is_part) g
 
-  pub fetches_fields : FetchesFields agreed path con l words old new xs ys
-  fetches_fields plan inner leaf of read is_leaf root_is1 = record {
+  pub fetches_fields : FetchesFields agreed path ty l words old new xs ys
+  fetches_fields plan inner leaf of read is_leaf = record {
     adds = (got plan inner leaf of read is_leaf).1.adds;
     fresh = parts_under path 0 hs;
     more = more;
@@ -218,15 +218,15 @@ module _ (agreed : LaidOut) (typed : IsTyped agreed.covered.program) (flat : agr
   }
 
 -- fields that are not needed are not fetched
-pub fetches_none : (agreed : LaidOut) (path : List ℕ) (con : ConRef) (l : ℕ) (words : List ℕ) (old : Sheet) (xs : List Subvalue) → FetchesFields agreed path con l words old old xs xs
-fetches_none agreed path con l words old xs plan inner leaf of read is_leaf root = record {
+pub fetches_none : (agreed : LaidOut) (path : List ℕ) (ty : ℕ) (l : ℕ) (words : List ℕ) (old : Sheet) (xs : List Subvalue) → FetchesFields agreed path ty l words old old xs xs
+fetches_none agreed path ty l words old xs plan inner leaf of read is_leaf = record {
   adds = Adds-refl plan old;
   fresh = [];
   more = sym (append-nil xs);
   given = λ k x e. absurd cc;
   parts = λ v u at of_u is k x e. absurd cc;
   does = λ v u at of_u is clean.
-      let Pre : List ℕ → Memory → Type 0 = λ s1 m. IsGood m × Rep plan m clean (Named con.ty) u (slots_at s1 words) in
+      let Pre : List ℕ → Memory → Type 0 = λ s1 m. IsGood m × Rep plan m clean (Named ty) u (slots_at s1 words) in
       let Post : List ℕ → Memory → Type 0 = λ s1 m. PartsHold plan clean v s1 m [] in
       piece_weaken plan old.slots old.slots old old Nowhere 0 (mend_leaf (choose_of plan.layouts) leaf) Pre Pre (AtEnd old Post) (AtEnd old Post) (omega arith) (omega arith) (λ s1 m x. x) (λ pc s1 m x. x)
       (piece_none plan old.slots old Pre Post (omega arith) (λ s1 m x k y e. absurd cc));

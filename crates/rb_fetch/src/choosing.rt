@@ -35,6 +35,42 @@ use rb_target::body::{Body, Hole};
 use rb_target::instr::Instr;
 use std::alloc::{AllocError, Global};
 
+// A construction whose leaf is asked for: the program, the type, and which leaves it can still have.
+#[derive(Clone, Copy)]
+struct Whole<'a> {
+    // The program, with its layouts.
+    agreed: &'a Agreed,
+    // The data type that is constructed, by number.
+    ty: u32,
+    // Leaves by number in the layout of that type. The value has one of them; where there are none,
+    // no value comes here.
+    leaves: &'a [usize],
+}
+
+// A part of a construction, with its words in slots. The leaf of the part tells leaves of the whole
+// apart.
+#[derive(Clone, Copy)]
+struct Part<'a> {
+    // Its position in the whole, and the constructor that some leaf of the whole has there, which
+    // tells the type of the part.
+    place: &'a Place,
+    // The slots of its words, one a word, in their order.
+    words: &'a [usize],
+}
+
+/// A value in slots whose leaf is known: parts of it are fetched from there.
+#[derive(Clone, Copy)]
+pub(crate) struct Source<'a> {
+    /// The program, with its layouts.
+    pub agreed: &'a Agreed,
+    /// The data type of the value, by number.
+    pub ty: u32,
+    /// The leaf of the value, by number in the layout of that type.
+    pub leaf: usize,
+    /// The slots of the words of the value, one a word, in their order.
+    pub words: &'a [usize],
+}
+
 // The code of the leaves of a part: where that of each begins, and all ways out.
 #[derive(Drop)]
 struct Branches {
@@ -111,35 +147,32 @@ pub(crate) fn choose_leaf_at(
     let mut parts = parts_of(alloc, args)?;
     let looked = bare_paths(alloc, program.types.as_slice(), known.as_slice())?;
     let mut seen = Seen { looked, known };
-    let ways = choose(
-        alloc,
-        body,
+    let leaves = leaves.as_slice();
+    let whole = Whole {
         agreed,
-        depth - 1,
-        con.ty,
-        leaves.as_slice(),
-        &mut parts,
-        &mut seen,
-    )?;
+        ty: con.ty,
+        leaves,
+    };
+    let ways = choose(alloc, body, depth - 1, &whole, &mut parts, &mut seen)?;
     let holes = holes_of(alloc, ways.as_slice())?;
     Ok(Choices { holes, ways })
 }
 
-// Code that looks into a construction of a type whose leaf is one of some, until it is known. The parts
-// that are in slots and what is known are lent for more, and on `Ok` are what they were.
+// Code that looks into a construction whose leaf is one of those of `whole`, until it is known.
+// `parts` are in slots, and `seen` is known of the value: both are lent for more, and on `Ok` are
+// what they were. Where there are no leaves, nothing is added, and there is no way. Want of memory
+// at a `depth` of 0.
 #[cycle(fetching)]
 fn choose(
     alloc: Global,
     body: &mut Body,
-    agreed: &Agreed,
     depth: usize,
-    ty: u32,
-    leaves: &[usize],
+    whole: &Whole,
     parts: &mut Seq<Subvalue>,
     seen: &mut Seen,
 ) -> Result<Seq<Way>, AllocError>
-    ensures chooses { IfOk result
-        (λ ways. ChoosesFrom agreed.now ty leaves.now seen.old parts.old body.old body.new ways) }
+    ensures chooses { IfOk result (λ ways. ChoosesFrom whole.now.agreed.now whole.now.ty whole.now.leaves.now
+        seen.old parts.old body.old body.new ways) }
     ensures ways { IfOk result (λ ways. AreOpen (length body.old.code) body.new.code ways) }
     ensures grows { OnOk result (Grows body.old.code body.new.code) }
     ensures parts { OnOk result (parts.new ≡ parts.old) }
@@ -148,6 +181,9 @@ fn choose(
     if depth == 0 {
         return Err(AllocError);
     }
+    let agreed = whole.agreed;
+    let ty = whole.ty;
+    let leaves = whole.leaves;
     let _typed = agreed.covered().program();
     let mut ways = Seq::new(alloc);
     let [leaf, ..] = leaves else {
@@ -164,38 +200,26 @@ fn choose(
             Ok(ways)
         }
         Some(place) => {
-            let ways = choose_at(
-                alloc,
-                body,
-                agreed,
-                depth - 1,
-                ty,
-                leaves,
-                parts,
-                seen,
-                place,
-            )?;
+            let ways = choose_at(alloc, body, depth - 1, whole, parts, seen, place)?;
             Ok(ways)
         }
     }
 }
 
-// Code that chooses among leaves of a type where the next question is the leaf of the part at a
-// place. What is known of the value may tell it; else the code looks there.
+// Code that chooses among the leaves of `whole`, as `choose` does, where the next question is the
+// leaf of the part at a place. What is known of the value may tell it; else the code looks there.
 #[cycle(fetching)]
 fn choose_at(
     alloc: Global,
     body: &mut Body,
-    agreed: &Agreed,
     depth: usize,
-    ty: u32,
-    leaves: &[usize],
+    whole: &Whole,
     parts: &mut Seq<Subvalue>,
     seen: &mut Seen,
     place: &Place,
 ) -> Result<Seq<Way>, AllocError>
-    ensures chooses { IfOk result (λ ways. ChoosesBy agreed.now ty leaves.now seen.old parts.old place.now.path
-        place.now.con.ty body.old body.new ways) }
+    ensures chooses { IfOk result (λ ways. ChoosesBy whole.now.agreed.now whole.now.ty whole.now.leaves.now
+        seen.old parts.old place.now.path place.now.con.ty body.old body.new ways) }
     ensures ways { IfOk result (λ ways. AreOpen (length body.old.code) body.new.code ways) }
     ensures grows { OnOk result (Grows body.old.code body.new.code) }
     ensures parts { OnOk result (parts.new ≡ parts.old) }
@@ -204,6 +228,7 @@ fn choose_at(
     if depth == 0 {
         return Err(AllocError);
     }
+    let agreed = whole.agreed;
     let _typed = agreed.covered().program();
     let own = place.con.ty;
     let path = place.path.as_slice();
@@ -211,41 +236,35 @@ fn choose_at(
     let words = held.as_slice();
     let known = seen.known.as_slice();
     let alone = leaf_known(alloc, agreed.layouts(), own, path, known)?;
-    let depth = depth - 1;
+    let part = Part { place, words };
     match alone {
         Some(inner) => {
-            let ways = choose_under(
-                alloc, body, agreed, depth, ty, leaves, parts, seen, place, words, inner,
-            )?;
+            let ways = choose_under(alloc, body, depth - 1, whole, parts, seen, &part, inner)?;
             Ok(ways)
         }
         None => {
-            let ways = look(
-                alloc, body, agreed, depth, ty, leaves, parts, seen, place, words,
-            )?;
+            let ways = look(alloc, body, depth - 1, whole, parts, seen, &part)?;
             Ok(ways)
         }
     }
 }
 
-// Code that chooses among leaves of a type by a look at the part at a place, whose words are in
-// slots: behind the look, each leaf of the part has its own code.
+// Code that chooses among the leaves of `whole`, as `choose` does, by a look at `part`, one of
+// `parts`: behind the look, each leaf of the part has its own code.
 #[cycle(fetching)]
 fn look(
     alloc: Global,
     body: &mut Body,
-    agreed: &Agreed,
     depth: usize,
-    ty: u32,
-    leaves: &[usize],
+    whole: &Whole,
     parts: &mut Seq<Subvalue>,
     seen: &mut Seen,
-    place: &Place,
-    words: &[usize],
+    part: &Part,
 ) -> Result<Seq<Way>, AllocError>
-    ensures chooses { IfOk result (λ ways. IsPartIn parts.old place.now.path place.now.con.ty words.now
-        → ChoosesBy agreed.now ty leaves.now seen.old parts.old place.now.path place.now.con.ty body.old body.new
-        ways) }
+    ensures chooses { IfOk result (λ ways.
+        IsPartIn parts.old part.now.place.now.path part.now.place.now.con.ty part.now.words.now
+        → ChoosesBy whole.now.agreed.now whole.now.ty whole.now.leaves.now seen.old parts.old
+        part.now.place.now.path part.now.place.now.con.ty body.old body.new ways) }
     ensures ways { IfOk result (λ ways. AreOpen (length body.old.code) body.new.code ways) }
     ensures grows { OnOk result (Grows body.old.code body.new.code) }
     ensures parts { OnOk result (parts.new ≡ parts.old) }
@@ -254,44 +273,33 @@ fn look(
     if depth == 0 {
         return Err(AllocError);
     }
-    let Some(count) = count_leaves(agreed.layouts(), place.con.ty) else {
+    let agreed = whole.agreed;
+    let own = part.place.con.ty;
+    let Some(count) = count_leaves(agreed.layouts(), own) else {
         return Err(AllocError);
     };
-    let holes = find_leaf(alloc, body, words, agreed, place.con.ty)?;
-    let branches = choose_each(
-        alloc,
-        body,
-        agreed,
-        depth - 1,
-        ty,
-        leaves,
-        parts,
-        seen,
-        place,
-        words,
-        count,
-    )?;
+    let holes = find_leaf(alloc, body, part.words, agreed, own)?;
+    let branches = choose_each(alloc, body, depth - 1, whole, parts, seen, part, count)?;
     patch_all(body, holes.as_slice(), branches.starts.as_slice());
     Ok(branches.ways)
 }
 
-// The code of each leaf of the part at a place, one behind the other.
+// The code behind a look at `part` for each of the first `count` leaves of its type, in their
+// order, one behind the other. `whole`, `parts` and `seen` are as `choose` has them.
 #[cycle(fetching)]
 fn choose_each(
     alloc: Global,
     body: &mut Body,
-    agreed: &Agreed,
     depth: usize,
-    ty: u32,
-    leaves: &[usize],
+    whole: &Whole,
     parts: &mut Seq<Subvalue>,
     seen: &mut Seen,
-    place: &Place,
-    words: &[usize],
+    part: &Part,
     count: usize,
 ) -> Result<Branches, AllocError>
-    ensures done { IfOk result (λ b. BranchesDone agreed.now ty leaves.now seen.old parts.old place.now.path
-        place.now.con.ty words.now count body.old body.new b.starts b.ways) }
+    ensures done { IfOk result (λ b. BranchesDone whole.now.agreed.now whole.now.ty whole.now.leaves.now
+        seen.old parts.old part.now.place.now.path part.now.place.now.con.ty part.now.words.now
+        count body.old body.new b.starts b.ways) }
     ensures parts { OnOk result (parts.new ≡ parts.old) }
     ensures seen { OnOk result (seen.new ≡ seen.old) }
 {
@@ -302,19 +310,7 @@ fn choose_each(
     let mut starts = Seq::new(alloc);
     for inner in 0..count {
         starts.push(body.len())?;
-        let more = choose_under(
-            alloc,
-            body,
-            agreed,
-            depth - 1,
-            ty,
-            leaves,
-            parts,
-            seen,
-            place,
-            words,
-            inner,
-        )?;
+        let more = choose_under(alloc, body, depth - 1, whole, parts, seen, part, inner)?;
         if let Some(_) = ways.append(more) {
             return Err(AllocError);
         }
@@ -322,24 +318,23 @@ fn choose_each(
     Ok(Branches { starts, ways })
 }
 
-// The code that goes on where the part at a place has leaf `inner`: among the leaves that can still
-// be the whole's then. The fields of the part are fetched first if one of them takes it apart.
+// The code that goes on where `part` has leaf number `inner` of its type: it chooses among those
+// leaves of `whole` that it can still have then. The fields of the part are fetched first if one of
+// these leaves takes it apart. `parts` and `seen` are as `choose` has them.
 #[cycle(fetching)]
 fn choose_under(
     alloc: Global,
     body: &mut Body,
-    agreed: &Agreed,
     depth: usize,
-    ty: u32,
-    leaves: &[usize],
+    whole: &Whole,
     parts: &mut Seq<Subvalue>,
     seen: &mut Seen,
-    place: &Place,
-    words: &[usize],
+    part: &Part,
     inner: usize,
 ) -> Result<Seq<Way>, AllocError>
-    ensures chooses { IfOk result (λ ways. ChoosesUnder agreed.now ty leaves.now seen.old parts.old place.now.path
-        place.now.con.ty words.now inner body.old body.new ways) }
+    ensures chooses { IfOk result (λ ways. ChoosesUnder whole.now.agreed.now whole.now.ty whole.now.leaves.now
+        seen.old parts.old part.now.place.now.path part.now.place.now.con.ty part.now.words.now
+        inner body.old body.new ways) }
     ensures ways { IfOk result (λ ways. AreOpen (length body.old.code) body.new.code ways) }
     ensures grows { OnOk result (Grows body.old.code body.new.code) }
     ensures parts { OnOk result (parts.new ≡ parts.old) }
@@ -348,54 +343,47 @@ fn choose_under(
     if depth == 0 {
         return Err(AllocError);
     }
+    let agreed = whole.agreed;
+    let ty = whole.ty;
+    let place = part.place;
     let layouts = agreed.layouts();
-    let Below { root, heads, kept } = below_leaf(alloc, layouts, ty, leaves, place, inner)?;
-    let con = ConRef {
+    let Below { heads, kept, .. } = below_leaf(alloc, layouts, ty, whole.leaves, place, inner)?;
+    let source = Source {
+        agreed,
         ty: place.con.ty,
-        con: root,
+        leaf: inner,
+        words: part.words,
     };
     let needed = take_apart(alloc, layouts, ty, kept.as_slice(), place.path.as_slice())?;
     let had = parts.len();
-    fetch_fields(
-        alloc,
-        body,
-        agreed,
-        depth - 1,
-        &place.path,
-        con,
-        inner,
-        words,
-        needed,
-        parts,
-    )?;
+    fetch_fields(alloc, body, depth - 1, &source, &place.path, needed, parts)?;
     let looked = seen.looked.len();
     let known = seen.known.len();
     let types = agreed.covered().program().types.as_slice();
     see(alloc, types, seen, &place.path, heads)?;
-    let kept = kept.as_slice();
-    let ways = choose(alloc, body, agreed, depth - 1, ty, kept, parts, seen)?;
+    let leaves = kept.as_slice();
+    let fewer = Whole { agreed, ty, leaves };
+    let ways = choose(alloc, body, depth - 1, &fewer, parts, seen)?;
     forget(seen, looked, known);
     parts.truncate(had);
     Ok(ways)
 }
 
-// Fetches the fields of the part at a place whose leaf is known, and adds them to the parts of the
-// whole; nothing where they are not needed.
+// Fetches the fields of `source`, which is the part of a whole at a path, and adds them to `parts`,
+// those of the whole that are in slots; nothing where they are not needed. Want of memory at a
+// `depth` of 0.
 #[cycle(fetching)]
 fn fetch_fields(
     alloc: Global,
     body: &mut Body,
-    agreed: &Agreed,
     depth: usize,
+    source: &Source,
     path: &Seq<u32>,
-    con: ConRef,
-    leaf: usize,
-    words: &[usize],
     needed: bool,
     parts: &mut Seq<Subvalue>,
 ) -> Result<(), AllocError>
-    ensures fetches { OnOk result
-        (FetchesFields agreed.now path.now con leaf words.now body.old body.new parts.old parts.new) }
+    ensures fetches { OnOk result (FetchesFields source.now.agreed.now path.now source.now.ty source.now.leaf
+        source.now.words.now body.old body.new parts.old parts.new) }
     ensures parts { OnOk result (take (length parts.old) parts.new ≡ parts.old) }
     ensures grows { OnOk result (Grows body.old.code body.new.code) }
 {
@@ -405,8 +393,9 @@ fn fetch_fields(
     if !needed {
         return Ok(());
     }
+    let agreed = source.agreed;
     let _typed = agreed.covered().program();
-    let Some(found) = leaf_at(agreed.layouts(), con.ty, leaf) else {
+    let Some(found) = leaf_at(agreed.layouts(), source.ty, source.leaf) else {
         return Err(AllocError);
     };
     match &found.prov {
@@ -414,113 +403,80 @@ fn fetch_fields(
         Pat::Con(_, root, subs) => {
             let here = Seq::new(alloc);
             let subs = subs.as_slice();
-            let fields = fetch_parts(
-                alloc,
-                body,
-                words,
-                agreed,
-                depth - 1,
-                con.ty,
-                leaf,
-                *root,
-                subs,
-                &here,
-            )?;
+            let fields = fetch_parts(alloc, body, depth - 1, source, *root, subs, &here)?;
             add_parts(alloc, path, fields.as_slice(), parts)?;
             Ok(())
         }
     }
 }
 
-// Code that leaves the part of a value at a path below the root of its leaf's provenance, at which this pattern
-// stands, in slots. There are wildcards and constructors there alone.
+// Code that leaves the part of `source` at a path below its root in slots, a word each. The
+// provenance of its leaf has the pattern `pat` there: a wildcard or a constructor, and of another
+// pattern want of memory is the answer, as it is at a `depth` of 0.
 #[cycle(fetching)]
 pub(crate) fn fetch_part(
     alloc: Global,
     body: &mut Body,
-    words: &[usize],
-    agreed: &Agreed,
     depth: usize,
-    ty: u32,
-    leaf: usize,
+    source: &Source,
     pat: &Pat,
     path: &Seq<u32>,
 ) -> Result<Seq<usize>, AllocError>
-    ensures fetches { IfOk result
-        (λ slots. FetchesPart agreed.now ty leaf pat.now path.now words.now body.old body.new slots) }
+    ensures fetches { IfOk result (λ slots. FetchesPart source.now.agreed.now source.now.ty source.now.leaf
+        pat.now path.now source.now.words.now body.old body.new slots) }
     ensures grows { OnOk result (Grows body.old.code body.new.code) }
 {
     if depth == 0 {
         return Err(AllocError);
     }
+    let agreed = source.agreed;
     let _typed = agreed.covered().program();
     let _agreed = agreed.layouts();
     match pat {
         Pat::Var(_, _) | Pat::Num(_, _) => Err(AllocError),
         Pat::Wild(_) => {
+            let (words, ty, leaf) = (source.words, source.ty, source.leaf);
             let slots = fetch_open(alloc, body, words, agreed, ty, leaf, path.as_slice())?;
             Ok(slots)
         }
         Pat::Con(_, con, subs) => {
             let subs = subs.as_slice();
-            let args = fetch_parts(
-                alloc,
-                body,
-                words,
-                agreed,
-                depth - 1,
-                ty,
-                leaf,
-                *con,
-                subs,
-                path,
-            )?;
+            let args = fetch_parts(alloc, body, depth - 1, source, *con, subs, path)?;
             let held = construct_at(alloc, body, agreed, depth - 1, *con, args.as_slice(), subs)?;
             Ok(held.slots)
         }
     }
 }
 
-// Code that leaves the parts at the fields of a constructor in slots, in their order. The
-// constructor stands at a path of the provenance of the leaf, with these subpatterns.
+// Code that leaves the parts of `source` at the fields of a constructor in slots, in their order.
+// The constructor stands at a path of the provenance of its leaf, with the subpatterns `subs`, one
+// a field. Want of memory at a `depth` of 0.
 #[cycle(fetching)]
 fn fetch_parts(
     alloc: Global,
     body: &mut Body,
-    words: &[usize],
-    agreed: &Agreed,
     depth: usize,
-    ty: u32,
-    leaf: usize,
+    source: &Source,
     con: ConRef,
     subs: &[Pat],
     path: &Seq<u32>,
 ) -> Result<Seq<Held>, AllocError>
-    ensures fetches { IfOk result (λ args. FetchesParts agreed.now ty leaf con subs.now
-        (length subs.now) path.now words.now body.old body.new args) }
+    ensures fetches { IfOk result (λ args. FetchesParts source.now.agreed.now source.now.ty source.now.leaf
+        con subs.now (length subs.now) path.now source.now.words.now body.old body.new args) }
     ensures grows { OnOk result (Grows body.old.code body.new.code) }
 {
     let mut args = Seq::new(alloc);
     if depth == 0 {
         return Err(AllocError);
     }
+    let agreed = source.agreed;
     let fields = types_of_fields(agreed.covered().program().types.as_slice(), con);
     for (j, sub) in subs.iter().enumerate() {
         let Some(field) = fields.get(j) else {
             return Err(AllocError);
         };
         let longer = field_path(alloc, path, j)?;
-        let slots = fetch_part(
-            alloc,
-            body,
-            words,
-            agreed,
-            depth - 1,
-            ty,
-            leaf,
-            sub,
-            &longer,
-        )?;
+        let slots = fetch_part(alloc, body, depth - 1, source, sub, &longer)?;
         args.push(Held { ty: *field, slots })?;
     }
     Ok(args)

@@ -7,7 +7,7 @@ ghost use Rattle.rb_target.specs.Growth.{Grows};
 ghost use Rattle.rb_fetch.specs.Fields.{FetchesField};
 ghost use Rattle.rb_fetch.specs.inner.Rebuilding.{FetchesOpen, pattern_at, sub_at};
 
-use crate::choosing::fetch_part;
+use crate::choosing::{Source, fetch_part};
 use crate::field::field_reads;
 use crate::heads::leaf_at;
 use rb_core::pattern::Pat;
@@ -58,7 +58,13 @@ pub(crate) fn fetch_field_at(
                 return Err(AllocError);
             };
             let path = copy_path(alloc, path)?;
-            let slots = fetch_part(alloc, body, words, agreed, depth - 1, ty, leaf, pat, &path)?;
+            let source = Source {
+                agreed,
+                ty,
+                leaf,
+                words,
+            };
+            let slots = fetch_part(alloc, body, depth - 1, &source, pat, &path)?;
             Ok(slots)
         }
     }

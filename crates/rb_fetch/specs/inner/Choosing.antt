@@ -5,7 +5,6 @@ use Rattle.std.specs.List.{filter}
 use Rattle.rb_core.specs.declared.value.Value.{Value, out-Value}
 use Rattle.rb_core.specs.declared.value.Value.TheOpen as V
 use Rattle.rb_core.specs.declared.value.Value.TheOpen.{Value-F}
-use Rattle.rb_core.specs.declared.types.ConRef.{ConRef}
 use Rattle.rb_core.specs.declared.types.DataDecl.{DataDecl}
 use Rattle.rb_core.specs.declared.types.Ty.{Ty}
 use Rattle.rb_core.specs.declared.types.Ty.TheVariants.{Named}
@@ -255,14 +254,11 @@ pub record GivesFields (plan : Plan) (path : List ℕ) (s l : ℕ) (inner : Layo
       (AtEnd new (λ s1 m. PartsHold plan clean v s1 m fresh))
 
 -- in every plan of the agreed program, the code from old to new fetches parts of the whole, perhaps none, from the
--- part at `path`, whose leaf is l, for constructor con, and whose words are in slots; the parts are xs before and ys
--- with them
-abbrev pub FetchesFields : LaidOut → List ℕ → ConRef → ℕ → List ℕ → Sheet → Sheet → List Subvalue → List Subvalue
-    → Type 0
-FetchesFields agreed path con l words old new xs ys =
-    (plan : Plan) (inner : Layout) (leaf : Leaf) → IsPlanOf agreed plan → IsRead plan con.ty inner words old.slots
-    → slice_get inner.leaves l ≡ Some leaf
-    → is_leaf_for con.con leaf ≡ true → GivesFields plan path con.ty l inner leaf words old new xs ys
+-- part at `path`, of type s, whose leaf is l, and whose words are in slots; the parts are xs before and ys with them
+abbrev pub FetchesFields : LaidOut → List ℕ → ℕ → ℕ → List ℕ → Sheet → Sheet → List Subvalue → List Subvalue → Type 0
+FetchesFields agreed path s l words old new xs ys =
+    (plan : Plan) (inner : Layout) (leaf : Leaf) → IsPlanOf agreed plan → IsRead plan s inner words old.slots
+    → slice_get inner.leaves l ≡ Some leaf → GivesFields plan path s l inner leaf words old new xs ys
 
 -- where the part at the place has leaf l, the code takes each value of one of the leaves to a way of its leaf
 pub record ChoosesBelow (plan : Plan) (t k : ℕ) (layout : Layout) (leaves : List ℕ) (seen : Seen)

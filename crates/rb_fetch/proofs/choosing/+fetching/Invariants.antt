@@ -30,7 +30,7 @@ decreases-fetch_parts l = l.depth
 
 abbrev pub invariant-choose_each-loop-inner : goal.invariant-choose_each-loop-inner
 invariant-choose_each-loop-inner l = record {
-  done : BranchesDone l.agreed l.ty l.leaves l.fn.seen l.fn.parts l.place.path l.place.con.ty l.words l.inner l.fn.body l.body l.starts l.ways;
+  done : BranchesDone l.whole.agreed.now l.whole.ty l.whole.leaves.now l.fn.seen l.fn.parts l.part.place.now.path l.part.place.now.con.ty l.part.words.now l.inner l.fn.body l.body l.starts l.ways;
   parts : l.parts ≡ l.fn.parts;
   seen : l.seen ≡ l.fn.seen;
 }
@@ -44,5 +44,5 @@ decreases-construct_at l = l.depth
 abbrev pub invariant-fetch_parts-loop-j : goal.invariant-fetch_parts-loop-j
 invariant-fetch_parts-loop-j l = record {
   grows : Grows l.fn.body.code l.body.code;
-  fetches : FetchesParts l.agreed l.ty l.leaf l.fn.con l.subs l.j l.path l.words l.fn.body l.body l.args;
+  fetches : FetchesParts l.source.agreed.now l.source.ty l.source.leaf l.fn.con l.subs l.j l.path l.source.words.now l.fn.body l.body l.args;
 }
