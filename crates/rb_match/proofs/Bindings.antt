@@ -51,7 +51,7 @@ use Rattle.rb_fetch.specs.Finding.{IsPlanOf, leaf_count, leaves_within}
 use Rattle.rb_match.specs.Choosing.{Binds}
 use Rattle.rb_match.specs.inner.Asking.{leaf_in}
 use Rattle.rb_match.specs.inner.Binding.{is_unbound, IsOnlyLeaf, BindsAt, BindsParts, FieldsMatch, BindsFields, FieldMatches, BindsField, fields_bound}
-use Rattle.rb_match.proofs.Apart.{unbound_binds}
+use Rattle.rb_match.proofs.Unbound.{unbound_binds}
 use Rattle.rb_match.proofs.Edges.{same-nat}
 
 both : (a b : Bool) → (a && b) ≡ true → (a ≡ true) × (b ≡ true)

@@ -1,4 +1,3 @@
-mod Apart
 mod Bindings
 mod Bounds
 mod Chosen
@@ -23,3 +22,4 @@ mod Shown
 mod Testing
 mod Threads
 mod Together
+mod Unbound

@@ -37,7 +37,7 @@ use Rattle.rb_match.specs.inner.Asking.{AreSpots}
 use Rattle.rb_match.specs.inner.Binding.{AreSeen, BindsAt, BindsSaved, BindsSpot, BindsSpots, FieldMatches, FieldsMatch, SavesTogether, fields_bound, is_unbound}
 use Rattle.rb_match.specs.inner.Knowing.{FollowsSaved, seen}
 use Rattle.rb_match.specs.inner.Saving.{Anything, GivesSpots, IsSpotAt, IsThere}
-use Rattle.rb_match.proofs.Apart.{unbound_binds}
+use Rattle.rb_match.proofs.Unbound.{unbound_binds}
 use Rattle.rb_match.proofs.Bindings.{begins_with, con_bound, fields_more, kept, scope-append}
 use Rattle.rb_match.proofs.Composing.{pieces, piece_framed, piece_less}
 use Rattle.rb_match.proofs.Following.{known-kept}

@@ -19,9 +19,9 @@ use Rattle.rb_target.proofs.Growing.{below_or}
 use Rattle.rb_match.specs.declared.knowledge.Known.{Known}
 use Rattle.rb_match.specs.declared.knowledge.Known.TheVariants as K
 use Rattle.rb_match.specs.inner.Knowing.{IsKnown}
-use Rattle.rb_match.specs.inner.Binding.{AreApart}
+use Rattle.rb_matrix.specs.Apart.{AreApart}
 use Rattle.rb_match.specs.inner.Threading.{AllFollow, AreWild, BeginsWith, Covers, HasSub, IsAtLeaf, IsFirst, IsLeafOfAll, IsWild, ShowTogether, Tells, TellTogether}
-use Rattle.rb_match.proofs.Apart.{pass-at}
+use Rattle.rb_matrix.proofs.Differing.{pass-at}
 use Rattle.rb_match.proofs.Bindings.{begins_with}
 use Rattle.rb_match.proofs.Following.{snoc-at}
 use Rattle.rb_match.proofs.LeafTests.{both}

@@ -1,44 +1,9 @@
 //! What patterns tell by themselves.
 
 ghost use Rattle.std.specs.Prelude.{◌≡◌, map};
-ghost use Rattle.std.specs.Bool.{OnTrue};
-ghost use Rattle.rb_match.specs.inner.Binding.{all_unbound, AreApart, HaveApart, is_unbound};
+ghost use Rattle.rb_match.specs.inner.Binding.{all_unbound, is_unbound};
 
 use rb_core::pattern::Pat;
-
-/// Whether two patterns have different constructors in one place, so that no value matches both.
-#[cycle(comparing)]
-pub fn are_apart(one: &Pat, other: &Pat) -> bool
-    ensures { OnTrue result (AreApart one.now other.now) }
-{
-    match one {
-        Pat::Wild(_) | Pat::Var(_, _) | Pat::Num(_, _) => false,
-        Pat::Con(_, con, pats) => match other {
-            Pat::Wild(_) | Pat::Var(_, _) | Pat::Num(_, _) => false,
-            Pat::Con(_, con_2, pats_2) => {
-                if con.con != con_2.con {
-                    return true;
-                }
-                are_apart_somewhere(pats.as_slice(), pats_2.as_slice())
-            }
-        },
-    }
-}
-
-// Whether in some place of both lists stand two patterns that are apart.
-#[cycle(comparing)]
-fn are_apart_somewhere(ones: &[Pat], others: &[Pat]) -> bool
-    ensures { OnTrue result (HaveApart ones.now others.now) }
-{
-    for (i, one) in ones.iter().enumerate() {
-        if let Some(other) = others.get(i) {
-            if are_apart(one, other) {
-                return true;
-            }
-        }
-    }
-    false
-}
 
 /// Whether a pattern has no variable.
 #[cycle(seeking)]

@@ -8,7 +8,6 @@ ghost use Rattle.rb_match.specs.inner.Threading.{AllFollow, Ascend, AreThreaded,
 
 use crate::asking::{link_of, mark_tested_below};
 use crate::knowledge::{Edge, Known, copy_known, position_below};
-use crate::patterns::are_apart;
 use crate::place::is_looked_at;
 use crate::spots::{is_deep, is_within, marks, set_at};
 use rb_core::pattern::Pat;
@@ -17,6 +16,7 @@ use rb_core::types::{ConRef, Ty};
 use rb_decide::decision_graph::{GraphArm, GraphNode};
 use rb_layout::agreed::Agreed;
 use rb_layout::layout::Leaf;
+use rb_matrix::are_apart;
 use rb_target::body::Hole;
 use std::alloc::{AllocError, Global};
 

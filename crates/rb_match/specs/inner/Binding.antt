@@ -28,6 +28,7 @@ use Rattle.rb_fragment.specs.Pieces.{AtEnd, Piece}
 use Rattle.rb_fragment.specs.Plan.{Plan, Rep, words_of}
 use Rattle.rb_fragment.specs.Slots.{AllBelow, IsOneOf}
 use Rattle.rb_fetch.specs.Finding.{IsPlanOf, leaf_count}
+use Rattle.rb_matrix.specs.Apart.{AreApart}
 use Rattle.rb_match.specs.Choosing.{Binds}
 use Rattle.rb_bytes.specs.Memory.{Memory}
 use Rattle.rb_core.specs.declared.types.ConRef.{ConRef}
@@ -39,14 +40,6 @@ use Rattle.rb_match.specs.inner.Knowing.{AreKnown, seen}
 use Rattle.rb_match.specs.Bounding.{binding_bound, binding_look, choosing_look, looks_with, places_below, places_in}
 use Rattle.rb_match.specs.inner.Asking.{AreSpots, leaf_in}
 use Rattle.rb_match.specs.inner.Saving.{IsThere, mend_at, mends_from}
-
--- no value matches both patterns
-abbrev pub AreApart : Pat → Pat → Type 0
-AreApart p q = (v : Value) → matches_of p v ≡ true → matches_of q v ≡ true → ⊥
-
--- in some one place of both lists stand two patterns that no value matches both
-abbrev pub HaveApart : List Pat → List Pat → Type 0
-HaveApart ps qs = (i : ℕ) × (p : Pat) × (q : Pat) × (slice_get ps i ≡ Some p) × (slice_get qs i ≡ Some q) × AreApart p q
 
 -- no value of leaf n of data type t matches the pattern, or there is no such leaf
 abbrev pub IsLeftOut : LaidOut → ℕ → Pat → ℕ → Type 0
