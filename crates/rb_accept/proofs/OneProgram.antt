@@ -7,7 +7,7 @@ use Rattle.rb_check.specs.declared.coverage.CoverFault.TheVariants.{Missing}
 use Rattle.rb_core.specs.Coverage.{AreExhaustive, sites_of}
 use Rattle.rb_core.specs.Matching.{IsExhaustive, chosen_clause}
 use Rattle.rb_core.specs.TypedPrograms.{IsTyped, IsFirstFault}
-use Rattle.rb_core.specs.declared.coverage.Site.{Site}
+use Rattle.rb_core.specs.declared.site.Site.{Site}
 use Rattle.rb_core.specs.declared.pattern.Pat.{Pat}
 use Rattle.rb_core.specs.declared.program.Program.{Program}
 use Rattle.rb_core.specs.declared.types.DataDecl.{DataDecl}

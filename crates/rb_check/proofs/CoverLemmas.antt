@@ -6,7 +6,7 @@ use Rattle.std.specs.List.{All}
 use Rattle.std.proofs.lemmas.List.{append-nil}
 use Rattle.std.proofs.lemmas.List.Elements.{All-contains_itself}
 use Rattle.rb_core.specs.declared.types.DataDecl.{DataDecl}
-use Rattle.rb_core.specs.declared.coverage.Site.{Site}
+use Rattle.rb_core.specs.declared.site.Site.{Site}
 use Rattle.rb_core.specs.declared.program.Note.{Note}
 use Rattle.rb_core.specs.Coverage.{AreExhaustive, AreNotes, AreSiteNotes, AreUnreached}
 use Rattle.rb_core.specs.Matching.{IsExhaustive}

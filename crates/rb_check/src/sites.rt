@@ -6,7 +6,7 @@ ghost use Rattle.rb_core.specs.Coverage.{function_sites, sites, sites_of};
 ghost use Rattle.rb_core.specs.Typing.{binder_of};
 ghost use Rattle.rb_check.specs.Covering.{argument_sites, body_sites};
 
-use rb_core::coverage::Site;
+use rb_core::site::Site;
 use rb_core::expression::{Clause, Expr};
 use rb_core::inference::{bind_types, infer};
 use rb_core::pattern::Pat;

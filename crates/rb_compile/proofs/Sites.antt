@@ -7,7 +7,7 @@ use Rattle.rb_core.specs.declared.types.ConRef.{ConRef}
 use Rattle.rb_core.specs.declared.types.DataDecl.{DataDecl}
 use Rattle.rb_core.specs.declared.typing.Binder.{Binder}
 use Rattle.rb_core.specs.declared.pattern.Pat.{Pat}
-use Rattle.rb_core.specs.declared.coverage.Site.{Site}
+use Rattle.rb_core.specs.declared.site.Site.{Site}
 use Rattle.rb_core.specs.declared.program.Fun.{Fun}
 use Rattle.rb_core.specs.declared.expression.Op.{Op}
 use Rattle.rb_core.specs.declared.expression.Clause.{Clause}

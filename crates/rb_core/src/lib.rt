@@ -25,7 +25,6 @@
 pub mod binding;
 pub mod boxed;
 pub mod copying;
-pub mod coverage;
 pub mod decimal;
 mod environment;
 pub mod eval;
@@ -41,6 +40,7 @@ pub mod outcome;
 pub mod pattern;
 pub mod program;
 pub mod seq;
+pub mod site;
 pub mod typed;
 pub mod types;
 pub mod typing;

@@ -6,7 +6,7 @@ ghost use Rattle.rb_decide.specs.ClauseMatrices.{special_rows, default_rows, fie
 use crate::clause_matrix::{Column, Row, number_of};
 use rb_core::seq::Seq;
 use rb_core::types::{DataDecl, Ty};
-use rb_matrix::images::{default_of_row, head_fields, specialize_row};
+use rb_matrix::specialization::{default_of_row, head_fields, specialize_row};
 use rb_matrix::matrix::Head;
 use std::alloc::{AllocError, Global};
 

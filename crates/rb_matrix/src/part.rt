@@ -12,10 +12,10 @@ ghost use Rattle.rb_matrix.specs.Beside.{IsBeside};
 ghost use Rattle.rb_matrix.specs.inner.Left.{IsReady, IsSplit, wholes};
 
 use crate::beside::pattern_beside;
-use crate::images::head_fields;
+use crate::specialization::head_fields;
 use crate::matrix::Head;
 use crate::problem::{Branches, Left, Problem, Step};
-use crate::rows::{default_images, first_head_in, heads_in, special_copies, special_images};
+use crate::rows::{into_default, first_head_in, heads_in, special_copies, into_specialized};
 use crate::stack::Stack;
 use rb_core::pattern::Pat;
 use rb_core::seq::Seq;
@@ -146,11 +146,11 @@ fn last_part(
         mut steps,
     } = behind;
     let count = wanted.len();
-    let wanted = special_images(alloc, wanted, head, fields.len())?;
+    let wanted = into_specialized(alloc, wanted, head, fields.len())?;
     if wanted.len() < count {
         return Ok(None);
     }
-    let unwanted = special_images(alloc, unwanted, head, fields.len())?;
+    let unwanted = into_specialized(alloc, unwanted, head, fields.len())?;
     tys.push_all(Seq::from_vec(Vec::from_slice(alloc, fields)?))?;
     steps.push(step_for(ty, head, fields.len()))?;
     Ok(Some(Problem {
@@ -235,11 +235,11 @@ fn rest_part(
         mut steps,
     } = behind;
     let count = wanted.len();
-    let wanted = default_images(alloc, wanted)?;
+    let wanted = into_default(alloc, wanted)?;
     if wanted.len() < count {
         return Ok(None);
     }
-    let unwanted = default_images(alloc, unwanted)?;
+    let unwanted = into_default(alloc, unwanted)?;
     steps.push(Step::Front(beside))?;
     Ok(Some(Problem {
         tys,

@@ -10,7 +10,7 @@ ghost use Rattle.rb_matrix.specs.Known.{has};
 ghost use Rattle.rb_matrix.specs.inner.Indexes.{BothExtend};
 ghost use Rattle.rb_matrix.specs.inner.Passed.{layer_number, ArePassed};
 
-use crate::images::head_fields;
+use crate::specialization::head_fields;
 use crate::indexes::Indexes;
 use crate::matrix::Head;
 use crate::numbers::Numbers;

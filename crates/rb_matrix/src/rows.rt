@@ -95,7 +95,7 @@ pub fn special_copies(
 /// # Errors
 ///
 /// Want of memory, also for more wildcards in a row than a `usize` counts.
-pub fn special_images(
+pub fn into_specialized(
     alloc: Global,
     rows: Seq<Row>,
     head: Head,
@@ -119,7 +119,7 @@ pub fn special_images(
 /// # Errors
 ///
 /// Want of memory.
-pub fn default_images(alloc: Global, rows: Seq<Row>) -> Result<Seq<Row>, AllocError>
+pub fn into_default(alloc: Global, rows: Seq<Row>) -> Result<Seq<Row>, AllocError>
     ensures { IfOk result (λ r. r ≡ defaults rows) }
 {
     let mut kept = Seq::new(alloc);

@@ -5,7 +5,7 @@ use Rattle.rb_core.specs.declared.types.Ty.{Ty}
 use Rattle.rb_core.specs.declared.types.Ty.TheVariants.{Int, Named}
 use Rattle.rb_core.specs.declared.types.DataDecl.{DataDecl}
 use Rattle.rb_core.specs.declared.typing.TypeFault.{TypeFault}
-use Rattle.rb_core.specs.declared.coverage.Site.{Site}
+use Rattle.rb_core.specs.declared.site.Site.{Site}
 use Rattle.rb_core.specs.Typing.{Typing, and_then, same_type}
 use Rattle.rb_core.specs.Coverage.{AreExhaustive}
 

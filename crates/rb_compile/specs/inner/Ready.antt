@@ -2,7 +2,7 @@
 -- type of its scrutinee, and its patterns.
 use Rattle.std.specs.Prelude.{◌≡◌, ℕ, ◌≤◌, ◌⊎◌, true, List, [], ◌∷◌, Option, Some, Ok, slice_get}
 use Rattle.rb_core.specs.declared.types.Ty.{Ty}
-use Rattle.rb_core.specs.declared.coverage.Site.{Site}
+use Rattle.rb_core.specs.declared.site.Site.{Site}
 use Rattle.rb_core.specs.declared.expression.Expr.{Expr}
 use Rattle.rb_core.specs.Coverage.{sites}
 use Rattle.rb_core.specs.Matching.{IsExhaustive}

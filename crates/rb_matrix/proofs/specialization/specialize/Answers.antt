@@ -3,7 +3,7 @@ use Rattle.std.specs.Option.{option_copied}
 use Rattle.rb_matrix.specs.Heads.{column_fields}
 use Rattle.rb_matrix.specs.Specialize.{special}
 use Rattle.rb_matrix.proofs.SpecializeLaws.{unfolds-alike}
-use Rattle.rb_matrix.proofs.images.specialize.Goals as goal
+use Rattle.rb_matrix.proofs.specialization.specialize.Goals as goal
 
 pub returns-clause-same : goal.returns-clause-same
 returns-clause-same c =

@@ -3,7 +3,7 @@ use Rattle.std.specs.Prelude.{Option}
 use Rattle.rb_core.specs.declared.pattern.Pat.{Pat}
 use Rattle.rb_matrix.specs.Rows.{image_matches}
 use Rattle.rb_matrix.proofs.Laws.{default-row}
-use Rattle.rb_matrix.proofs.images.default_of_row.Goals as goal
+use Rattle.rb_matrix.proofs.specialization.default_of_row.Goals as goal
 
 pub returns-clause-same : goal.returns-clause-same
 returns-clause-same c = λ v vs apart.

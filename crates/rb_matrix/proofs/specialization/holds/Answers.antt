@@ -1,7 +1,7 @@
 use Rattle.std.proofs.Common.{sym, arith}
 use Rattle.std.proofs.lemmas.Bool.{lt-ltb}
 use Rattle.rb_matrix.proofs.Powers.{two-pow-le}
-use Rattle.rb_matrix.proofs.images.holds.Goals as goal
+use Rattle.rb_matrix.proofs.specialization.holds.Goals as goal
 
 pub returns-then-bits-ge64 : goal.returns-then-bits-ge64
 returns-then-bits-ge64 c =

@@ -5,7 +5,7 @@ use Rattle.rb_core.specs.Values.{subs}
 use Rattle.rb_matrix.specs.Rows.{image_matches}
 use Rattle.rb_matrix.specs.Specialize.{special_row}
 use Rattle.rb_matrix.proofs.Laws.{special-row}
-use Rattle.rb_matrix.proofs.images.specialize_row.Goals as goal
+use Rattle.rb_matrix.proofs.specialization.specialize_row.Goals as goal
 
 pub returns-clause-same : goal.returns-clause-same
 returns-clause-same c = λ v vs is many.
