@@ -6,7 +6,7 @@ ghost use Rattle.std.specs.Prelude.{◌≡◌, ◌≤◌, [], ℕ, IfOk, OnOk, m
 ghost use Rattle.rb_core.specs.declared.expression.Expr as X;
 ghost use Rattle.rb_core.specs.Meaning.{call_of, call_within, meaning_of, all_of};
 ghost use Rattle.rb_core.specs.Outcomes.{Gives, GivesParts, IsWithinCalls, IsPartsWithinCalls};
-ghost use Rattle.rb_core.specs.Evaluation.{EndsAs, EndsAsFirst};
+ghost use Rattle.rb_core.specs.inner.Evaluation.{EndsAs, EndsAsFirst};
 
 use crate::environment::{Frame, bind_arguments, scope_of, value_of};
 use crate::expression::{Clause, Expr, Op};
