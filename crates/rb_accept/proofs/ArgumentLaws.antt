@@ -14,7 +14,7 @@ use Rattle.rb_lines.specs.Answer.{Due}
 use Rattle.rb_lines.specs.ArgumentLines.{node_limit}
 use Rattle.rb_values.proofs.AnswerLemmas.{one-answer}
 use Rattle.rb_values.proofs.FittingLemmas.{read-of_type}
-use Rattle.rb_values.specs.Reading.{IsRead}
+use Rattle.rb_values.specs.Reading.{ValueIsRead}
 use Rattle.rb_values.specs.declared.fault.ValueFault.{ValueFault}
 use Rattle.rb_values.specs.declared.fault.ValueFault.TheVariants.{Memory}
 use Rattle.rb_accept.specs.Arguments.{AreRead, Spell, IsMisfit, miscounted, misspelled}
@@ -23,19 +23,19 @@ use Rattle.rb_accept.proofs.Named.{and_both}
 -- One more ----------------------------------------------------------------------------------
 
 are_read_more : (types : List DataDecl) (ts : List Ty) (ws : List (List ℕ)) (vs : List Value) (i : ℕ) (t : Ty) (w : List ℕ) (v : Value)
-    → slice_get ts i ≡ Some t → slice_get ws i ≡ Some w → AreRead types (take i ts) (take i ws) vs → IsRead types t node_limit w (Ok v)
+    → slice_get ts i ≡ Some t → slice_get ws i ≡ Some w → AreRead types (take i ts) (take i ws) vs → ValueIsRead types t node_limit w (Ok v)
     → AreRead types (take (suc i) ts) (take (suc i) ws) (vs ++ v ∷ [])
 are_read_more types [] ws vs i t w v e f h r = absurd cc
 are_read_more types (x ∷ ts) [] vs i t w v e f h r = absurd cc
 are_read_more types (x ∷ ts) (y ∷ ws) [] zero t w v e f h r =
-    (subst (λ (a : Ty). IsRead types a node_limit y (Ok v)) (sym (same_Some x t e)) (subst (λ (b : List ℕ). IsRead types t node_limit b (Ok v)) (sym (same_Some y w f)) r), tt)
+    (subst (λ (a : Ty). ValueIsRead types a node_limit y (Ok v)) (sym (same_Some x t e)) (subst (λ (b : List ℕ). ValueIsRead types t node_limit b (Ok v)) (sym (same_Some y w f)) r), tt)
 are_read_more types (x ∷ ts) (y ∷ ws) (u ∷ vs) zero t w v e f h r = absurd h
 are_read_more types (x ∷ ts) (y ∷ ws) [] (suc i) t w v e f h r = absurd h
 are_read_more types (x ∷ ts) (y ∷ ws) (u ∷ vs) (suc i) t w v e f h r = (h.0, are_read_more types ts ws vs i t w v e f h.1 r)
 
 pub argument_read : (types : List DataDecl) (params : List Param) (ws : List (List ℕ)) (vs : List Value) (i : ℕ) (d : Param) (w : List ℕ) (v : Value)
     → i < length params → slice_get ws i ≡ Some w → AreRead types (take i (map (λ p. p.ty) params)) (take i ws) vs
-    → IsRead types (get_or params i d).ty node_limit w (Ok v)
+    → ValueIsRead types (get_or params i d).ty node_limit w (Ok v)
     → AreRead types (take (i + 1) (map (λ p. p.ty) params)) (take (i + 1) ws) (vs ++ v ∷ [])
 argument_read types params ws vs i d w v lt f h r =
     let ts : List Ty = map (λ p. p.ty) params in
@@ -71,11 +71,11 @@ the_value : Value → Result Value ValueFault → Value
 the_value v (Ok u) = u
 the_value v (Err e) = v
 
-one_value : (types : List DataDecl) (t : Ty) (w : List ℕ) (v u : Value) → IsRead types t node_limit w (Ok v) → IsRead types t node_limit w (Ok u) → v ≡ u
+one_value : (types : List DataDecl) (t : Ty) (w : List ℕ) (v u : Value) → ValueIsRead types t node_limit w (Ok v) → ValueIsRead types t node_limit w (Ok u) → v ≡ u
 unfolding the_value
 one_value types t w v u h k = ap (the_value v) (one-answer types t node_limit w (Ok v) (Ok u) (λ e. absurd (cc e)) (λ e. absurd (cc e)) h k)
 
-never_both : (types : List DataDecl) (t : Ty) (w : List ℕ) (v : Value) (f : ValueFault) → f ≢ Memory → IsRead types t node_limit w (Ok v) → IsRead types t node_limit w (Err f) → ⊥
+never_both : (types : List DataDecl) (t : Ty) (w : List ℕ) (v : Value) (f : ValueFault) → f ≢ Memory → ValueIsRead types t node_limit w (Ok v) → ValueIsRead types t node_limit w (Err f) → ⊥
 never_both types t w v f known h k =
     let same : ◌≡◌ {A = Result Value ValueFault} (Ok v) (Err f) = one-answer types t node_limit w (Ok v) (Err f) (λ e. absurd (cc e)) (λ e. known (cc e)) h k in
     absurd (cc same)
@@ -92,12 +92,12 @@ same_values types (t ∷ ts) (w ∷ ws) (v ∷ vs) (u ∷ us) h k =
     ap (λ (x : Value). x ∷ vs) (one_value types t w v u h.0 k.0) ∙ ap (λ (xs : List Value). u ∷ xs) (same_values types ts ws vs us h.1 k.1)
 
 read_at : (types : List DataDecl) (ts : List Ty) (ws : List (List ℕ)) (vs : List Value) (i : ℕ) (t : Ty) (w : List ℕ) → slice_get ts i ≡ Some t → slice_get ws i ≡ Some w
-    → AreRead types ts ws vs → (v : Value) × IsRead types t node_limit w (Ok v)
+    → AreRead types ts ws vs → (v : Value) × ValueIsRead types t node_limit w (Ok v)
 read_at types [] ws vs i t w e f h = absurd cc
 read_at types (x ∷ ts) [] vs i t w e f h = absurd h
 read_at types (x ∷ ts) (y ∷ ws) [] i t w e f h = absurd h
 read_at types (x ∷ ts) (y ∷ ws) (v ∷ vs) zero t w e f h =
-    (v, subst (λ (b : List ℕ). IsRead types t node_limit b (Ok v)) (same_Some y w f) (subst (λ (a : Ty). IsRead types a node_limit y (Ok v)) (same_Some x t e) h.0))
+    (v, subst (λ (b : List ℕ). ValueIsRead types t node_limit b (Ok v)) (same_Some y w f) (subst (λ (a : Ty). ValueIsRead types a node_limit y (Ok v)) (same_Some x t e) h.0))
 read_at types (x ∷ ts) (y ∷ ws) (v ∷ vs) (suc i) t w e f h = read_at types ts ws vs i t w e f h.1
 
 -- words that spell arguments are not refused

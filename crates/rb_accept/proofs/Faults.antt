@@ -4,7 +4,7 @@ use Rattle.rb_names.specs.Answers as names
 use Rattle.rb_names.specs.Numbering.{Resolved}
 use Rattle.rb_names.specs.declared.fault.NameFault.{NameFault}
 use Rattle.rb_names.specs.declared.fault.NameFault.TheVariants as name
-use Rattle.rb_read.specs.Files.{Answers, IsAnswer}
+use Rattle.rb_read.specs.Files.{AnswersFile, IsFileAnswer}
 use Rattle.rb_read.specs.declared.fault.ReadFault.{ReadFault}
 use Rattle.rb_read.specs.declared.fault.ReadFault.TheVariants as read
 use Rattle.rb_syntax.specs.Cutting.{IsRight}
@@ -19,13 +19,13 @@ lex_fault bytes text (lex.BadByte at) ne h right = subst (λ (r : lexing.Lexed).
 lex_fault bytes text (lex.NumberTooWide at) ne h right = subst (λ (r : lexing.Lexed). IsRight bytes r) h right
 lex_fault bytes text lex.Memory ne h right = absurd (ne refl)
 
-pub read_fault : (ts : List Token) (f : ReadFault) → f ≢ read.Memory → Answers ts (Err f) → IsAnswer ts (Err f)
+pub read_fault : (ts : List Token) (f : ReadFault) → f ≢ read.Memory → AnswersFile ts (Err f) → IsFileAnswer ts (Err f)
 read_fault ts (read.TooDeep t) ne h = h
 read_fault ts (read.Syntax t) ne h = h
 read_fault ts (read.Limit q n) ne h = h
 read_fault ts read.Memory ne h = absurd (ne refl)
 
-pub name_fault : {A : Type 0} (gives : Resolved A) (f : NameFault) → f ≢ name.Memory → names.Answers (Err f) gives → gives ≡ Err f
+pub name_fault : {A : Type 0} (gives : Resolved A) (f : NameFault) → f ≢ name.Memory → names.AnswersNumbering (Err f) gives → gives ≡ Err f
 name_fault gives (name.Twice n t) ne h = h
 name_fault gives (name.Unknown n t) ne h = h
 name_fault gives name.NoMain ne h = h

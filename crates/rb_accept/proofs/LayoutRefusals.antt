@@ -8,13 +8,13 @@ use Rattle.rb_core.specs.declared.program.Program.{Program}
 use Rattle.rb_core.specs.declared.types.DataDecl.{DataDecl}
 use Rattle.rb_layout.specs.A1.{HasShape, FailsShape}
 use Rattle.rb_layout.specs.Flattening.{HaveLayouts, decl_of, flat_layouts}
-use Rattle.rb_layout.specs.Spots.{Spot, Shape, Root, Parts, Blocks, Complete, Apart, Held, Tests, Splits, Flattening, NoPointer, Holding, Place, place_of, Checked, Fails, IsRefusedBy, shape_spots, all_spots}
+use Rattle.rb_layout.specs.Spots.{Spot, Shape, Root, Parts, Blocks, Complete, Apart, Held, Tests, Splits, Flattening, NoPointer, Holding, RefusalPlace, place_of_spot, Checked, SpotFails, IsRefusedBy, shape_spots, all_spots}
 use Rattle.rb_layout.specs.declared.evidence.Refused.{Refused as Disagreed}
 use Rattle.rb_layout.specs.declared.evidence.Why.{Why}
 use Rattle.rb_layout.specs.declared.evidence.Why.TheVariants as why
 use Rattle.rb_layout.specs.declared.layout.Layout.{Layout}
 use Rattle.rb_layout.specs.declared.layout.Leaf.{Leaf}
-use Rattle.rb_show.specs.Refusals.{refusal_text, evidence_text, at_leaf, number_of, leaves_in, name_of}
+use Rattle.rb_show.specs.Refusals.{refusal_text, evidence_text, at_leaf, number_of_leaf, leaves_in, name_of}
 
 -- Behind the first rule ---------------------------------------------------------------------
 
@@ -33,18 +33,18 @@ shapes_first p layouts =
     ([], sym (append-nil shapes))))))))))
 
 module _ (p : Program) (layouts : List Layout) where
-  has_shape : (ds : List DataDecl) (t : ℕ) (rest : List Spot) (found : Spot × Why) → ((place_of found.0).rule ≡ 1 → ⊥)
+  has_shape : (ds : List DataDecl) (t : ℕ) (rest : List Spot) (found : Spot × Why) → ((place_of_spot found.0).rule ≡ 1 → ⊥)
       → Checked p layouts (shape_spots p.layouts t ds ++ rest) (Some found) → (k : ℕ) → k < length ds → HasShape (decl_of p.layouts (t + k))
   has_shape [] t rest found late h k lt = absurd (omega (arith, lt))
-  has_shape (d ∷ ds) t rest found late (inl (is, fails)) k lt = absurd (late (ap (λ (s : Spot). (place_of s).rule) is))
+  has_shape (d ∷ ds) t rest found late (inl (is, fails)) k lt = absurd (late (ap (λ (s : Spot). (place_of_spot s).rule) is))
   has_shape (d ∷ ds) t rest found late (inr (has, h)) zero lt = let z : t ≡ t + 0 = omega arith in subst (λ n. HasShape (decl_of p.layouts n)) z has
   has_shape (d ∷ ds) t rest found late (inr (has, h)) (suc k) lt =
       let z : (t + 1) + k ≡ t + suc k = omega arith in
       subst (λ n. HasShape (decl_of p.layouts n)) z (has_shape ds (t + 1) rest found late h k (omega (arith, lt)))
 
-  fails_found : (spots : List Spot) (found : Spot × Why) → Checked p layouts spots (Some found) → Fails p layouts found.0 found.1
+  fails_found : (spots : List Spot) (found : Spot × Why) → Checked p layouts spots (Some found) → SpotFails p layouts found.0 found.1
   fails_found [] found h = absurd h
-  fails_found (s ∷ ss) found (inl (is, fails)) = subst (λ (x : Spot). Fails p layouts x found.1) (sym is) fails
+  fails_found (s ∷ ss) found (inl (is, fails)) = subst (λ (x : Spot). SpotFails p layouts x found.1) (sym is) fails
   fails_found (s ∷ ss) found (inr (has, h)) = fails_found ss found h
 
 declared_by : (o : Option LayoutDecl) → HasShape o → (d : LayoutDecl) × (o ≡ Some d)
@@ -54,7 +54,7 @@ declared_by (Some d) h = (d, refl)
 -- each type has a layout where another rule than the first fails
 pub have_layouts : (p : Program) (r : Disagreed) → IsRefusedBy p (flat_layouts p) r → r.rule ≢ 1 → HaveLayouts p
 have_layouts p r (spot, h, is) late t lt =
-    let rule : r.rule ≡ (place_of spot).rule = ap (λ (x : Place). x.rule) is.0 in
+    let rule : r.rule ≡ (place_of_spot spot).rule = ap (λ (x : RefusalPlace). x.rule) is.0 in
     let first = shapes_first p (flat_layouts p) in
     let found = subst (λ (ss : List Spot). Checked p (flat_layouts p) ss (Some (spot, r.why))) first.1 h in
     let z : 0 + t ≡ t = omega arith in
@@ -122,7 +122,7 @@ shape_evidence (Some d) (why.HasPointer _) h types xs ys n = absurd h
 shape_evidence (Some d) (why.FlatCycle _) h types xs ys n = absurd h
 shape_evidence (Some d) (why.HoldCycle _) h types xs ys n = absurd h
 
-first_evidence : (p : Program) (layouts : List Layout) (spot : Spot) (w : Why) → (place_of spot).rule ≡ 1 → Fails p layouts spot w → IsPlainEvidence w
+first_evidence : (p : Program) (layouts : List Layout) (spot : Spot) (w : Why) → (place_of_spot spot).rule ≡ 1 → SpotFails p layouts spot w → IsPlainEvidence w
 first_evidence p layouts (Shape t decl) w e h = shape_evidence decl w h
 first_evidence p layouts (Root t n layout leaf) w e h = absurd (omega (arith, e))
 first_evidence p layouts (Parts t n i leaf item) w e h = absurd (omega (arith, e))
@@ -140,15 +140,15 @@ first_evidence p layouts (Holding t) w e h = absurd (omega (arith, e))
 pub first_text : (p : Program) (r : Disagreed) → IsRefusedBy p (flat_layouts p) r → r.rule ≡ 1 → (layouts : List Layout)
     → refusal_text p.types layouts r ≡ refusal_text p.types (flat_layouts p) r
 first_text p r (spot, h, is) one layouts =
-    let rule : (place_of spot).rule ≡ 1 = sym (ap (λ (x : Place). x.rule) is.0) ∙ one in
+    let rule : (place_of_spot spot).rule ≡ 1 = sym (ap (λ (x : RefusalPlace). x.rule) is.0) ∙ one in
     let same = first_evidence p (flat_layouts p) spot r.why rule (fails_found p (flat_layouts p) (all_spots p (flat_layouts p)) (spot, r.why) h) in
     let xs : List Leaf = leaves_in (slice_get layouts r.ty) in
     let ys : List Leaf = leaves_in (slice_get (flat_layouts p) r.ty) in
-    let at : at_leaf p.types xs r.rule (number_of r.leaf) ≡ at_leaf p.types ys r.rule (number_of r.leaf) =
-    ap (λ k. at_leaf p.types xs k (number_of r.leaf)) one ∙ ap (λ k. at_leaf p.types ys k (number_of r.leaf)) (sym one) in
-    ap (λ (t : List ℕ). codes "layout of " ++ name_of p.types r.ty ++ codes ": A" ++ decimal r.rule ++ codes ": " ++ t ++ evidence_text p.types xs (number_of r.leaf) r.why) at
+    let at : at_leaf p.types xs r.rule (number_of_leaf r.leaf) ≡ at_leaf p.types ys r.rule (number_of_leaf r.leaf) =
+    ap (λ k. at_leaf p.types xs k (number_of_leaf r.leaf)) one ∙ ap (λ k. at_leaf p.types ys k (number_of_leaf r.leaf)) (sym one) in
+    ap (λ (t : List ℕ). codes "layout of " ++ name_of p.types r.ty ++ codes ": A" ++ decimal r.rule ++ codes ": " ++ t ++ evidence_text p.types xs (number_of_leaf r.leaf) r.why) at
     ∙ ap (λ (t : List ℕ). codes "layout of " ++ name_of p.types r.ty ++ codes ": A" ++ decimal r.rule ++ codes ": "
-    ++ at_leaf p.types ys r.rule (number_of r.leaf) ++ t) (same p.types xs ys (number_of r.leaf))
+    ++ at_leaf p.types ys r.rule (number_of_leaf r.leaf) ++ t) (same p.types xs ys (number_of_leaf r.leaf))
 
 is_one : (n : ℕ) → (n ≡ 1) ⊎ (n ≢ 1)
 is_one zero = inr (λ e. absurd (omega (arith, e)))

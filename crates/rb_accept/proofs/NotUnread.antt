@@ -20,7 +20,7 @@ use Rattle.rb_syntax.specs.declared.lex.LexFault.TheVariants as lexing
 use Rattle.rb_syntax.specs.declared.token.Placed.{Placed}
 use Rattle.rb_accept.specs.Accepting.{IsAccepted, IsRefused, uncut, misread, misnamed, mistyped, uncovered, underived, mislaid, Accepts, turned_down, accepted, lex_due, read_due, name_due, type_due, derived_due}
 use Rattle.rb_accept.specs.Arguments.{IsMisfit, miscounted, misspelled}
-use Rattle.rb_accept.specs.Opening.{Spells, garbled, spelled}
+use Rattle.rb_accept.specs.Opening.{SpellsImage, garbled, spelled}
 
 pub other_by : (due d : Due) → due ≡ d → status_of d ≢ 7 → status_of due ≢ 7
 other_by due d is other e = other (ap (λ (x : Due). status_of x) (sym is) ∙ e)
@@ -86,6 +86,6 @@ fault_other fault.ImageTooLarge e = omega (arith, e)
 fault_other (fault.NoSuchPart step) e = omega (arith, e)
 fault_other fault.Memory e = omega (arith, e)
 
-pub spells_other : (text : List ℕ) (Then : Image → Due → Type 0) (due : Due) → ((i : Image) → Then i due → status_of due ≢ 7) → Spells text Then due → status_of due ≢ 7
+pub spells_other : (text : List ℕ) (Then : Image → Due → Type 0) (due : Due) → ((i : Image) → Then i due → status_of due ≢ 7) → SpellsImage text Then due → status_of due ≢ 7
 spells_other text Then due other (garbled h) = other_by due _ h.shown (fault_other h.fault)
 spells_other text Then due other (spelled i is placed h) = other i h

@@ -27,7 +27,7 @@ use Rattle.rb_names.specs.Numbering.{Resolved}
 use Rattle.rb_names.specs.Programs.{numbered}
 use Rattle.rb_names.specs.declared.complete.Completed.{Completed}
 use Rattle.rb_read.proofs.OneAnswer.{answered}
-use Rattle.rb_read.specs.Files.{IsAnswer}
+use Rattle.rb_read.specs.Files.{IsFileAnswer}
 use Rattle.rb_read.specs.declared.fault.ReadFault.{ReadFault}
 use Rattle.rb_syntax.specs.Cutting.{HasTokens}
 use Rattle.rb_syntax.specs.Tokens.{tokens}
@@ -36,7 +36,7 @@ use Rattle.rb_syntax.specs.declared.lex.LexFault.TheVariants as lexing
 use Rattle.rb_syntax.specs.declared.token.Placed.{Placed}
 use Rattle.rb_syntax.specs.declared.token.Token.{Token}
 use Rattle.rb_syntax.specs.declared.tree.FileTree.{FileTree}
-use Rattle.rb_accept.specs.Accepting.{IsRead, IsNamedWith, IsNamed, IsProgramOf, completed_as, IsAccepted, IsUncut, IsRefused, uncut, misread, misnamed, mistyped, uncovered, underived, mislaid}
+use Rattle.rb_accept.specs.Accepting.{FileIsRead, IsNamedWith, IsNamed, IsProgramOf, completed_as, IsAccepted, IsUncut, IsRefused, uncut, misread, misnamed, mistyped, uncovered, underived, mislaid}
 use Rattle.rb_accept.proofs.OneCompletion.{one_completion}
 use Rattle.rb_accept.proofs.OneCut.{one_cut, never_bad, never_wide}
 
@@ -53,23 +53,23 @@ the_file : FileTree → Result FileTree ReadFault → FileTree
 the_file file (Ok other) = other
 the_file file (Err fault) = file
 
-pub one_file : (ts : List Token) (file other : FileTree) → IsAnswer ts (Ok file) → IsAnswer ts (Ok other) → file ≡ other
+pub one_file : (ts : List Token) (file other : FileTree) → IsFileAnswer ts (Ok file) → IsFileAnswer ts (Ok other) → file ≡ other
 unfolding the_file
 one_file ts file other h k = elim (answered ts (Ok file) (Ok other) h k) [
   | inl e ↦ ap (λ (r : Result FileTree ReadFault). the_file file r) e
   | inr e ↦ absurd (cc e)
 ]
 
-never_misread : (ts : List Token) (file : FileTree) (fault : ReadFault) → IsAnswer ts (Ok file) → IsAnswer ts (Err fault) → ⊥
+never_misread : (ts : List Token) (file : FileTree) (fault : ReadFault) → IsFileAnswer ts (Ok file) → IsFileAnswer ts (Err fault) → ⊥
 never_misread ts file fault h k = elim (answered ts (Ok file) (Err fault) h k) [
   | inl e ↦ absurd (cc e)
   | inr e ↦ absurd (cc e)
 ]
 
-same_file : (bytes : List ℕ) (placed : List Placed) (qs : List Placed) (file other : FileTree) → IsRead bytes placed file → IsRead bytes qs other → file ≡ other
+same_file : (bytes : List ℕ) (placed : List Placed) (qs : List Placed) (file other : FileTree) → FileIsRead bytes placed file → FileIsRead bytes qs other → file ≡ other
 same_file bytes placed qs file other h k =
     let same : qs ≡ placed = one_cut bytes qs placed k.cut h.cut in
-    one_file (tokens placed) file other h.tree (subst (λ (ps : List Placed). IsAnswer (tokens ps) (Ok other)) same k.tree)
+    one_file (tokens placed) file other h.tree (subst (λ (ps : List Placed). IsFileAnswer (tokens ps) (Ok other)) same k.tree)
 
 -- the same program
 
@@ -145,7 +145,7 @@ pub accepted_unrefused : (bytes : List ℕ) (p : Program) (due : Due) → IsAcce
 accepted_unrefused bytes p due a (uncut fault cut e) = never_uncut bytes a.placed fault a.named.read.cut cut
 accepted_unrefused bytes p due a (misread placed cut fault answer e) =
     let same : placed ≡ a.placed = one_cut bytes placed a.placed cut a.named.read.cut in
-    never_misread (tokens a.placed) a.named.file fault a.named.read.tree (subst (λ (ps : List Placed). IsAnswer (tokens ps) (Err fault)) same answer)
+    never_misread (tokens a.placed) a.named.file fault a.named.read.tree (subst (λ (ps : List Placed). IsFileAnswer (tokens ps) (Err fault)) same answer)
 accepted_unrefused bytes p due a (misnamed placed file read fault named e) =
     let same : file ≡ a.named.file = same_file bytes placed a.placed file a.named.file read a.named.read in
     absurd (cc (sym a.named.named ∙ ap (λ (f : FileTree). numbered f) (sym same) ∙ named))

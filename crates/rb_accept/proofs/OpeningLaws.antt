@@ -11,8 +11,8 @@ use Rattle.rb_lines.specs.View.{IsRefusal}
 use Rattle.rb_lines.specs.declared.refusal.Refusal.{Refusal}
 use Rattle.rb_lines.proofs.Meeting.{refusal_met}
 use Rattle.rb_accept.specs.Accepting.{IsAccepted, IsRefused}
-use Rattle.rb_accept.specs.Opening.{AcceptsFirst, Following, IsGarbled, IsOpened, Opens, ReadsImage, Spells, accepted, garbled, spelled, turned_down}
-use Rattle.rb_accept.specs.Reading.{AreInTurn, Holds, IsReading, IsUnread, Reads, ReadsInTurn, Source, file_limit, handed_out, image_limit, unread, whole, within}
+use Rattle.rb_accept.specs.Opening.{AcceptsFirst, Following, IsGarbled, IsOpened, Opens, ReadsImage, SpellsImage, accepted, garbled, spelled, turned_down}
+use Rattle.rb_accept.specs.Reading.{AreInTurn, HeldFiles, IsReading, IsUnread, ReadsFile, ReadsInTurn, Source, file_limit, handed_out, image_limit, unread, whole, within}
 use Rattle.rb_accept.specs.declared.opening.Opened.{Opened}
 use Rattle.rb_accept.proofs.Accepted.{is_accepted}
 use Rattle.rb_accept.proofs.ReadLaws.{behind}
@@ -31,17 +31,17 @@ err_met (Err e) P Q more h = refusal_met P Q more e h
 
 reads_more : (name : List ℕ) (limit : ℕ) (A B : List ℕ → List Reading → Due → Type 0)
     → ((bytes : List ℕ) (later : List Reading) (d : Due) → A bytes later d → B bytes later d) → (rs : List Reading) (due : Due)
-    → Reads name limit A rs due → Reads name limit B rs due
+    → ReadsFile name limit A rs due → ReadsFile name limit B rs due
 reads_more name limit A B more rs due (unread h) = unread h
 reads_more name limit A B more rs due (within bytes later is short h) = within bytes later is short (more bytes later due h)
 
-spells_whatever : (text : List ℕ) (Then : Image → Due → Type 0) (due : Due) → Spells text (λ i d. ⊥) due → Spells text Then due
+spells_whatever : (text : List ℕ) (Then : Image → Due → Type 0) (due : Due) → SpellsImage text (λ i d. ⊥) due → SpellsImage text Then due
 spells_whatever text Then due (garbled h) = garbled h
 spells_whatever text Then due (spelled i is placed h) = absurd h
 
 image_whatever : (image : List ℕ) (Then : Image → Due → Type 0) (rs : List Reading) (due : Due) → ReadsImage image (λ i d. ⊥) rs due → ReadsImage image Then rs due
 image_whatever image Then =
-    reads_more image image_limit (λ text later d. (later ≡ []) × Spells text (λ i e. ⊥) d) (λ text later d. (later ≡ []) × Spells text Then d)
+    reads_more image image_limit (λ text later d. (later ≡ []) × SpellsImage text (λ i e. ⊥) d) (λ text later d. (later ≡ []) × SpellsImage text Then d)
     (λ text later d h. (h.0, spells_whatever text Then d h.1))
 
 first_whatever : (bytes image : List ℕ) (Then : Following) (rs : List Reading) (due : Due)
@@ -91,7 +91,7 @@ reading_in s t as_told as_held rises name limit r h = record {
 }
 
 -- a reading of one file, and then one of another
-module _ (tells more_tells : Bool) (held more_held : Holds) (old mid new : List Reading) (first before now : ℕ) (as_told : more_tells ≡ tells)
+module _ (tells more_tells : Bool) (held more_held : HeldFiles) (old mid new : List Reading) (first before now : ℕ) (as_told : more_tells ≡ tells)
     (as_held : (name : List ℕ) → more_held name ≡ held name) (less : first ≤ before) (later : before ≤ now) (file image : List ℕ) (limit bound : ℕ) where
   abbrev one : Source
   one = record { tells = tells; held = held; old = old; new = mid; before = first; now = before }

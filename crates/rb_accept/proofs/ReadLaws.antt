@@ -8,7 +8,7 @@ use Rattle.rb_edge.specs.Source.{FailsToOpen}
 use Rattle.rb_edge.specs.Whole.{ReadsOnce, stopped_by}
 use Rattle.rb_edge.specs.declared.whole.ReadFault.{ReadFault}
 use Rattle.rb_edge.specs.declared.whole.ReadFault.TheVariants as fault
-use Rattle.rb_accept.specs.Reading.{Holds, Source, source_of, IsReading, ReadsInTurn, AreInTurn, handed_out, whole}
+use Rattle.rb_accept.specs.Reading.{HeldFiles, Source, source_of, IsReading, ReadsInTurn, AreInTurn, handed_out, whole}
 
 -- Readings that came behind others ----------------------------------------------------------
 
@@ -98,7 +98,7 @@ remade : (r : Reading) (name : List ℕ) (course : Course) → r.name ≡ name �
 remade r name course named is =
     ap (λ (n : List ℕ). record { name = n; bytes = r.bytes; course = r.course }) named ∙ ap (λ (c : Course). record { name = name; bytes = r.bytes; course = c }) is
 
-module _ {S : Type 0} (tells : S → Bool) (held : S → Holds) (readings : S → List Reading) (faults : S → ℕ) (old new : S) (name : List ℕ) (limit : ℕ) where
+module _ {S : Type 0} (tells : S → Bool) (held : S → HeldFiles) (readings : S → List Reading) (faults : S → ℕ) (old new : S) (name : List ℕ) (limit : ℕ) where
   abbrev source : Source
   source = source_of tells held readings faults old new
 

@@ -25,7 +25,7 @@ use Rattle.rb_names.specs.Programs.{numbered}
 use Rattle.rb_names.specs.declared.complete.Completed.{Completed}
 use Rattle.rb_names.specs.declared.fault.NameFault.{NameFault}
 use Rattle.rb_names.specs.declared.fault.NameFault.TheVariants as names
-use Rattle.rb_read.specs.Files.{IsAnswer}
+use Rattle.rb_read.specs.Files.{IsFileAnswer}
 use Rattle.rb_read.specs.declared.fault.ReadFault.{ReadFault}
 use Rattle.rb_read.specs.declared.fault.ReadFault.TheVariants as reading
 use Rattle.rb_show.specs.Refusals.{refusal_text}
@@ -39,15 +39,15 @@ use Rattle.rb_syntax.specs.declared.tree.FileTree.{FileTree}
 -- Accepted files ----------------------------------------------------------------------------
 
 -- the bytes are cut into these tokens, and the tokens are this file, within its limits
-pub record IsRead (bytes : List ℕ) (placed : List Placed) (file : FileTree) : Type 0 where
+pub record FileIsRead (bytes : List ℕ) (placed : List Placed) (file : FileTree) : Type 0 where
   pub cut : HasTokens bytes placed
-  pub tree : IsAnswer (tokens placed) (Ok file)
+  pub tree : IsFileAnswer (tokens placed) (Ok file)
 
 -- the bytes are a file of these tokens, and `c` is its program with the layouts that are left to the compiler, and
 -- the first of them that is refused, if one is
 pub record IsNamedWith (bytes : List ℕ) (placed : List Placed) (c : Completed) : Type 0 where
   pub file : FileTree
-  pub read : IsRead bytes placed file
+  pub read : FileIsRead bytes placed file
   pub written : Program
   pub named : numbered file ≡ Ok written
   pub completed : IsCompleted file written c
@@ -132,9 +132,10 @@ layout_due p fault = refusal status.Layout (ended (begun (refusal_text p.types (
 -- types, exhaustiveness, layouts that are derived, layouts.
 pub data IsRefused (bytes : List ℕ) (due : Due) : Type 0 where
   uncut : (fault : LexFault) → IsUncut bytes fault → due ≡ lex_due fault → IsRefused bytes due
-  misread : (placed : List Placed) → HasTokens bytes placed → (fault : ReadFault) → IsAnswer (tokens placed) (Err fault)
+  misread : (placed : List Placed) → HasTokens bytes placed → (fault : ReadFault)
+      → IsFileAnswer (tokens placed) (Err fault)
       → due ≡ read_due placed (length bytes) fault → IsRefused bytes due
-  misnamed : (placed : List Placed) (file : FileTree) → IsRead bytes placed file → (fault : NameFault)
+  misnamed : (placed : List Placed) (file : FileTree) → FileIsRead bytes placed file → (fault : NameFault)
       → numbered file ≡ Err fault
       → due ≡ name_due placed (length bytes) fault → IsRefused bytes due
   mistyped : (placed : List Placed) (p : Program) → IsProgramOf bytes placed p → (fault : TypeFault)

@@ -9,7 +9,7 @@ use Rattle.rb_lines.specs.Answer.{Due, refusal}
 use Rattle.rb_lines.specs.ArgumentLines.{node_limit, argument_line}
 use Rattle.rb_lines.specs.Lines.{count_line}
 use Rattle.rb_lines.specs.declared.status.Status.TheVariants.{Argument}
-use Rattle.rb_values.specs.Reading.{IsRead}
+use Rattle.rb_values.specs.Reading.{ValueIsRead}
 use Rattle.rb_values.specs.declared.fault.ValueFault.{ValueFault}
 use Rattle.rb_values.specs.declared.fault.ValueFault.TheVariants as kind
 
@@ -19,7 +19,7 @@ use Rattle.rb_values.specs.declared.fault.ValueFault.TheVariants as kind
 -- limit of nodes
 abbrev pub AreRead : List DataDecl → List Ty → List (List ℕ) → List Value → Type 0
 AreRead types [] [] [] = Unit {0}
-AreRead types (t ∷ ts) (w ∷ ws) (v ∷ vs) = IsRead types t node_limit w (Ok v) × AreRead types ts ws vs
+AreRead types (t ∷ ts) (w ∷ ws) (v ∷ vs) = ValueIsRead types t node_limit w (Ok v) × AreRead types ts ws vs
 AreRead types [] [] (v ∷ vs) = ⊥
 AreRead types [] (w ∷ ws) vs = ⊥
 AreRead types (t ∷ ts) [] vs = ⊥
@@ -35,7 +35,7 @@ Spell p words args = AreRead p.types (param_types p.funs p.main) words args
 pub record IsRefusedAt (types : List DataDecl) (number : ℕ) (ty : Ty) (word : List ℕ) (due : Due) : Type 0 where
   pub fault : ValueFault
   pub known : fault ≢ kind.Memory
-  pub refused : IsRead types ty node_limit word (Err fault)
+  pub refused : ValueIsRead types ty node_limit word (Err fault)
   pub shown : due ≡ refusal Argument (argument_line types number ty fault)
 
 -- this is due to the first word that spells no value of its type, where all words before it spell theirs

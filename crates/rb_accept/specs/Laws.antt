@@ -2,7 +2,7 @@
 use Rattle.std.specs.Prelude.{◌≡◌, ℕ, List, Ok}
 use Rattle.rb_core.specs.declared.program.Program.{Program}
 use Rattle.rb_lines.specs.Answer.{Due}
-use Rattle.rb_read.specs.Files.{IsAnswer}
+use Rattle.rb_read.specs.Files.{IsFileAnswer}
 use Rattle.rb_syntax.specs.Cutting.{HasTokens}
 use Rattle.rb_syntax.specs.declared.lex.LexFault.{LexFault}
 use Rattle.rb_syntax.specs.declared.token.Placed.{Placed}
@@ -17,7 +17,8 @@ HaveOneCut = (bytes : List ℕ) (ps : List Placed) → HasTokens bytes ps
 
 -- tokens have at most one tree
 abbrev pub HaveOneTree : Type 0
-HaveOneTree = (ts : List Token) (file other : FileTree) → IsAnswer ts (Ok file) → IsAnswer ts (Ok other) → file ≡ other
+HaveOneTree =
+    (ts : List Token) (file other : FileTree) → IsFileAnswer ts (Ok file) → IsFileAnswer ts (Ok other) → file ≡ other
 
 -- a text has at most one accepted program
 abbrev pub HaveOneProgram : Type 0

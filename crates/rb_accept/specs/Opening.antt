@@ -3,7 +3,7 @@ use Rattle.std.specs.Prelude.{◌≡◌, ◌≢◌, ◌≤◌, ℕ, List, [], �
 use Rattle.rb_core.specs.declared.program.Program.{Program}
 use Rattle.rb_edge.specs.History.{Reading}
 use Rattle.rb_image_text.specs.Places.{AreInPlace}
-use Rattle.rb_image_text.specs.Refusals.{IsRefusal}
+use Rattle.rb_image_text.specs.Refusals.{IsImageRefusal}
 use Rattle.rb_image_text.specs.Stopping.{IsTextOf}
 use Rattle.rb_image_text.specs.declared.fault.ImageFault.{ImageFault}
 use Rattle.rb_image_text.specs.declared.fault.ImageFault.TheVariants.{Memory}
@@ -11,7 +11,7 @@ use Rattle.rb_image_text.specs.declared.image.Image.{Image}
 use Rattle.rb_lines.specs.Answer.{Due}
 use Rattle.rb_lines.specs.ImageLines.{image_due}
 use Rattle.rb_accept.specs.Accepting.{IsAccepted, IsRefused}
-use Rattle.rb_accept.specs.Reading.{Reads, ReadsOne, file_limit, image_limit, whole}
+use Rattle.rb_accept.specs.Reading.{ReadsFile, ReadsOne, file_limit, image_limit, whole}
 use Rattle.rb_accept.specs.View.{IsAcceptance}
 use Rattle.rb_accept.specs.declared.opening.Opened.{Opened}
 
@@ -23,17 +23,18 @@ Following = Program → Image → Due → Type 0
 pub record IsGarbled (text : List ℕ) (due : Due) : Type 0 where
   pub fault : ImageFault
   pub known : fault ≢ Memory
-  pub refused : IsRefusal text fault
+  pub refused : IsImageRefusal text fault
   pub shown : due ≡ image_due fault
 
 -- What is due to the text of an image: it is none; or it is that of an image, and something follows.
-pub data Spells (text : List ℕ) (Then : Image → Due → Type 0) (due : Due) : Type 0 where
-  garbled : IsGarbled text due → Spells text Then due
-  spelled : (image : Image) → IsTextOf text image → AreInPlace image.blocks → Then image due → Spells text Then due
+pub data SpellsImage (text : List ℕ) (Then : Image → Due → Type 0) (due : Due) : Type 0 where
+  garbled : IsGarbled text due → SpellsImage text Then due
+  spelled : (image : Image) → IsTextOf text image → AreInPlace image.blocks → Then image due
+      → SpellsImage text Then due
 
 -- what is due where IMAGE is read with its limit, and nothing after it; `Then` follows where its text spells an image
 abbrev pub ReadsImage : List ℕ → (Image → Due → Type 0) → List Reading → Due → Type 0
-ReadsImage image Then readings due = ReadsOne image image_limit (λ text d. Spells text Then d) readings due
+ReadsImage image Then readings due = ReadsOne image image_limit (λ text d. SpellsImage text Then d) readings due
 
 -- What is due to a file over what is read after it: it is refused, and nothing is read after it; or
 -- it is accepted, and something follows.
@@ -45,7 +46,7 @@ pub data AcceptsFirst (bytes : List ℕ) (Then : Program → List Reading → Du
 -- What is due to FILE and IMAGE: FILE is read and accepted, then IMAGE is read, and something follows.
 abbrev pub Opens : List ℕ → List ℕ → Following → List Reading → Due → Type 0
 Opens file image Then readings due =
-    Reads file file_limit
+    ReadsFile file file_limit
     (λ bytes later d. AcceptsFirst bytes (λ p rs e. ReadsImage image (Then p) rs e) later d) readings due
 
 -- Read images -------------------------------------------------------------------------------

@@ -9,8 +9,8 @@ use Rattle.rb_lines.specs.Lines.{read_fault_line, file_bytes_line}
 use Rattle.rb_lines.specs.declared.status.Status.TheVariants.{Unread, Limit}
 
 -- what is held under names: for each name its bytes, or nothing
-abbrev pub Holds : Type 0
-Holds = List ℕ → Option (List ℕ)
+abbrev pub HeldFiles : Type 0
+HeldFiles = List ℕ → Option (List ℕ)
 
 -- the most bytes that a file may have
 abbrev pub file_limit : ℕ
@@ -40,16 +40,17 @@ pub data IsUnread (name : List ℕ) (limit : ℕ) (readings : List Reading) (due
 
 -- What is due where a file is read with its limit: it was not read to its end; or it is within the limit, and
 -- `Then` follows, over its bytes and what is read after it.
-pub data Reads (name : List ℕ) (limit : ℕ) (Then : List ℕ → List Reading → Due → Type 0) (readings : List Reading)
+pub data ReadsFile (name : List ℕ) (limit : ℕ) (Then : List ℕ → List Reading → Due → Type 0) (readings : List Reading)
     (due : Due) : Type 0 where
-  unread : IsUnread name limit readings due → Reads name limit Then readings due
+  unread : IsUnread name limit readings due → ReadsFile name limit Then readings due
   within : (bytes : List ℕ) (later : List Reading) → readings ≡ whole name bytes ∷ later → length bytes ≤ limit
       → Then bytes later due
-      → Reads name limit Then readings due
+      → ReadsFile name limit Then readings due
 
 -- what is due where a file is read with its limit, and nothing is read after it; `Then` follows over its bytes
 abbrev pub ReadsOne : List ℕ → ℕ → (List ℕ → Due → Type 0) → List Reading → Due → Type 0
-ReadsOne name limit Then readings due = Reads name limit (λ bytes later d. (later ≡ []) × Then bytes d) readings due
+ReadsOne name limit Then readings due =
+    ReadsFile name limit (λ bytes later d. (later ≡ []) × Then bytes d) readings due
 
 -- Sources -----------------------------------------------------------------------------------
 
@@ -57,7 +58,7 @@ ReadsOne name limit Then readings due = Reads name limit (λ bytes later d. (lat
 -- of faults
 pub record Source : Type 0 where
   pub tells : Bool
-  pub held : Holds
+  pub held : HeldFiles
   pub old : List Reading
   pub new : List Reading
   pub before : ℕ
@@ -65,7 +66,7 @@ pub record Source : Type 0 where
 
 -- a source `old` before a call and `new` after it, by what the trait says of it: whether it tells what it holds,
 -- that, what it handed out, and its count of faults
-abbrev pub source_of : {S : Type 0} → (S → Bool) → (S → Holds) → (S → List Reading) → (S → ℕ) → S → S → Source
+abbrev pub source_of : {S : Type 0} → (S → Bool) → (S → HeldFiles) → (S → List Reading) → (S → ℕ) → S → S → Source
 source_of tells held readings faults old new = record {
   tells = tells old;
   held = held old;

@@ -10,7 +10,7 @@ ghost use Rattle.rb_layout.specs.Agreement.{AreAgreed};
 ghost use Rattle.rb_lines.specs.View.{IsRefusal};
 ghost use Rattle.rb_names.specs.Programs.{numbered};
 ghost use Rattle.rb_syntax.specs.Cutting.{HasTokens};
-ghost use Rattle.rb_accept.specs.Accepting.{IsNamed, IsNamedWith, IsProgramOf, IsRead, IsRefused, completed_as};
+ghost use Rattle.rb_accept.specs.Accepting.{IsNamed, IsNamedWith, IsProgramOf, FileIsRead, IsRefused, completed_as};
 ghost use Rattle.rb_accept.specs.Reading.{file_limit};
 ghost use Rattle.rb_accept.specs.View.{IsAcceptance};
 
@@ -62,7 +62,7 @@ fn cut(alloc: Global, bytes: &[u8]) -> Result<Vec<Placed>, Refusal>
 fn read(alloc: Global, bytes: &[u8], placed: &[Placed]) -> Result<FileTree, Refusal>
     requires few { length bytes.now ≤ file_limit }
     requires tokens { HasTokens bytes.now placed.now }
-    ensures read { IfOk result (IsRead bytes.now placed.now) }
+    ensures read { IfOk result (FileIsRead bytes.now placed.now) }
     ensures refused { IfErr result (IsRefusal (IsRefused bytes.now)) }
 {
     match read_file(alloc, placed) {
@@ -78,7 +78,7 @@ fn read(alloc: Global, bytes: &[u8], placed: &[Placed]) -> Result<FileTree, Refu
 // defined twice or stands for nothing, or to a file without `main`.
 fn name(alloc: Global, bytes: &[u8], placed: &[Placed], file: &FileTree) -> Result<Program, Refusal>
     requires few { length bytes.now ≤ file_limit }
-    requires read { IsRead bytes.now placed.now file.now }
+    requires read { FileIsRead bytes.now placed.now file.now }
     ensures named { IfOk result (λ p. numbered file.now ≡ Ok p) }
     ensures well { IfOk result IsWellNumbered }
     ensures refused { IfErr result (IsRefusal (IsRefused bytes.now)) }
@@ -101,7 +101,7 @@ fn add_layouts(
     file: &FileTree,
     program: Program,
 ) -> Result<Completed, Refusal>
-    requires read { IsRead bytes.now placed.now file.now }
+    requires read { FileIsRead bytes.now placed.now file.now }
     requires named { numbered file.now ≡ Ok program }
     requires well { IsWellNumbered program }
     ensures named { IfOk result (IsNamedWith bytes.now placed.now) }

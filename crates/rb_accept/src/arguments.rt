@@ -6,7 +6,7 @@ ghost use Rattle.rb_lines.specs.Answer.{refusal};
 ghost use Rattle.rb_lines.specs.ArgumentLines.{argument_line, node_limit};
 ghost use Rattle.rb_lines.specs.View.{due_of, IsRefusal};
 ghost use Rattle.rb_lines.specs.declared.status.Status.TheVariants.{Argument};
-ghost use Rattle.rb_values.specs.Reading.{IsRead};
+ghost use Rattle.rb_values.specs.Reading.{ValueIsRead};
 ghost use Rattle.rb_values.specs.declared.fault.ValueFault.TheVariants.{Memory};
 ghost use Rattle.rb_accept.specs.Arguments.{AreRead, IsFirstRefused, IsMisfit, IsRefusedAt, Spell};
 
@@ -53,7 +53,7 @@ fn read_argument(
     ty: Ty,
     word: &[u8],
 ) -> Result<Forest, Refusal>
-    ensures read { IfOk result (λ v. IsRead types.now ty node_limit word.now (Ok v)) }
+    ensures read { IfOk result (λ v. ValueIsRead types.now ty node_limit word.now (Ok v)) }
     ensures refused { IfErr result (IsRefusal (IsRefusedAt types.now number ty word.now)) }
 {
     match read_value(alloc, types, ty, word, NODES) {

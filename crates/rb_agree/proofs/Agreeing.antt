@@ -30,7 +30,7 @@ use Rattle.rb_agree.specs.declared.rules.Rule.{Rule}
 use Rattle.rb_agree.specs.declared.rules.Rule.TheVariants.{Roots, Parts, Blocks, Values, Fields, Tests, Splits, Flattening, Holding}
 use Rattle.rb_agree.specs.Answers.{Finds}
 use Rattle.rb_agree.specs.inner.Lists.{EachOf}
-use Rattle.rb_agree.specs.inner.Rules.{IsReady, early_rules, late_rules, leaf_spots, leaves_spots, rule_spots, rules_spots, spots_of}
+use Rattle.rb_agree.specs.inner.Rules.{RuleIsReady, early_rules, late_rules, leaf_spots, leaves_spots, rule_spots, rules_spots, spots_of}
 use Rattle.rb_agree.proofs.Lists.{each-first, each-none}
 use Rattle.rb_agree.proofs.Holding.{if-ok}
 use Rattle.rb_agree.proofs.Finding.{found-first, found-later}
@@ -137,20 +137,20 @@ module _ (p : Program) (layouts : List Layout) (typed : IsTyped p) (shapes : A1 
       readable layout.shape leaf (omega (arith, most))
       (λ i w e. of-shape decl.0 (decl_of p.layouts t) decl.1 (shapes t lt) i w (ap (λ (ws : List ℕ). slice_get ws i) (sym shape) ∙ e)) root block
 
-  pub all-ready : Finds p layouts (rules_spots p.layouts layouts early_rules) None → EachOf (IsReady layouts) late_rules
+  pub all-ready : Finds p layouts (rules_spots p.layouts layouts early_rules) None → EachOf (RuleIsReady layouts) late_rules
   all-ready h =
-      each-first (IsReady layouts) Tests (Splits ∷ Flattening ∷ Holding ∷ []) (all-readable h)
-      (each-first (IsReady layouts) Splits (Flattening ∷ Holding ∷ []) tt
-      (each-first (IsReady layouts) Flattening (Holding ∷ []) tt
-      (each-first (IsReady layouts) Holding [] tt (each-none (IsReady layouts)))))
+      each-first (RuleIsReady layouts) Tests (Splits ∷ Flattening ∷ Holding ∷ []) (all-readable h)
+      (each-first (RuleIsReady layouts) Splits (Flattening ∷ Holding ∷ []) tt
+      (each-first (RuleIsReady layouts) Flattening (Holding ∷ []) tt
+      (each-first (RuleIsReady layouts) Holding [] tt (each-none (RuleIsReady layouts)))))
 
-pub early-ready : (layouts : List Layout) → EachOf (IsReady layouts) early_rules
+pub early-ready : (layouts : List Layout) → EachOf (RuleIsReady layouts) early_rules
 early-ready layouts =
-    each-first (IsReady layouts) Roots (Parts ∷ Blocks ∷ Values ∷ Fields ∷ []) tt
-    (each-first (IsReady layouts) Parts (Blocks ∷ Values ∷ Fields ∷ []) tt
-    (each-first (IsReady layouts) Blocks (Values ∷ Fields ∷ []) tt
-    (each-first (IsReady layouts) Values (Fields ∷ []) tt
-    (each-first (IsReady layouts) Fields [] tt (each-none (IsReady layouts))))))
+    each-first (RuleIsReady layouts) Roots (Parts ∷ Blocks ∷ Values ∷ Fields ∷ []) tt
+    (each-first (RuleIsReady layouts) Parts (Blocks ∷ Values ∷ Fields ∷ []) tt
+    (each-first (RuleIsReady layouts) Blocks (Values ∷ Fields ∷ []) tt
+    (each-first (RuleIsReady layouts) Values (Fields ∷ []) tt
+    (each-first (RuleIsReady layouts) Fields [] tt (each-none (RuleIsReady layouts))))))
 
 -- All places ----------------------------------------------------------------------------------------------------
 
@@ -215,7 +215,7 @@ module _ (p : Program) (layouts : List Layout) where
   late-found r h none res found = if-ok res (Finds p layouts (rules_spots p.layouts layouts late_rules)) (Finds p layouts (later_spots p layouts)) (λ x k.
       found-later p layouts (rules_spots p.layouts layouts early_rules) (rules_spots p.layouts layouts late_rules) x (subst (λ (y : Option Refused). EarlyFinds y) none h) k) found
 
-  pub ready-late : (r : Option Refused) → IsTyped p → A1 p → AreInOrder p layouts → EarlyFinds r → r ≡ None → EachOf (IsReady layouts) late_rules
+  pub ready-late : (r : Option Refused) → IsTyped p → A1 p → AreInOrder p layouts → EarlyFinds r → r ≡ None → EachOf (RuleIsReady layouts) late_rules
   ready-late r typed shapes order h none = all-ready p layouts typed shapes order (subst (λ (x : Option Refused). EarlyFinds x) none h)
 
 abbrev pub ShapesFind : Program → Option Refused → Type 0

@@ -25,7 +25,7 @@ use Rattle.rb_layout.specs.Locations.{Reached, reached_at, resolve_from, range_i
 use Rattle.rb_layout.specs.Excluded.{Bars, differs, null, within, Excludes, HasNull, HasOtherBit}
 use Rattle.rb_layout.specs.Excluded as X
 use Rattle.rb_layout.specs.Splits.{IsNone}
-use Rattle.rb_layout.specs.A7.{Meets}
+use Rattle.rb_layout.specs.A7.{MeetsTest}
 use Rattle.rb_layout.proofs.OpenPositions.{position-typed, type-open}
 use Rattle.rb_agree.specs.inner.Passing.{IsLike, IsPrior}
 use Rattle.rb_agree.specs.inner.Alike.{AreAlike, AreKinds, ArePartsAlike, IsBeside, IsPartAlike}
@@ -132,9 +132,9 @@ module _ (types : List DataDecl) (one other : Pat) (o l : ℕ) where
     }
 
 module _ (types : List DataDecl) (one other : Leaf) (o l : ℕ) where
-  meets-of : (f g : FlatWord) (s j p a b : ℕ) → ArePartsAlike types one.prov other.prov o l f.parts g.parts → X.Meets types one f o l s j p a b → X.Meets types other g o l s j p a b
+  meets-of : (f g : FlatWord) (s j p a b : ℕ) → ArePartsAlike types one.prov other.prov o l f.parts g.parts → X.MeetsRange types one f o l s j p a b → X.MeetsRange types other g o l s j p a b
   meets-of f g s j p a b alike h = let r = part-of types one.prov other.prov o l f.parts g.parts alike h.number h.part h.is_part in at r.0 r.1 r.2 where
-    at : (q : Part) → slice_get g.parts h.number ≡ Some q → IsPartAlike types one.prov other.prov o l h.part q → X.Meets types other g o l s j p a b
+    at : (q : Part) → slice_get g.parts h.number ≡ Some q → IsPartAlike types one.prov other.prov o l h.part q → X.MeetsRange types other g o l s j p a b
     at q e (inl ((some, inl below), there)) = let x = h.first in let y = h.last in let z = h.some in let w = h.from in absurd (omega (arith, some, below, x, y, z, w))
     at q e (inl ((some, inr above), there)) = let x = h.first in let y = h.last in let z = h.some in let w = h.from in absurd (omega (arith, some, above, x, y, z, w))
     at q e (inr same) =
@@ -196,7 +196,7 @@ module _ (types : List DataDecl) (layouts : List Layout) where
           bars = bars-of (subst (λ (x : Reached). Bars types layouts one x.word x.o x.l c) r.0 e.bars) other h.second h.parts;
         }
 
-    pub meets-too : (literals : List ℕ) → Meets types layouts one (IsNone loc literals) → Meets types layouts other (IsNone loc literals)
+    pub meets-too : (literals : List ℕ) → MeetsTest types layouts one (IsNone loc literals) → MeetsTest types layouts other (IsNone loc literals)
     meets-too literals m = ((record { ref = root_ref loc; word = h.second; o = loc.o; l = loc.l }, (reached-too m.0.0 m.0.1).1), λ c is. excludes-too c (m.1 c is))
 
 -- Pairs of items, one by one ----------------------------------------------------------------------------
@@ -226,6 +226,6 @@ told false P Q f h = h
 -- A leaf that is alike to one that meets the test of an `else` -------------------------------------------
 
 pub like-meets : (types : List DataDecl) (layouts : List Layout) (leaves : List Leaf) (leaf : Leaf) (loc : Loc) (literals : List ℕ) (prior : Option ℕ) → IsLike types leaves leaf loc prior
-    → IsPrior types layouts leaves (IsNone loc literals) prior → Meets types layouts leaf (IsNone loc literals)
+    → IsPrior types layouts leaves (IsNone loc literals) prior → MeetsTest types layouts leaf (IsNone loc literals)
 like-meets types layouts leaves leaf loc literals prior h known =
     meets-too types layouts h.1 leaf loc h.4 literals (subst (λ (p : Option ℕ). IsPrior types layouts leaves (IsNone loc literals) p) h.2 known h.1 h.3)

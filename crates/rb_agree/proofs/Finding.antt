@@ -9,7 +9,7 @@ use Rattle.rb_layout.specs.declared.layout.Layout.{Layout}
 use Rattle.rb_layout.specs.declared.layout.Leaf.{Leaf}
 use Rattle.rb_layout.specs.declared.evidence.Why.{Why}
 use Rattle.rb_layout.specs.declared.evidence.Refused.{Refused}
-use Rattle.rb_layout.specs.Spots.{Spot, Shape, Checked, Fails, Holds, place_of, by_leaves, by_types, shape_spots, part_spots}
+use Rattle.rb_layout.specs.Spots.{Spot, Shape, Checked, SpotFails, SpotHolds, place_of_spot, by_leaves, by_types, shape_spots, part_spots}
 use Rattle.rb_layout.specs.Items.{Item}
 use Rattle.rb_layout.specs.A1.{FailsShape, HasShape}
 use Rattle.rb_layout.specs.Flattening.{decl_of}
@@ -35,8 +35,8 @@ module _ (p : Program) (layouts : List Layout) where
   found-later xs ys (Some r) h found = (found.0, later-found xs ys (Some (found.0, r.why)) h found.1, found.2)
 
   -- one place
-  pub one-place : (s : Spot) (rule t : ℕ) (n : Option ℕ) (found : Option Why) → record { rule = rule; ty = t; leaf = n } ≡ place_of s
-      → MatchOption found (Holds p layouts s) (Fails p layouts s) → Finds p layouts (s ∷ []) (refusal rule t n found)
+  pub one-place : (s : Spot) (rule t : ℕ) (n : Option ℕ) (found : Option Why) → record { rule = rule; ty = t; leaf = n } ≡ place_of_spot s
+      → MatchOption found (SpotHolds p layouts s) (SpotFails p layouts s) → Finds p layouts (s ∷ []) (refusal rule t n found)
   one-place s rule t n None place h = (h, tt)
   one-place s rule t n (Some why) place h = (s, inl ((λ i. s), h), (place, λ i. why))
 

@@ -13,7 +13,7 @@ use Rattle.rb_layout.specs.declared.layout.Leaf.{Leaf}
 use Rattle.rb_layout.specs.A5.{HaveCommon}
 use Rattle.rb_layout.proofs.Walks.{drop_from}
 use Rattle.rb_agree.specs.inner.Sharing.{ApartWhereOff, AreGroups, HaveAll, HaveBefore, IsAlone, IsGroupOf, IsIn, MayBe, SharesNone, con_at, con_from, heads_in, root_con, sub_at}
-use Rattle.rb_matrix.specs.Apart.{AreApart}
+use Rattle.rb_matrix.specs.Apart.{PatternsAreApart}
 use Rattle.rb_matrix.proofs.Differing.{cons-apart}
 use Rattle.rb_agree.proofs.Lists.{at-item, map-at}
 
@@ -67,7 +67,7 @@ some-sub : (x : Option Pat) (path : List ℕ) (a : ℕ) → con_from x path ≡ 
 some-sub None path a e = absurd cc
 some-sub (Some q) path a e = (q, refl)
 
-pub differ-at : (path : List ℕ) (p q : Pat) (a b : ℕ) → con_at p path ≡ Some a → con_at q path ≡ Some b → (a ≡ b → ⊥) → AreApart p q
+pub differ-at : (path : List ℕ) (p q : Pat) (a b : ℕ) → con_at p path ≡ Some a → con_at q path ≡ Some b → (a ≡ b → ⊥) → PatternsAreApart p q
 differ-at [] p q a b e f other =
     let r = root-of p a e in
     let s = root-of q b f in

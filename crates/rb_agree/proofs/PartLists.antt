@@ -15,7 +15,7 @@ use Rattle.rb_layout.specs.A3.{Fits, FitsSlice, FitsWhole, FitsWord, IsPlaced, P
 use Rattle.rb_agree.specs.declared.items.Written.{Written}
 use Rattle.rb_agree.specs.Written.{shown_part, shown_parts}
 use Rattle.rb_agree.specs.inner.Lists.{EachOf}
-use Rattle.rb_agree.specs.inner.Parts.{AreApart, AreFine, FailsApart, FailsSome, FailsWord, IsPartFine, IsSet}
+use Rattle.rb_agree.specs.inner.Parts.{PartsAreApart, AreFine, FailsApart, FailsSome, FailsWord, IsPartFine, IsSet}
 use Rattle.rb_agree.proofs.Lists.{each-map, map-at}
 
 -- of what isn't placed nothing is demanded
@@ -75,7 +75,7 @@ module _ (decls : List LayoutDecl) (opens : List Open) (i width : ℕ) (parts : 
       )
   apart-fails why h = absurd h.1.8
 
-  disjoint-at : AreApart opens parts → (j k : ℕ) (p q : WrittenPart) → j < k → slice_get (shown_parts parts) j ≡ Some p → slice_get (shown_parts parts) k ≡ Some q
+  disjoint-at : PartsAreApart opens parts → (j k : ℕ) (p q : WrittenPart) → j < k → slice_get (shown_parts parts) j ≡ Some p → slice_get (shown_parts parts) k ≡ Some q
       → IsPlaced opens p.content → IsPlaced opens q.content → AreDisjoint p.o p.l q.o q.l
   disjoint-at apart j k p q lt ej ek pj pk =
       let v = unmap parts j p ej in
@@ -85,7 +85,7 @@ module _ (decls : List LayoutDecl) (opens : List Open) (i width : ℕ) (parts : 
       let here : AreDisjoint v.0.o v.0.l w.0.o w.0.l = apart k j v.0 w.0 lt v.1 w.1 set-v set-w in
       subst (λ (x : WrittenPart). AreDisjoint p.o p.l x.o x.l) w.2 (subst (λ (x : WrittenPart). AreDisjoint x.o x.l w.0.o w.0.l) v.2 here)
 
-  parts-fit : AreFine decls opens width parts → AreApart opens parts → PartsFit decls opens width (shown_parts parts)
+  parts-fit : AreFine decls opens width parts → PartsAreApart opens parts → PartsFit decls opens width (shown_parts parts)
   parts-fit fine apart =
       let all : EachOf (IsPartFine decls opens width) (shown_parts parts) = each-map shown_part (IsPartFine decls opens width) parts fine in
       record {
@@ -95,7 +95,7 @@ module _ (decls : List LayoutDecl) (opens : List Open) (i width : ℕ) (parts : 
       }
 
   pub word-found : (r s : Option Why) → r ≡ None → MatchOption r (AreFine decls opens width parts) (FailsSome decls opens i width parts)
-      → MatchOption s (AreApart opens parts) (FailsApart opens i parts) → MatchOption s (PartsFit decls opens width (shown_parts parts)) (FailsWord decls opens i width (shown_parts parts))
+      → MatchOption s (PartsAreApart opens parts) (FailsApart opens i parts) → MatchOption s (PartsFit decls opens width (shown_parts parts)) (FailsWord decls opens i width (shown_parts parts))
   word-found r None is h apart = parts-fit (subst (λ (x : Option Why). MatchOption x (AreFine decls opens width parts) (FailsSome decls opens i width parts)) is h) apart
   word-found r (Some why) is h bad = apart-fails why bad
 

@@ -14,7 +14,7 @@ use Rattle.rb_layout.specs.declared.layout.Layout.{Layout}
 use Rattle.rb_layout.specs.declared.layout.Leaf.{Leaf}
 use Rattle.rb_layout.specs.declared.evidence.Why.{Why}
 use Rattle.rb_layout.specs.declared.evidence.Refused.{Refused}
-use Rattle.rb_layout.specs.Spots.{Spot, Checked, Fails, Holds, place_of, by_leaves, by_types, part_spots}
+use Rattle.rb_layout.specs.Spots.{Spot, Checked, SpotFails, SpotHolds, place_of_spot, by_leaves, by_types, part_spots}
 use Rattle.rb_layout.specs.Spots as S
 use Rattle.rb_layout.specs.Items.{Item, items_of}
 use Rattle.rb_layout.specs.Positions.{layout_of, open_positions}
@@ -118,13 +118,13 @@ module _ (p : Program) (leaf : Leaf) (items : List D.Item) where
 
 module _ (p : Program) (layouts : List Layout) where
   abbrev Of : Spot → Option Why → Type 0
-  Of s found = MatchOption found (Holds p layouts s) (Fails p layouts s)
+  Of s found = MatchOption found (SpotHolds p layouts s) (SpotFails p layouts s)
 
   module _ (t : ℕ) (layout : Layout) where
     abbrev TypeFinds : Rule → Option Why → Type 0
     TypeFinds rule found = Finds p layouts (type_spots rule t layout) (refusal (rule_number rule) t None found)
 
-    pub type-one : {E : Type 0} (rule r : Rule) (s : Spot) → rule ≡ r → type_spots r t layout ≡ s ∷ [] → record { rule = rule_number r; ty = t; leaf = None } ≡ place_of s
+    pub type-one : {E : Type 0} (rule r : Rule) (s : Spot) → rule ≡ r → type_spots r t layout ≡ s ∷ [] → record { rule = rule_number r; ty = t; leaf = None } ≡ place_of_spot s
         → (res : Result (Option Why) E) → IfOk res (Of s) → IfOk res (TypeFinds rule)
     type-one rule r s is spots place res h = if-ok res (Of s) (TypeFinds rule) (λ found k.
         subst (λ (x : Rule). TypeFinds x found) (sym is)
@@ -137,13 +137,13 @@ module _ (p : Program) (layouts : List Layout) where
       abbrev LeafFinds : Rule → Option Why → Type 0
       LeafFinds rule found = Finds p layouts (leaf_spots p.layouts rule t layout n leaf) (refusal (rule_number rule) t (Some n) found)
 
-      pub leaf-at : (rule r : Rule) (s : Spot) → rule ≡ r → leaf_spots p.layouts r t layout n leaf ≡ s ∷ [] → record { rule = rule_number r; ty = t; leaf = Some n } ≡ place_of s
+      pub leaf-at : (rule r : Rule) (s : Spot) → rule ≡ r → leaf_spots p.layouts r t layout n leaf ≡ s ∷ [] → record { rule = rule_number r; ty = t; leaf = Some n } ≡ place_of_spot s
           → (found : Option Why) → Of s found → LeafFinds rule found
       leaf-at rule r s is spots place found k =
           subst (λ (x : Rule). LeafFinds x found) (sym is)
           (subst (λ (ss : List Spot). Finds p layouts ss (refusal (rule_number r) t (Some n) found)) (sym spots) (one-place p layouts s (rule_number r) t (Some n) found place k))
 
-      pub leaf-one : {E : Type 0} (rule r : Rule) (s : Spot) → rule ≡ r → leaf_spots p.layouts r t layout n leaf ≡ s ∷ [] → record { rule = rule_number r; ty = t; leaf = Some n } ≡ place_of s
+      pub leaf-one : {E : Type 0} (rule r : Rule) (s : Spot) → rule ≡ r → leaf_spots p.layouts r t layout n leaf ≡ s ∷ [] → record { rule = rule_number r; ty = t; leaf = Some n } ≡ place_of_spot s
           → (res : Result (Option Why) E) → IfOk res (Of s) → IfOk res (LeafFinds rule)
       leaf-one rule r s is spots place res h = if-ok res (Of s) (LeafFinds rule) (λ found k. leaf-at rule r s is spots place found k) h
 

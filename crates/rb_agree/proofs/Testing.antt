@@ -15,13 +15,13 @@ use Rattle.rb_layout.specs.declared.evidence.Why.{Why}
 use Rattle.rb_layout.specs.Splits.{Test, Is, IsNone, Route, Under, behind, arm_routes, else_routes, literals_of, routes_step, routes_arm, routes_of, routes_under}
 use Rattle.rb_layout.specs.Locations.{Reached, reached_at, ref_of}
 use Rattle.rb_layout.specs.Excluded.{Excludes}
-use Rattle.rb_layout.specs.A7.{FailsTest, FailsTests, IsLiteral, Meets, MeetsAll, Resolves}
+use Rattle.rb_layout.specs.A7.{FailsTest, FailsTests, IsLiteral, MeetsTest, MeetsAll, Resolves}
 use Rattle.rb_layout.proofs.FlatForms.{fold-Leaf, fold-Split, fold-Split-else}
 use Rattle.rb_agree.specs.declared.tests.Below.{Below}
 use Rattle.rb_agree.specs.declared.tests.Below.TheVariants.{Absent, Passes, Fails}
 use Rattle.rb_agree.specs.inner.Lists.{EachOf, SomeOf}
 use Rattle.rb_agree.specs.inner.Splits.{literals_in}
-use Rattle.rb_agree.specs.inner.Tests.{IsAfter, IsBelow, Leads, Misses, PassesRoute, FailsRoute, arms_routes, other_routes, both, status_of}
+use Rattle.rb_agree.specs.inner.Tests.{IsAfter, IsBelow, LeadsToLeaf, Misses, PassesRoute, FailsRoute, arms_routes, other_routes, both, status_of}
 use Rattle.rb_agree.proofs.Lists.{each-append, each-first, each-map, each-none, some-first, some-left, some-map, some-right, flat-next, flat-end, map-at}
 
 -- Routes, form by form ----------------------------------------------------------------------------
@@ -80,12 +80,12 @@ module _ (types : List DataDecl) (layouts : List Layout) (leaf : Leaf) (n : ℕ)
   pub join : (xs ys : List Route) (a b : Below) → B xs a → B ys b → B (xs ++ ys) (both a b)
   join xs ys Absent Absent h g = each-append (Misses types layouts leaf n) xs ys h g
   join xs ys Absent Passes h g =
-      (some-right (Leads types layouts leaf n) xs ys g.0, each-append (PassesRoute types layouts leaf n) xs ys (λ k r e. misses r (h k r e)) g.1)
+      (some-right (LeadsToLeaf types layouts leaf n) xs ys g.0, each-append (PassesRoute types layouts leaf n) xs ys (λ k r e. misses r (h k r e)) g.1)
   join xs ys Absent (Fails why) h g = some-right (FailsRoute types layouts leaf n why) xs ys g
   join xs ys (Fails why) b h g = some-left (FailsRoute types layouts leaf n why) xs ys h
   join xs ys Passes Absent h g =
-      (some-left (Leads types layouts leaf n) xs ys h.0, each-append (PassesRoute types layouts leaf n) xs ys h.1 (λ k r e. misses r (g k r e)))
-  join xs ys Passes Passes h g = (some-left (Leads types layouts leaf n) xs ys h.0, each-append (PassesRoute types layouts leaf n) xs ys h.1 g.1)
+      (some-left (LeadsToLeaf types layouts leaf n) xs ys h.0, each-append (PassesRoute types layouts leaf n) xs ys h.1 (λ k r e. misses r (g k r e)))
+  join xs ys Passes Passes h g = (some-left (LeadsToLeaf types layouts leaf n) xs ys h.0, each-append (PassesRoute types layouts leaf n) xs ys h.1 g.1)
   join xs ys Passes (Fails why) h g = some-right (FailsRoute types layouts leaf n why) xs ys g
 
   -- ---- below a test
@@ -97,10 +97,10 @@ module _ (types : List DataDecl) (layouts : List Layout) (leaf : Leaf) (n : ℕ)
       some-map (behind t) (FailsRoute types layouts leaf n why) rs
       (h.0, h.1, h.2, (h.3.0, some-right (λ (u : Test). FailsTest types layouts leaf u why) (t ∷ []) h.1.tests h.3.1))
 
-  behind-passes : (t : Test) (rs : List Route) → Meets types layouts leaf t → B rs Passes → B (map (behind t) rs) Passes
+  behind-passes : (t : Test) (rs : List Route) → MeetsTest types layouts leaf t → B rs Passes → B (map (behind t) rs) Passes
   behind-passes t rs meets h = (
-    some-map (behind t) (Leads types layouts leaf n) rs h.0,
-    each-map (behind t) (PassesRoute types layouts leaf n) rs (λ k r e leads. each-first (Meets types layouts leaf) t r.tests meets (h.1 k r e leads)),
+    some-map (behind t) (LeadsToLeaf types layouts leaf n) rs h.0,
+    each-map (behind t) (PassesRoute types layouts leaf n) rs (λ k r e leads. each-first (MeetsTest types layouts leaf) t r.tests meets (h.1 k r e leads)),
   )
 
   behind-fails-here : (t : Test) (rs : List Route) (why : Why) → FailsTest types layouts leaf t why → B rs Passes → B (map (behind t) rs) (Fails why)
@@ -123,7 +123,7 @@ module _ (types : List DataDecl) (layouts : List Layout) (leaf : Leaf) (n : ℕ)
   pub leaf-here : (tree : FlatTree) (m : ℕ) → tree ≡ F.Leaf m → m ≡ n → B (routes_of tree) Passes
   leaf-here tree m is same =
       subst (λ (rs : List Route). B rs Passes) (sym (ap (λ (t : FlatTree). routes_of t) is ∙ routes-Leaf m)) (
-        some-first (Leads types layouts leaf n) (record { leaf = m; tests = [] }) [] same,
+        some-first (LeadsToLeaf types layouts leaf n) (record { leaf = m; tests = [] }) [] same,
         each-first (PassesRoute types layouts leaf n) (record { leaf = m; tests = [] }) [] (λ leads k t e. absurd cc) (λ k r e. absurd cc),
       )
 

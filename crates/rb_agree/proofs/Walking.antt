@@ -13,12 +13,12 @@ use Rattle.rb_layout.specs.declared.layout.FlatArm.{FlatArm}
 use Rattle.rb_layout.specs.declared.layout.Layout.{Layout}
 use Rattle.rb_layout.specs.declared.layout.Leaf.{Leaf}
 use Rattle.rb_layout.specs.Splits.{Test, Is, IsNone, Route, Under, behind, arm_routes, routes_of, routes_under}
-use Rattle.rb_layout.specs.A7.{Meets, MeetsAll}
+use Rattle.rb_layout.specs.A7.{MeetsTest, MeetsAll}
 use Rattle.rb_agree.specs.declared.passing.Span.{Span}
 use Rattle.rb_agree.specs.inner.Lists.{EachOf}
 use Rattle.rb_agree.specs.inner.Splits.{literals_in}
 use Rattle.rb_agree.specs.inner.Tests.{arms_routes}
-use Rattle.rb_agree.specs.inner.Passing.{AreAsked, AreWalked, Covers, IsAmong, IsAsked, IsOff, Keeps, MeetsWhereOff}
+use Rattle.rb_agree.specs.inner.Passing.{AreAsked, AreWalked, CoversSpan, IsAmong, IsAsked, IsOff, KeepsMarks, MeetsWhereOff}
 use Rattle.rb_agree.proofs.Lists.{each-append, each-first, each-map, each-none}
 use Rattle.rb_agree.proofs.Testing.{meets-all, routes-Leaf, routes-Split, under-routes}
 
@@ -48,20 +48,20 @@ module _ (types : List DataDecl) (layouts : List Layout) (leaves : List Leaf) wh
   abbrev A : Test → Span → List Bool → List Bool → Type 0
   A = AreAsked types layouts leaves
 
-  still-meets : (old new : List Bool) (n : ℕ) (test : Test) → Keeps old new → Off old n test → Off new n test
+  still-meets : (old new : List Bool) (n : ℕ) (test : Test) → KeepsMarks old new → Off old n test → Off new n test
   still-meets old new n test keeps meets = λ off. meets (keeps n off)
 
   -- Leaves that are asked
-  pub asked-fine : (test : Test) (n : ℕ) (marks : List Bool) (leaf : Leaf) → slice_get leaves n ≡ Some leaf → Meets types layouts leaf test → IsAsked types layouts leaves test n marks marks
+  pub asked-fine : (test : Test) (n : ℕ) (marks : List Bool) (leaf : Leaf) → slice_get leaves n ≡ Some leaf → MeetsTest types layouts leaf test → IsAsked types layouts leaves test n marks marks
   asked-fine test n marks leaf at meets = record {
     keeps = λ k off. off;
-    meets = λ off x is. subst (λ (y : Leaf). Meets types layouts y test) (some-same leaf x (sym at ∙ is)) meets;
+    meets = λ off x is. subst (λ (y : Leaf). MeetsTest types layouts y test) (some-same leaf x (sym at ∙ is)) meets;
   }
 
   pub asked-none : (test : Test) (n : ℕ) (marks : List Bool) → slice_get leaves n ≡ None → IsAsked types layouts leaves test n marks marks
   asked-none test n marks none = record { keeps = λ k off. off; meets = λ off x is. absurd (cc (none, is)) }
 
-  pub asked-marked : (test : Test) (n : ℕ) (old new : List Bool) → Keeps old new → (IsOff new n → ⊥) → IsAsked types layouts leaves test n old new
+  pub asked-marked : (test : Test) (n : ℕ) (old new : List Bool) → KeepsMarks old new → (IsOff new n → ⊥) → IsAsked types layouts leaves test n old new
   asked-marked test n old new keeps on = record { keeps = keeps; meets = λ off x is. absurd (on off) }
 
   pub asked-more : (test : Test) (first i : ℕ) (old mid new : List Bool) → A test (record { first = first; end = i }) old mid → IsAsked types layouts leaves test i mid new
@@ -97,10 +97,10 @@ module _ (types : List DataDecl) (layouts : List Layout) (leaves : List Leaf) wh
         (λ j t is. still-meets mid new r.leaf t asked.keeps (walked.meet k r e j t is)));
   }
 
-  among-more : (whole span : Span) (n : ℕ) → Covers whole span → IsAmong span n → IsAmong whole n
+  among-more : (whole span : Span) (n : ℕ) → CoversSpan whole span → IsAmong span n → IsAmong whole n
   among-more whole span n covers among = (omega (arith, covers.0, among.0), omega (arith, covers.1, among.1))
 
-  walked-both : (xs ys : List Route) (one other whole : Span) (old mid new : List Bool) → W xs one old mid → W ys other mid new → Covers whole one → Covers whole other → W (xs ++ ys) whole old new
+  walked-both : (xs ys : List Route) (one other whole : Span) (old mid new : List Bool) → W xs one old mid → W ys other mid new → CoversSpan whole one → CoversSpan whole other → W (xs ++ ys) whole old new
   walked-both xs ys one other whole old mid new first second c d = record {
     among = each-append (λ (r : Route). IsAmong whole r.leaf) xs ys (λ k r e. among-more whole one r.leaf c (first.among k r e)) (λ k r e. among-more whole other r.leaf d (second.among k r e));
     keeps = λ k off. first.keeps k (second.keeps k off);
@@ -119,7 +119,7 @@ module _ (types : List DataDecl) (layouts : List Layout) (leaves : List Leaf) wh
 
   -- one arm more
   pub walked-more : (loc : Loc) (arms : List FlatArm) (i : ℕ) (arm : FlatArm) (one under whole : Span) (old mid asked new : List Bool) → i < length arms → arm ≡ get_or arms i arm
-      → W (arms_routes loc (take i arms)) one old mid → W (routes_of arm.under) under mid asked → A (Is loc arm.literal) under asked new → Covers whole one → Covers whole under
+      → W (arms_routes loc (take i arms)) one old mid → W (routes_of arm.under) under mid asked → A (Is loc arm.literal) under asked new → CoversSpan whole one → CoversSpan whole under
       → W (arms_routes loc (take (i + 1) arms)) whole old new
   walked-more loc arms i arm one under whole old mid asked new lt is before below ask c d =
       let here : W (arm_routes loc (routes_under arm)) under mid new =
@@ -136,7 +136,7 @@ module _ (types : List DataDecl) (layouts : List Layout) (leaves : List Leaf) wh
       (walked-both (arms_routes loc arms) [] span span span old new new walked (walked-none span new) (omega arith, omega arith) (omega arith, omega arith))
 
   pub walked-else : (tree : FlatTree) (loc : Loc) (arms : List FlatArm) (other : FlatTree) (one under whole : Span) (old mid asked new : List Bool) → tree ≡ F.Split loc arms (Some other)
-      → W (arms_routes loc arms) one old mid → W (routes_of other) under mid asked → A (IsNone loc (literals_in arms)) under asked new → Covers whole one → Covers whole under → W (routes_of tree) whole old new
+      → W (arms_routes loc arms) one old mid → W (routes_of other) under mid asked → A (IsNone loc (literals_in arms)) under asked new → CoversSpan whole one → CoversSpan whole under → W (routes_of tree) whole old new
   walked-else tree loc arms other one under whole old mid asked new is before below ask c d =
       subst (λ (rs : List Route). W rs whole old new) (sym (ap (λ (t : FlatTree). routes_of t) is ∙ routes-Split loc arms (Some other)))
       (walked-both (arms_routes loc arms) (map (behind (IsNone loc (literals_in arms))) (routes_of other)) one under whole old mid new before

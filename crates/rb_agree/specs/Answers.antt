@@ -4,7 +4,7 @@ use Rattle.rb_core.specs.declared.program.Program.{Program}
 use Rattle.rb_layout.specs.declared.layout.Layout.{Layout}
 use Rattle.rb_layout.specs.declared.evidence.Refused.{Refused}
 use Rattle.rb_layout.specs.Flattening.{flat_layouts}
-use Rattle.rb_layout.specs.Spots.{Spot, Checked, IsRefusal, IsRefusedBy}
+use Rattle.rb_layout.specs.Spots.{Spot, Checked, IsRefusalAt, IsRefusedBy}
 use Rattle.rb_agree.specs.declared.fault.AgreeFault.{AgreeFault}
 use Rattle.rb_agree.specs.declared.fault.AgreeFault.TheVariants.{Rule, Memory}
 
@@ -12,7 +12,7 @@ use Rattle.rb_agree.specs.declared.fault.AgreeFault.TheVariants.{Rule, Memory}
 -- the first that fails
 abbrev pub Finds : Program → List Layout → List Spot → Option Refused → Type 0
 Finds p layouts spots None = Checked p layouts spots None
-Finds p layouts spots (Some r) = (s : Spot) × Checked p layouts spots (Some (s, r.why)) × IsRefusal r s r.why
+Finds p layouts spots (Some r) = (s : Spot) × Checked p layouts spots (Some (s, r.why)) × IsRefusalAt r s r.why
 
 -- a fault that may be answered for a program: the refusal at the first place (by rule, type, leaf and item) where its
 -- layouts fail a rule of agreement; or want of memory, which says nothing of them

@@ -11,12 +11,12 @@ use Rattle.rb_layout.specs.Graphs.{mark_of}
 use Rattle.rb_agree.specs.inner.Lists.{SomeOf}
 
 -- a part is a pointer
-abbrev pub KindPoints : Part → Type 0
-KindPoints p = (align : ℕ) × (b : ℕ) × (p.kind ≡ Pointer align b)
+abbrev pub PartPoints : Part → Type 0
+PartPoints p = (align : ℕ) × (b : ℕ) × (p.kind ≡ Pointer align b)
 
 -- one of these parts is a pointer
 abbrev pub PartsPoint : List Part → Type 0
-PartsPoint parts = SomeOf KindPoints parts
+PartsPoint parts = SomeOf PartPoints parts
 
 -- one of these words has a pointer part
 abbrev pub WordsPoint : List FlatWord → Type 0

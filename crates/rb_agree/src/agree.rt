@@ -7,7 +7,7 @@ ghost use Rattle.rb_layout.specs.Agreement.{AreAgreed};
 ghost use Rattle.rb_layout.specs.Flattening.{AreInOrder};
 ghost use Rattle.rb_agree.specs.Answers.{Finds, IsAgreeFault};
 ghost use Rattle.rb_agree.specs.inner.Lists.{EachOf};
-ghost use Rattle.rb_agree.specs.inner.Rules.{IsKnown, IsReady, early_rules, late_rules, rules_spots};
+ghost use Rattle.rb_agree.specs.inner.Rules.{IsKnown, RuleIsReady, early_rules, late_rules, rules_spots};
 
 use crate::fault::AgreeFault;
 use crate::graphs::{flattened, held};
@@ -75,7 +75,7 @@ fn late_fault(
     related: &Related,
 ) -> Result<Option<Refused>, AllocError>
     requires known { IsKnown program.now layouts.now related.now }
-    requires ready { EachOf (IsReady layouts.now) late_rules }
+    requires ready { EachOf (RuleIsReady layouts.now) late_rules }
     ensures { IfOk result (Finds program.now layouts.now (rules_spots program.now.layouts layouts.now late_rules)) }
 {
     let rules = [Rule::Tests, Rule::Splits, Rule::Flattening, Rule::Holding];

@@ -9,7 +9,7 @@ ghost use Rattle.std.specs.Prelude.{◌≡◌, ℕ, IfOk};
 ghost use Rattle.std.specs.Bool.{OnTrue};
 ghost use Rattle.rb_layout.specs.Cycles.{HasNoCycle};
 ghost use Rattle.rb_layout.specs.Graphs.{Leads};
-ghost use Rattle.rb_agree.specs.inner.Order.{Falls, RowFalls, rank_of};
+ghost use Rattle.rb_agree.specs.inner.Order.{RanksFall, RowFalls, rank_of};
 
 use rb_core::seq::Seq;
 use rb_layout::graphs::{edges_of, no_marks};
@@ -113,7 +113,7 @@ fn row_falls(ranks: &[usize], t: u32, row: &[u32]) -> bool
 
 // Whether each edge leads to a lower rank.
 fn falls(graph: &[Seq<u32>], ranks: &[usize]) -> Result<bool, AllocError>
-    ensures { IfOk result (λ b. OnTrue b (Falls graph.now ranks.now)) }
+    ensures { IfOk result (λ b. OnTrue b (RanksFall graph.now ranks.now)) }
 {
     for t in 0..graph.len() {
         let number = number_of(t)?;

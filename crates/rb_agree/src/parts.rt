@@ -6,7 +6,7 @@ ghost use Rattle.rb_layout.specs.Positions.{open_positions};
 ghost use Rattle.rb_layout.specs.A3.{FailsItem, Fits, FitsSlice, FitsWhole, FitsWord, IsPlaced, ItemFits, LiesIn, PartsFit};
 ghost use Rattle.rb_layout.specs.declared.evidence.Why.TheVariants as Whys;
 ghost use Rattle.rb_bits.specs.Words.{AreDisjoint};
-ghost use Rattle.rb_agree.specs.inner.Parts.{AreApart, AreFine, FailsApart, FailsBefore, FailsFit, FailsPair, FailsPart, FailsSome, FailsWord, HaveBits, IsApartBefore, IsPartFine};
+ghost use Rattle.rb_agree.specs.inner.Parts.{PartsAreApart, AreFine, FailsApart, FailsBefore, FailsFit, FailsPair, FailsPart, FailsSome, FailsWord, HaveBits, IsApartBefore, IsPartFine};
 ghost use Rattle.rb_agree.specs.Written.{shown_content, shown_item, shown_part, shown_parts};
 
 use crate::items::{Content, Item, Written};
@@ -232,7 +232,7 @@ fn before_fault(types: &[DataDecl], prov: &Pat, i: u32, parts: &[Written], k: us
 fn overlap_fault(types: &[DataDecl], prov: &Pat, i: u32, parts: &[Written]) -> Option<Why>
     requires { HaveBits (open_positions types.now prov.now) parts.now }
     ensures { MatchOption result
-        (AreApart (open_positions types.now prov.now) parts.now)
+        (PartsAreApart (open_positions types.now prov.now) parts.now)
         (FailsApart (open_positions types.now prov.now) i parts.now) }
 {
     for k in 0..parts.len() {

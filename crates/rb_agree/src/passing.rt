@@ -15,11 +15,11 @@
 
 ghost use Rattle.std.specs.Prelude.{IfOk, OnOk};
 ghost use Rattle.std.specs.Bool.{OnTrue};
-ghost use Rattle.rb_layout.specs.A7.{Meets};
+ghost use Rattle.rb_layout.specs.A7.{MeetsTest};
 ghost use Rattle.rb_layout.specs.Readable.{IsReadable};
 ghost use Rattle.rb_layout.specs.Splits.{routes_of};
 ghost use Rattle.rb_agree.specs.inner.Lists.{EachOf};
-ghost use Rattle.rb_agree.specs.inner.Passing.{AreAsked, AreWalked, Covers, IsAsked, IsLike, IsOff, IsPrior, Keeps, PassWhereOff, else_of, test_of};
+ghost use Rattle.rb_agree.specs.inner.Passing.{AreAsked, AreWalked, CoversSpan, IsAsked, IsLike, IsOff, IsPrior, KeepsMarks, PassWhereOff, else_of, test_of};
 ghost use Rattle.rb_agree.specs.inner.Tests.{arms_routes};
 
 use crate::alike::are_alike;
@@ -49,8 +49,8 @@ pub struct Asking<'a> {
 
 // All leaves from the first of both on to the last of both.
 fn joined(one: Span, other: Span) -> Span
-    ensures one { Covers result one }
-    ensures other { Covers result other }
+    ensures one { CoversSpan result one }
+    ensures other { CoversSpan result other }
 {
     let first = if one.first < other.first {
         one.first
@@ -68,7 +68,7 @@ fn joined(one: Span, other: Span) -> Span
 // Puts the mark of leaf `n` on, which says that the leaf may fail a test; nothing changes where it
 // has none.
 fn mark(marks: &mut Seq<bool>, n: usize)
-    ensures keeps { Keeps marks.old marks.new }
+    ensures keeps { KeepsMarks marks.old marks.new }
     ensures on { IsOff marks.new n → ⊥ }
 {
     if n < marks.len() {
@@ -109,7 +109,7 @@ fn meets(
     requires readable { IsReadable leaf.now }
     requires prior { IsPrior types.now layouts.now leaves.now (else_of asking.now) prior }
     ensures { IfOk result
-        (λ b. OnTrue b (Meets types.now layouts.now leaf.now (test_of asking.now))) }
+        (λ b. OnTrue b (MeetsTest types.now layouts.now leaf.now (test_of asking.now))) }
 {
     let loc = asking.loc;
     match asking.literal {

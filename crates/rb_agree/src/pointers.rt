@@ -5,7 +5,7 @@ ghost use Rattle.std.specs.List.{flat_map};
 ghost use Rattle.rb_layout.specs.A9.{FailsNoPointer, FlattensNoPointer, cons_below, cons_of};
 ghost use Rattle.rb_agree.specs.inner.Lists.{FindsIn};
 ghost use Rattle.rb_layout.specs.Graphs.{mark_of};
-ghost use Rattle.rb_agree.specs.Pointing.{AreMarks, IsMarked, IsUnmarked, KindPoints, LeafPoints, PartsPoint, WordsPoint, BlocksPoint, LeavesPoint};
+ghost use Rattle.rb_agree.specs.Pointing.{AreMarks, IsMarked, IsUnmarked, PartPoints, LeafPoints, PartsPoint, WordsPoint, BlocksPoint, LeavesPoint};
 
 use rb_core::pattern::Pat;
 use rb_core::seq::Seq;
@@ -15,7 +15,7 @@ use std::alloc::{AllocError, Global};
 
 // Whether a part is a pointer.
 fn part_points(part: &Part) -> bool
-    ensures { MatchBool result (KindPoints part.now) (KindPoints part.now → ⊥) }
+    ensures { MatchBool result (PartPoints part.now) (PartPoints part.now → ⊥) }
 {
     match &part.kind {
         Kind::Const(_) => false,

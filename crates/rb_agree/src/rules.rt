@@ -15,7 +15,7 @@ ghost use Rattle.rb_agree.specs.Written.{shown_items};
 ghost use Rattle.rb_agree.specs.inner.Lists.{EachOf};
 ghost use Rattle.rb_agree.specs.inner.Leaves.{items_under, shown_leaves};
 ghost use Rattle.rb_agree.specs.inner.Passing.{IsOff};
-ghost use Rattle.rb_agree.specs.inner.Rules.{FindsAtLeaf, FindsAtLeaves, FindsAtType, FindsIn, IsKnown, IsReady, IsRuled, RuleHoldsWhereOff, refusal, rule_number, rule_spots, rules_spots};
+ghost use Rattle.rb_agree.specs.inner.Rules.{FindsAtLeaf, FindsAtLeaves, FindsAtType, FindsIn, IsKnown, RuleIsReady, IsRuled, RuleHoldsWhereOff, refusal, rule_number, rule_spots, rules_spots};
 
 use crate::blocks::blocks_fault;
 use crate::graphs::{flattening_fault, holding_fault};
@@ -142,7 +142,7 @@ fn leaf_fault(
     requires ruled { IsRuled ruled.now }
     requires leaf { slice_get ruled.now.layout.now.leaves n ≡ Some leaf.now }
     requires items { shown_items items.now ≡ items_of ruled.now.program.now.layouts ruled.now.ty n }
-    requires ready { IsReady ruled.now.layouts.now ruled.now.rule }
+    requires ready { RuleIsReady ruled.now.layouts.now ruled.now.rule }
     ensures { IfOk result (FindsAtLeaf ruled.now n leaf.now) }
 {
     let program = ruled.program;
@@ -170,7 +170,7 @@ fn leaf_fault(
 // A mark for each leaf of a type's layout, off only where a rule holds there; none where nothing is known.
 fn doubts(alloc: Global, ruled: &Ruled) -> Result<Seq<bool>, AllocError>
     requires ruled { IsRuled ruled.now }
-    requires ready { IsReady ruled.now.layouts.now ruled.now.rule }
+    requires ready { RuleIsReady ruled.now.layouts.now ruled.now.rule }
     ensures { IfOk result (RuleHoldsWhereOff ruled.now) }
 {
     match ruled.rule {
@@ -218,7 +218,7 @@ fn doubted_fault(
     requires ruled { IsRuled ruled.now }
     requires leaf { slice_get ruled.now.layout.now.leaves n ≡ Some leaf.now }
     requires items { shown_items items.now ≡ items_of ruled.now.program.now.layouts ruled.now.ty n }
-    requires ready { IsReady ruled.now.layouts.now ruled.now.rule }
+    requires ready { RuleIsReady ruled.now.layouts.now ruled.now.rule }
     requires marks { RuleHoldsWhereOff ruled.now marks.now }
     ensures { IfOk result (FindsAtLeaf ruled.now n leaf.now) }
 {
@@ -304,7 +304,7 @@ fn leaves_fault(
     requires ruled { IsRuled ruled.now }
     requires written { shown_leaves written.now
         ≡ items_under (leaves_in (decl_of ruled.now.program.now.layouts ruled.now.ty)) }
-    requires ready { IsReady ruled.now.layouts.now ruled.now.rule }
+    requires ready { RuleIsReady ruled.now.layouts.now ruled.now.rule }
     requires marks { RuleHoldsWhereOff ruled.now marks.now }
     ensures { IfOk result (FindsAtLeaves ruled.now) }
 {
@@ -327,7 +327,7 @@ fn leaves_fault(
 // The refusal by the first place of a type that fails a rule.
 fn layout_fault(alloc: Global, ruled: &Ruled) -> Result<Option<Refused>, AllocError>
     requires ruled { IsRuled ruled.now }
-    requires ready { IsReady ruled.now.layouts.now ruled.now.rule }
+    requires ready { RuleIsReady ruled.now.layouts.now ruled.now.rule }
     ensures { IfOk result (FindsIn ruled.now) }
 {
     if let Some(why) = type_fault(alloc, ruled)? {
@@ -356,7 +356,7 @@ fn rule_fault(
     rule: Rule,
 ) -> Result<Option<Refused>, AllocError>
     requires known { IsKnown program.now layouts.now related.now }
-    requires ready { IsReady layouts.now rule }
+    requires ready { RuleIsReady layouts.now rule }
     ensures { IfOk result (Finds program.now layouts.now (rule_spots program.now.layouts layouts.now rule)) }
 {
     for t in 0..layouts.len() {
@@ -389,7 +389,7 @@ pub(crate) fn rules_fault(
     rules: &[Rule],
 ) -> Result<Option<Refused>, AllocError>
     requires known { IsKnown program.now layouts.now related.now }
-    requires ready { EachOf (IsReady layouts.now) rules.now }
+    requires ready { EachOf (RuleIsReady layouts.now) rules.now }
     ensures { IfOk result (Finds program.now layouts.now (rules_spots program.now.layouts layouts.now rules.now)) }
 {
     for rule in rules {

@@ -1,7 +1,7 @@
 //! Whether a leaf passes the tests on the way to it.
 
 ghost use Rattle.std.specs.Prelude.{◌≡◌, ◌↔◌, IfOk, IsTrue, MatchOption};
-ghost use Rattle.rb_layout.specs.A7.{FailsTest, FailsTests, Meets, MeetsAll};
+ghost use Rattle.rb_layout.specs.A7.{FailsTest, FailsTests, MeetsTest, MeetsAll};
 ghost use Rattle.rb_layout.specs.Excluded.{Excludes};
 ghost use Rattle.rb_layout.specs.Locations.{known};
 ghost use Rattle.rb_layout.specs.Readable.{IsReadable};
@@ -43,7 +43,8 @@ pub(crate) fn literal_fault(
     literal: u64,
 ) -> Result<Option<Why>, AllocError>
     requires { IsReadable leaf.now }
-    ensures { IfOk result (λ found. MatchOption found (Meets types.now layouts.now leaf.now (Is loc.now literal))
+    ensures { IfOk result
+        (λ found. MatchOption found (MeetsTest types.now layouts.now leaf.now (Is loc.now literal))
         (FailsTest types.now layouts.now leaf.now (Is loc.now literal))) }
 {
     if resolve_loc(leaf, loc).is_none() {
@@ -106,7 +107,7 @@ pub(crate) fn else_fault(
 ) -> Result<Option<Why>, AllocError>
     requires { IsReadable leaf.now }
     ensures { IfOk result (λ found. MatchOption found
-        (Meets types.now layouts.now leaf.now (IsNone loc.now (literals_in arms.now)))
+        (MeetsTest types.now layouts.now leaf.now (IsNone loc.now (literals_in arms.now)))
         (FailsTest types.now layouts.now leaf.now (IsNone loc.now (literals_in arms.now)))) }
 {
     if resolve_loc(leaf, loc).is_none() {

@@ -20,7 +20,7 @@ use Rattle.rb_layout.specs.declared.layout.Kind.TheVariants.{Const}
 use Rattle.rb_layout.specs.Locations.{Reached, constant_bit, constant_bits, known_in, or_else, range_in, reached_at, with_bit}
 use Rattle.rb_layout.specs.Splits.{Test, Is}
 use Rattle.rb_layout.specs.Flattening.{Laid, in_turn, part_laid, parts_of, flat_leaf}
-use Rattle.rb_layout.specs.A7.{Meets}
+use Rattle.rb_layout.specs.A7.{MeetsTest}
 use Rattle.rb_layout.proofs.Computing.{part_at, const_at}
 use Rattle.rb_auto.specs.declared.field_words.FieldWord.{FieldWord}
 use Rattle.rb_auto.specs.declared.form.Form.{Form}
@@ -99,7 +99,7 @@ module _ (p : Program) (decls : List LayoutDecl) (rooms : List Room) (t : ℕ) (
 
   -- the tag resolves, and is the constructor's number
   pub meets-tag : (leaf : Leaf) → leaf ≡ flat_leaf p.types decls (leaf_at p rooms t form n c) → form_tag form ≤ form_width form → n < 2 ^ form_tag form → (layouts : List Layout)
-      → Meets p.types layouts leaf (Is (tag_loc (form_tag form)) n)
+      → MeetsTest p.types layouts leaf (Is (tag_loc (form_tag form)) n)
   meets-tag leaf is fits lt layouts =
       let tag = form_tag form in
       let ps = parts-are in
@@ -118,5 +118,5 @@ meets-its-tests p decls rooms t form fits layouts n leaf e test above =
     let c = leaf-is p rooms t form decls n leaf e in
     let one = test-is p rooms t form (form_tag form) (cons_of p.types t) fits.some fits.told above.route_number above.route above.number n test above.is_route above.leads above.is_test in
     let lt = slice_get_within (cons_of p.types t) n c.0 c.1 in
-    subst (λ (x : Test). Meets p.types layouts leaf x) (sym one.1)
+    subst (λ (x : Test). MeetsTest p.types layouts leaf x) (sym one.1)
     (meets-tag p decls rooms t form n c.0 one.0 leaf c.2 fits.tag (let told = fits.told in omega (arith, lt, told)) layouts)

@@ -9,7 +9,7 @@ use Rattle.rb_auto.specs.declared.room.Room.{Room}
 use Rattle.rb_auto.specs.declared.room.Room.TheVariants.{Word, Recursive, Bits}
 use Rattle.rb_auto.specs.Widths.{need}
 use Rattle.rb_auto.specs.Rooms.{IsRoom, AreRooms, AreTheRooms}
-use Rattle.rb_auto.specs.inner.Settling.{Extends, IsSettled, AreSettled, IsFirst}
+use Rattle.rb_auto.specs.inner.Settling.{ExtendsSettled, IsSettled, AreSettled, IsFirst}
 use Rattle.rb_layout.proofs.GraphLemmas.{get-of}
 
 there : {A : Type 0} (xs : List A) (k : ℕ) → k < length xs → (x : A) × (slice_get xs k ≡ Some x)
@@ -86,11 +86,11 @@ module _ (p : Program) (kinds : List (Option Auto)) where
   set-count (z ∷ xs) zero x = refl
   set-count (z ∷ xs) (suc t) x = ap suc (set-count xs t x)
 
-  module _ (settled : List (Option Room)) (t n : ℕ) (is : slice_get settled t ≡ Some None) (fits : (rooms : List Room) → Extends settled rooms → n ≡ need p rooms t) (are : AreSettled p kinds settled) where
+  module _ (settled : List (Option Room)) (t n : ℕ) (is : slice_get settled t ≡ Some None) (fits : (rooms : List Room) → ExtendsSettled settled rooms → n ≡ need p rooms t) (are : AreSettled p kinds settled) where
     abbrev more : List (Option Room)
     more = slice_set settled t (Some (Bits n))
 
-    less : (rooms : List Room) → Extends more rooms → Extends settled rooms
+    less : (rooms : List Room) → ExtendsSettled more rooms → ExtendsSettled settled rooms
     less rooms extends k room e =
         extends k room (set-kept settled t k (Some (Bits n)) (Some room) (λ same. absurd (cc (is, e, ap (λ j. slice_get settled j) same))) e)
 
@@ -98,7 +98,7 @@ module _ (p : Program) (kinds : List (Option Auto)) where
     kept k None h = h
     kept k (Some room) h = λ rooms extends. h rooms (less rooms extends)
 
-    here : (rooms : List Room) → Extends settled rooms → IsRoom p kinds rooms t (Bits n)
+    here : (rooms : List Room) → ExtendsSettled settled rooms → IsRoom p kinds rooms t (Bits n)
     here rooms extends = let packed = are.each t None is in (packed.0, packed.1, fits rooms extends)
 
     pub settled-more : AreSettled p kinds more
@@ -139,7 +139,7 @@ module _ (p : Program) (kinds : List (Option Auto)) where
 
   pub all-settled : (settled : List (Option Room)) (rooms : List Room) → AreSettled p kinds settled → map (λ (r : Room). Some r) rooms ≡ settled → AreTheRooms p kinds rooms
   all-settled settled rooms are is =
-      let extends : Extends settled rooms = λ t room e. get-map rooms t room (ap (λ (xs : List (Option Room)). slice_get xs t) is ∙ e) in
+      let extends : ExtendsSettled settled rooms = λ t room e. get-map rooms t room (ap (λ (xs : List (Option Room)). slice_get xs t) is ∙ e) in
       let at : (t : ℕ) (room : Room) → slice_get rooms t ≡ Some room → slice_get settled t ≡ Some (Some room) =
       λ t room e. ap (λ (xs : List (Option Room)). slice_get xs t) (sym is) ∙ map-get rooms t room e in
       let count : length rooms ≡ length p.types = sym (length-map rooms (λ (r : Room). Some r)) ∙ ap (λ (xs : List (Option Room)). length xs) is ∙ are.count in

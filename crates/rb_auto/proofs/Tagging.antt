@@ -23,7 +23,7 @@ use Rattle.rb_auto.specs.Widths.{bits_from, con_width, counted, greatest, need, 
 use Rattle.rb_auto.specs.Items.{form_width}
 use Rattle.rb_auto.specs.Derived.{derived}
 use Rattle.rb_auto.specs.Rooms.{AreRooms, AreTheRooms, kind_of}
-use Rattle.rb_auto.specs.Answers.{Derives, IsAnswer, answer, answer_by, packed_answer}
+use Rattle.rb_auto.specs.Answers.{Derives, IsDerivedAnswer, answer, answer_by, packed_answer}
 use Rattle.rb_auto.specs.Completed.{Completes}
 use Rattle.rb_auto.specs.inner.Standing.{TagFits}
 use Rattle.rb_auto.specs.inner.PackedRules.{FieldFits, FieldsFit, HasRoom}
@@ -175,7 +175,7 @@ module _ (p : Program) (kinds : List (Option Auto)) (rooms : List Room) (are : A
   form-room (Packed tag width) is = ap room_width is.2 ∙ packed-room is.1 is.3 ∙ sym is.5
 
 -- the rooms by which a derived layout was derived are these
-pub of-rooms : (p : Program) (kinds : List (Option Auto)) (rooms : List Room) (t : ℕ) (d : LayoutDecl) → AreTheRooms p kinds rooms → IsAnswer p kinds t (Ok d) → IsDerived p kinds rooms t d
+pub of-rooms : (p : Program) (kinds : List (Option Auto)) (rooms : List Room) (t : ℕ) (d : LayoutDecl) → AreTheRooms p kinds rooms → IsDerivedAnswer p kinds t (Ok d) → IsDerived p kinds rooms t d
 of-rooms p kinds rooms t d are is =
     answer-form p kinds rooms t d (is.2 ∙ ap (λ (rs : List Room). answer p kinds rs t) (are.only is.0 is.1.are))
 
@@ -187,7 +187,7 @@ module _ (p : Program) (kinds : List (Option Auto)) (rooms : List Room) (derived
   pub derived-is : (t : ℕ) (d : LayoutDecl) → decl_of derived_ones t ≡ Some d → IsDerived p kinds rooms t d
   derived-is t d e =
       let at = declared derived_ones t d e in
-      of-rooms p kinds rooms t d are (subst (λ s. IsAnswer p kinds s (Ok d)) at.0 (completes.each at.1 d at.2))
+      of-rooms p kinds rooms t d are (subst (λ s. IsDerivedAnswer p kinds s (Ok d)) at.0 (completes.each at.1 d at.2))
 
   shape-derived : (s : ℕ) (d : LayoutDecl) → decl_of p.layouts s ≡ None → decl_of derived_ones s ≡ Some d → shape_of decls s ≡ shape p rooms s
   shape-derived s d none e =

@@ -43,12 +43,13 @@ abbrev pub answer : Program → List (Option Auto) → List Room → ℕ → Der
 answer p kinds rooms t = answer_by p rooms t (kind_of kinds t)
 
 -- an answer is the expected one, or want of memory, which says nothing
-abbrev pub Answers : Derives → Derives → Type 0
-Answers (Err Memory) expected = Unit {0}
-Answers r expected = r ≡ expected
+abbrev pub AnswersDerived : Derives → Derives → Type 0
+AnswersDerived (Err Memory) expected = Unit {0}
+AnswersDerived r expected = r ≡ expected
 
 -- an answer is right for type t: the one by the rooms of the types, of which there are no others; or want of memory,
 -- which says nothing
-abbrev pub IsAnswer : Program → List (Option Auto) → ℕ → Derives → Type 0
-IsAnswer p kinds t (Err Memory) = Unit {0}
-IsAnswer p kinds t r = (rooms : List Room) × AreTheRooms p kinds rooms × Answers r (answer p kinds rooms t)
+abbrev pub IsDerivedAnswer : Program → List (Option Auto) → ℕ → Derives → Type 0
+IsDerivedAnswer p kinds t (Err Memory) = Unit {0}
+IsDerivedAnswer p kinds t r =
+    (rooms : List Room) × AreTheRooms p kinds rooms × AnswersDerived r (answer p kinds rooms t)

@@ -6,7 +6,7 @@ use Rattle.rb_core.specs.declared.layout_decl.LayoutDecl.{LayoutDecl}
 use Rattle.rb_core.specs.TypedPrograms.{layout_fault}
 use Rattle.rb_layout.specs.Flattening.{decl_of}
 use Rattle.rb_auto.specs.Rooms.{kind_of}
-use Rattle.rb_auto.specs.Answers.{IsAnswer}
+use Rattle.rb_auto.specs.Answers.{IsDerivedAnswer}
 
 -- a program with these layouts in the place of its own
 abbrev pub with_layouts : Program → List LayoutDecl → Program
@@ -15,7 +15,7 @@ with_layouts p decls = record p { layouts = decls }
 -- each of these layouts is what is derived for its type; each type of which one is to be derived has one there, and
 -- none that is written
 pub record Completes (p : Program) (kinds : List (Option Auto)) (derived : List LayoutDecl) : Type 0 where
-  pub each : (k : ℕ) (d : LayoutDecl) → slice_get derived k ≡ Some d → IsAnswer p kinds d.ty (Ok d)
+  pub each : (k : ℕ) (d : LayoutDecl) → slice_get derived k ≡ Some d → IsDerivedAnswer p kinds d.ty (Ok d)
   pub all : (t : ℕ) (kind : Auto) → t < length p.types → kind_of kinds t ≡ Some kind
       → (d : LayoutDecl) × (decl_of derived t ≡ Some d)
   pub alone : (t : ℕ) (kind : Auto) → kind_of kinds t ≡ Some kind → decl_of p.layouts t ≡ None

@@ -1,7 +1,7 @@
 //! Layouts of types whose file leaves them to the compiler.
 
 ghost use Rattle.std.specs.Prelude.{◌≡◌, length, IsSome, slice_get};
-ghost use Rattle.rb_auto.specs.Answers.{Answers, IsAnswer, answer, packed_answer, packed_fit};
+ghost use Rattle.rb_auto.specs.Answers.{AnswersDerived, IsDerivedAnswer, answer, packed_answer, packed_fit};
 ghost use Rattle.rb_auto.specs.Rooms.{AreTheRooms, kind_of};
 
 use crate::derived::{cons_of, derived};
@@ -23,7 +23,7 @@ fn packed_fit(
     ty: u32,
     bits: u64,
 ) -> Result<LayoutDecl, AutoFault>
-    ensures { Answers result (packed_fit program.now rooms.now ty bits) }
+    ensures { AnswersDerived result (packed_fit program.now rooms.now ty bits) }
 {
     if bits > WORD_BITS {
         return Err(AutoFault::PackedWide(ty, bits));
@@ -44,7 +44,8 @@ fn packed(
     rooms: &[Room],
     ty: u32,
 ) -> Result<LayoutDecl, AutoFault>
-    ensures { Answers result (packed_answer program.now rooms.now ty (slice_get rooms.now ty)) }
+    ensures { AnswersDerived result
+        (packed_answer program.now rooms.now ty (slice_get rooms.now ty)) }
 {
     match rooms.get(ty as usize) {
         None => Err(AutoFault::Memory),
@@ -70,7 +71,7 @@ pub fn derive_by(
     ty: u32,
 ) -> Result<LayoutDecl, AutoFault>
     requires { AreTheRooms program.now kinds.now rooms.now }
-    ensures { Answers result (answer program.now kinds.now rooms.now ty) }
+    ensures { AnswersDerived result (answer program.now kinds.now rooms.now ty) }
 {
     match kind_of(kinds, ty) {
         None => Err(AutoFault::Memory),
@@ -97,7 +98,7 @@ pub fn derive(
 ) -> Result<LayoutDecl, AutoFault>
     requires count { length kinds.now ≡ length program.now.types }
     requires kind { IsSome (kind_of kinds.now ty) }
-    ensures { IsAnswer program.now kinds.now ty result }
+    ensures { IsDerivedAnswer program.now kinds.now ty result }
 {
     let rooms = find_rooms(alloc, program, kinds)?;
     derive_by(alloc, program, kinds, rooms.as_slice(), ty)

@@ -11,7 +11,7 @@ ghost use Rattle.rb_auto.specs.declared.room.Room.{Room as TheRoom};
 ghost use Rattle.rb_auto.specs.Rooms.{AreTheRooms, kind_of};
 ghost use Rattle.rb_auto.specs.Widths.{con_width, counted, field_width, greatest, need, tag_bits};
 ghost use Rattle.rb_auto.specs.inner.Graphs.{field_graph};
-ghost use Rattle.rb_auto.specs.inner.Settling.{AreSettled, Extends, IsFirst};
+ghost use Rattle.rb_auto.specs.inner.Settling.{AreSettled, ExtendsSettled, IsFirst};
 
 use crate::derived::cons_of;
 use crate::recursion::{field_graph, is_recursive};
@@ -50,7 +50,7 @@ fn shape_width(shape: &[u64]) -> Option<u64>
 // where it isn't, or the number is too great.
 fn field_width(program: &Program, settled: &[Option<Room>], ty: Ty) -> Option<u64>
     ensures { IfSome result (λ bits. (rooms : List TheRoom)
-        → Extends settled.now rooms → bits ≡ field_width program.now rooms ty) }
+        → ExtendsSettled settled.now rooms → bits ≡ field_width program.now rooms ty) }
 {
     match ty {
         Ty::Int(bits) => Some(bits as u64),
@@ -69,7 +69,7 @@ fn field_width(program: &Program, settled: &[Option<Room>], ty: Ty) -> Option<u6
 // None where one isn't, or the number is too great.
 fn con_width(program: &Program, settled: &[Option<Room>], con: &Con) -> Option<u64>
     ensures { IfSome result (λ bits. (rooms : List TheRoom)
-        → Extends settled.now rooms → bits ≡ con_width program.now rooms con.now) }
+        → ExtendsSettled settled.now rooms → bits ≡ con_width program.now rooms con.now) }
 {
     let mut bits: u64 = 0;
     for ty in con.fields.as_slice() {
@@ -80,7 +80,7 @@ fn con_width(program: &Program, settled: &[Option<Room>], con: &Con) -> Option<u
 
 // The greatest width of these constructors, 0 of none; None where the width of one isn't known.
 fn greatest_width(program: &Program, settled: &[Option<Room>], cons: &[Con]) -> Option<u64>
-    ensures { IfSome result (λ bits. (rooms : List TheRoom) → Extends settled.now rooms
+    ensures { IfSome result (λ bits. (rooms : List TheRoom) → ExtendsSettled settled.now rooms
         → bits ≡ greatest (map (con_width program.now rooms) cons.now)) }
 {
     let mut most: u64 = 0;
@@ -94,7 +94,7 @@ fn greatest_width(program: &Program, settled: &[Option<Room>], cons: &[Con]) -> 
 // of its fields' types are known; None where one isn't, or the number is too great.
 fn need(program: &Program, settled: &[Option<Room>], ty: u32) -> Option<u64>
     ensures { IfSome result (λ bits. (rooms : List TheRoom)
-        → Extends settled.now rooms → bits ≡ need program.now rooms ty) }
+        → ExtendsSettled settled.now rooms → bits ≡ need program.now rooms ty) }
 {
     let cons = cons_of(program.types.as_slice(), ty);
     let most = greatest_width(program, settled, cons)?;

@@ -10,12 +10,12 @@ use Rattle.rb_core.specs.declared.expression.Clause.{Clause}
 use Rattle.rb_core.specs.declared.expression.Expr.{Expr}
 use Rattle.rb_core.specs.Typing.{Typing, and_then, Rule, ClauseRule, each_argument, pattern_binders, type_of, clause_rule}
 use Rattle.rb_core.proofs.TypingLemmas.{rule-Clause}
-use Rattle.rb_check.specs.Answers.{Answers, within}
+use Rattle.rb_check.specs.Answers.{AnswersTyping, within}
 
 pub Answers-at : (types : List DataDecl) (funs : List Fun) (r : Typing Ty) (e e' : Expr) (wanted : Option Ty) (scope : List Binder) (gives : Typing Ty)
-    → e ≡ e' → type_of types funs e' wanted scope ≡ gives → Answers r gives → Answers r (type_of types funs e wanted scope)
+    → e ≡ e' → type_of types funs e' wanted scope ≡ gives → AnswersTyping r gives → AnswersTyping r (type_of types funs e wanted scope)
 Answers-at types funs r e e' wanted scope gives is same h =
-    subst (Answers r) (sym (ap (λ (x : Expr). type_of types funs x wanted scope) is ∙ same)) h
+    subst (AnswersTyping r) (sym (ap (λ (x : Expr). type_of types funs x wanted scope) is ∙ same)) h
 
 module _ {A : Type 0} (rule : A → Rule) (scope : List Binder) where
   from_here : (es : List A) (ts : List Ty) (i : ℕ) (e : A) (t : Ty) → i < length es → length es ≡ length ts → e ≡ get_or es i e → slice_get ts i ≡ Some t

@@ -17,15 +17,15 @@ use Rattle.rb_core.specs.declared.typing.TypeFault.TheVariants.{Empty, Mismatch,
 use Rattle.rb_core.specs.Layouts.{WrittenLeaf, leaves, leaves_under, leaves_step, arm_leaves}
 use Rattle.rb_core.specs.Typing.{Typing}
 use Rattle.rb_core.specs.TypedPrograms.{first_fault, provenance_fault, layout_fault, function_fault, rule_fault}
-use Rattle.rb_check.specs.Answers.{HasFault, arm_fault}
+use Rattle.rb_check.specs.Answers.{AnswersFault, arm_fault}
 
 -- a fault that ends one part ends the whole
 pub HasFault-fails : (r : Typing (Unit {0})) (fault : TypeFault) (here all : Option TypeFault)
-    → IsErrAnd r (λ e. e ≡ fault) → HasFault (Err fault) here → ((f : TypeFault) → here ≡ Some f → all ≡ Some f) → HasFault r all
+    → IsErrAnd r (λ e. e ≡ fault) → AnswersFault (Err fault) here → ((f : TypeFault) → here ≡ Some f → all ≡ Some f) → AnswersFault r all
 HasFault-fails (Ok done) fault here all is h k = absurd is
-HasFault-fails (Err e) fault here all is h k = subst (λ x. HasFault (Err x) all) (sym is) (through fault h)
+HasFault-fails (Err e) fault here all is h k = subst (λ x. AnswersFault (Err x) all) (sym is) (through fault h)
   where
-    through : (f : TypeFault) → HasFault (Err f) here → HasFault (Err f) all
+    through : (f : TypeFault) → AnswersFault (Err f) here → AnswersFault (Err f) all
     through Memory p = tt
     through (Empty t) p = p
     through (Mismatch at wanted found) p = k _ p

@@ -15,7 +15,7 @@ use Rattle.rb_core.specs.declared.expression.Clause.{Clause}
 use Rattle.rb_core.specs.declared.expression.Expr as X
 use Rattle.rb_core.specs.declared.expression.Expr.{Expr}
 use Rattle.rb_core.specs.Inference.{binders, inferred_type, with_binder}
-use Rattle.rb_core.specs.Coverage.{Branch, branch_sites, part_sites, sites}
+use Rattle.rb_core.specs.Coverage.{SitedBranch, branch_sites, part_sites, sites}
 use Rattle.rb_core.proofs.CoverageForms.{branch, part, sites-Clause, sites-Num, sites-Var, sites-Call, sites-Build, sites-Binary, sites-To, sites-Let, sites-Match}
 use Rattle.rb_check.specs.Covering.{argument_sites, body_sites}
 
@@ -73,7 +73,7 @@ module _ (types : List DataDecl) (funs : List Fun) (scope : List Binder) where
   pub added-Let : (at x : ℕ) (t : Ty) (a b : Expr) (old mid new : List Site) → mid ≡ old ++ found a → new ≡ mid ++ sites types funs b (with_binder scope x t) → new ≡ old ++ found (X.Let at x t a b)
   added-Let at x t a b old mid new e f = joined (found a) _ old mid new e f ∙ ap (λ s. old ++ s) (sym (sites-Let types funs at x t a b scope))
 
-  patterns-found : (cs : List Clause) → map (λ (b : Branch). b.0.pat) (map (branch types funs) cs) ≡ map (λ (c : Clause). c.pat) cs
+  patterns-found : (cs : List Clause) → map (λ (b : SitedBranch). b.0.pat) (map (branch types funs) cs) ≡ map (λ (c : Clause). c.pat) cs
   patterns-found [] = refl
   patterns-found (c ∷ cs) = ap (λ ps. c.pat ∷ ps) (patterns-found cs)
 

@@ -14,11 +14,11 @@ use Rattle.rb_check.specs.declared.expression.Wanted.{Wanted}
 use Rattle.rb_check.specs.declared.expression.Wanted.TheVariants.{Params, Fields}
 
 -- the answer is what typing gives; no expression or pattern is refused for an empty type
-abbrev pub Answers : {A : Type 0} → Typing A → Typing A → Type 0
-Answers (Ok a) gives = gives ≡ Ok a
-Answers (Err Memory) gives = Unit {0}
-Answers (Err (Empty t)) gives = ⊥
-Answers (Err fault) gives = gives ≡ Err fault
+abbrev pub AnswersTyping : {A : Type 0} → Typing A → Typing A → Type 0
+AnswersTyping (Ok a) gives = gives ≡ Ok a
+AnswersTyping (Err Memory) gives = Unit {0}
+AnswersTyping (Err (Empty t)) gives = ⊥
+AnswersTyping (Err fault) gives = gives ≡ Err fault
 
 -- what a call that is done left behind is what typing gives, and its fault is the fault there;
 -- want of memory says nothing
@@ -29,11 +29,11 @@ Leaves (Err (Empty t)) left gives = ⊥
 Leaves (Err fault) left gives = gives ≡ Err fault
 
 -- the answer is this fault, or done where there is none; want of memory says nothing of it
-abbrev pub HasFault : Typing (Unit {0}) → Option TypeFault → Type 0
-HasFault (Ok done) fault = fault ≡ None
-HasFault (Err Memory) fault = Unit {0}
-HasFault (Err (Empty t)) fault = ⊥
-HasFault (Err found) fault = fault ≡ Some found
+abbrev pub AnswersFault : Typing (Unit {0}) → Option TypeFault → Type 0
+AnswersFault (Ok done) fault = fault ≡ None
+AnswersFault (Err Memory) fault = Unit {0}
+AnswersFault (Err (Empty t)) fault = ⊥
+AnswersFault (Err found) fault = fault ≡ Some found
 
 -- the first fault in the provenances under an arm of a split
 abbrev pub arm_fault : List DataDecl → ℕ → Arm → Option TypeFault

@@ -9,10 +9,10 @@ ghost use Rattle.rb_check.specs.Covering.{AreCovered, AreNumberedSites, AreRefus
 ghost use Rattle.rb_check.specs.declared.coverage.CoverFault.TheVariants as CoverFaults;
 
 use crate::sites::program_sites;
-use rb_core::site::Site;
 use rb_core::pattern::Pat;
 use rb_core::program::Note;
 use rb_core::seq::Seq;
+use rb_core::site::Site;
 use rb_core::typed::Typed;
 use rb_core::types::DataDecl;
 use rb_matrix::{MatrixFault, exhaust, unreached};

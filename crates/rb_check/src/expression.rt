@@ -6,7 +6,7 @@ ghost use Rattle.rb_core.specs.declared.types.DataDecl.{DataDecl};
 ghost use Rattle.rb_core.specs.declared.types.Ty.TheVariants.{Named};
 ghost use Rattle.rb_core.specs.declared.program.Fun.{Fun};
 ghost use Rattle.rb_core.specs.Typing.{and_then, arguments, clause_rule, clauses, field_types, fits, integer_operand, operands, operator_type, params_of, param_types, result_type, rule_of, type_of, variable_type};
-ghost use Rattle.rb_check.specs.Answers.{Answers, binders, wanted_types};
+ghost use Rattle.rb_check.specs.Answers.{AnswersTyping, binders, wanted_types};
 
 use crate::pattern::bind_whole;
 use crate::types::{fit, integer, type_number};
@@ -59,7 +59,8 @@ pub fn type_expression(
     wanted: Option<Ty>,
     scope: &mut Seq<Param>,
 ) -> Result<Ty, TypeFault>
-    ensures answers { Answers result (type_of program.now.types program.now.funs expr.now wanted (binders scope.old)) }
+    ensures answers { AnswersTyping result
+        (type_of program.now.types program.now.funs expr.now wanted (binders scope.old)) }
     ensures scope { OnOk result (scope.new ≡ scope.old) }
 {
     match expr {
@@ -107,7 +108,7 @@ fn type_call(
     wanted: Option<Ty>,
     scope: &mut Seq<Param>,
 ) -> Result<Ty, TypeFault>
-    ensures answers { Answers result (and_then
+    ensures answers { AnswersTyping result (and_then
         (arguments at (map (rule_of program.now.types program.now.funs) parts.now)
         (param_types program.now.funs fun) (binders scope.old))
         (λ typed. fits at wanted (result_type program.now.funs fun))) }
@@ -133,7 +134,7 @@ fn type_build(
     wanted: Option<Ty>,
     scope: &mut Seq<Param>,
 ) -> Result<Ty, TypeFault>
-    ensures answers { Answers result (and_then
+    ensures answers { AnswersTyping result (and_then
         (arguments at (map (rule_of program.now.types program.now.funs) parts.now)
         (field_types program.now.types con) (binders scope.old)) (λ typed. fits at wanted (Named con.ty))) }
     ensures scope { OnOk result (scope.new ≡ scope.old) }
@@ -153,7 +154,8 @@ fn type_arguments(
     wanted: Wanted,
     scope: &mut Seq<Param>,
 ) -> Result<(), TypeFault>
-    ensures answers { Answers result (arguments at (map (rule_of program.now.types program.now.funs) parts.now)
+    ensures answers { AnswersTyping result
+        (arguments at (map (rule_of program.now.types program.now.funs) parts.now)
         (wanted_types wanted.entry) (binders scope.old)) }
     ensures scope { OnOk result (scope.new ≡ scope.old) }
 {
@@ -177,7 +179,7 @@ fn type_binary(
     wanted: Option<Ty>,
     scope: &mut Seq<Param>,
 ) -> Result<Ty, TypeFault>
-    ensures answers { Answers result (and_then
+    ensures answers { AnswersTyping result (and_then
         (operands op (rule_of program.now.types program.now.funs a.now)
         (rule_of program.now.types program.now.funs b.now) wanted (binders scope.old))
         (λ t. fits at wanted (operator_type op t))) }
@@ -196,7 +198,8 @@ fn type_integer(
     wanted: Option<Ty>,
     scope: &mut Seq<Param>,
 ) -> Result<Ty, TypeFault>
-    ensures answers { Answers result (integer_operand (rule_of program.now.types program.now.funs expr.now) wanted
+    ensures answers { AnswersTyping result
+        (integer_operand (rule_of program.now.types program.now.funs expr.now) wanted
         (binders scope.old)) }
     ensures scope { OnOk result (scope.new ≡ scope.old) }
 {
@@ -214,7 +217,7 @@ fn type_let(
     wanted: Option<Ty>,
     scope: &mut Seq<Param>,
 ) -> Result<Ty, TypeFault>
-    ensures answers { Answers result (and_then
+    ensures answers { AnswersTyping result (and_then
         (type_of program.now.types program.now.funs a.now (Some param.ty) (binders scope.old))
         (λ t. type_of program.now.types program.now.funs b.now wanted
         (binders scope.old ++ record { var = param.var; ty = param.ty } ∷ []))) }
@@ -237,7 +240,7 @@ fn type_match(
     wanted: Option<Ty>,
     scope: &mut Seq<Param>,
 ) -> Result<Ty, TypeFault>
-    ensures answers { Answers result (and_then
+    ensures answers { AnswersTyping result (and_then
         (type_of program.now.types program.now.funs scrutinee.now None (binders scope.old))
         (λ t. clauses (map (clause_rule program.now.types program.now.funs) cases.now) t wanted (binders scope.old))) }
     ensures scope { OnOk result (scope.new ≡ scope.old) }
@@ -255,7 +258,7 @@ fn type_clauses(
     wanted: Option<Ty>,
     scope: &mut Seq<Param>,
 ) -> Result<Ty, TypeFault>
-    ensures answers { Answers result (clauses
+    ensures answers { AnswersTyping result (clauses
         (map (clause_rule program.now.types program.now.funs) cases.now) scrutinee wanted (binders scope.old)) }
     ensures scope { OnOk result (scope.new ≡ scope.old) }
 {
@@ -275,7 +278,8 @@ fn type_clause(
     wanted: Option<Ty>,
     scope: &mut Seq<Param>,
 ) -> Result<Ty, TypeFault>
-    ensures answers { Answers result (clause_rule program.now.types program.now.funs case.now scrutinee wanted
+    ensures answers { AnswersTyping result
+        (clause_rule program.now.types program.now.funs case.now scrutinee wanted
         (binders scope.old)) }
     ensures scope { OnOk result (scope.new ≡ scope.old) }
 {

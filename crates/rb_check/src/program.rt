@@ -3,7 +3,7 @@
 ghost use Rattle.std.specs.Prelude.{map};
 ghost use Rattle.rb_core.specs.Layouts.{provenances};
 ghost use Rattle.rb_core.specs.TypedPrograms.{first_fault, function_fault, layout_fault, provenance_fault, rule_fault};
-ghost use Rattle.rb_check.specs.Answers.{HasFault, arm_fault};
+ghost use Rattle.rb_check.specs.Answers.{AnswersFault, arm_fault};
 
 use crate::expression::type_expression;
 use crate::pattern::{bind_whole, repeated};
@@ -20,7 +20,7 @@ use std::alloc::Global;
 ///
 /// That fault, `Mismatch`, `Arity` or `VariableTwice`; or want of memory.
 pub fn check_rules(alloc: Global, program: &Program) -> Result<(), TypeFault>
-    ensures { HasFault result (rule_fault program.now) }
+    ensures { AnswersFault result (rule_fault program.now) }
 {
     check_layouts(alloc, program.types.as_slice(), program.layouts.as_slice())?;
     check_functions(alloc, program, program.funs.as_slice())
@@ -28,7 +28,7 @@ pub fn check_rules(alloc: Global, program: &Program) -> Result<(), TypeFault>
 
 // The first fault in the layouts.
 fn check_layouts(alloc: Global, types: &[DataDecl], layouts: &[LayoutDecl]) -> Result<(), TypeFault>
-    ensures { HasFault result (first_fault (map (layout_fault types.now) layouts.now)) }
+    ensures { AnswersFault result (first_fault (map (layout_fault types.now) layouts.now)) }
 {
     for layout in layouts {
         check_tree(alloc, types, layout.ty, &layout.tree)?;
@@ -39,7 +39,8 @@ fn check_layouts(alloc: Global, types: &[DataDecl], layouts: &[LayoutDecl]) -> R
 // The first fault in the provenances of a layout of the data type with the number `ty`.
 #[cycle(leaves)]
 fn check_tree(alloc: Global, types: &[DataDecl], ty: u32, tree: &LayTree) -> Result<(), TypeFault>
-    ensures { HasFault result (first_fault (map (provenance_fault types.now ty) (provenances tree.now))) }
+    ensures { AnswersFault result
+        (first_fault (map (provenance_fault types.now ty) (provenances tree.now))) }
 {
     match tree {
         LayTree::Leaf(_, provenance, _) => {
@@ -59,7 +60,7 @@ fn check_tree(alloc: Global, types: &[DataDecl], ty: u32, tree: &LayTree) -> Res
 // The first fault in the provenances under the arms of a split.
 #[cycle(leaves)]
 fn check_arms(alloc: Global, types: &[DataDecl], ty: u32, arms: &[Arm]) -> Result<(), TypeFault>
-    ensures { HasFault result (first_fault (map (arm_fault types.now ty) arms.now)) }
+    ensures { AnswersFault result (first_fault (map (arm_fault types.now ty) arms.now)) }
 {
     for arm in arms {
         check_tree(alloc, types, ty, &arm.under)?;
@@ -69,7 +70,8 @@ fn check_arms(alloc: Global, types: &[DataDecl], ty: u32, arms: &[Arm]) -> Resul
 
 // The first fault in some functions of the program.
 fn check_functions(alloc: Global, program: &Program, funs: &[Fun]) -> Result<(), TypeFault>
-    ensures { HasFault result (first_fault (map (function_fault program.now.types program.now.funs) funs.now)) }
+    ensures { AnswersFault result
+        (first_fault (map (function_fault program.now.types program.now.funs) funs.now)) }
 {
     for fun in funs {
         check_function(alloc, program, fun)?;
@@ -79,7 +81,7 @@ fn check_functions(alloc: Global, program: &Program, funs: &[Fun]) -> Result<(),
 
 // The first fault in a function: a parameter that stands twice, or one in its body.
 fn check_function(alloc: Global, program: &Program, fun: &Fun) -> Result<(), TypeFault>
-    ensures { HasFault result (function_fault program.now.types program.now.funs fun.now) }
+    ensures { AnswersFault result (function_fault program.now.types program.now.funs fun.now) }
 {
     if let Some(at) = repeated(fun.params.as_slice()) {
         return Err(TypeFault::VariableTwice(at));

@@ -6,12 +6,12 @@ ghost use Rattle.rb_core.specs.Coverage.{function_sites, sites, sites_of};
 ghost use Rattle.rb_core.specs.Typing.{binder_of};
 ghost use Rattle.rb_check.specs.Covering.{argument_sites, body_sites};
 
-use rb_core::site::Site;
 use rb_core::expression::{Clause, Expr};
 use rb_core::inference::{bind_types, infer};
 use rb_core::pattern::Pat;
 use rb_core::program::{Fun, Param, Program};
 use rb_core::seq::Seq;
+use rb_core::site::Site;
 use rb_core::types::Ty;
 use rb_core::typing::Binder;
 use std::alloc::{AllocError, Global};

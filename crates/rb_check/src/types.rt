@@ -2,7 +2,7 @@
 
 ghost use Rattle.std.specs.Prelude.{◌≡◌, ◌≤◌};
 ghost use Rattle.rb_core.specs.Typing.{fits, holds, integer, least_width, number, number_type};
-ghost use Rattle.rb_check.specs.Answers.{Answers};
+ghost use Rattle.rb_check.specs.Answers.{AnswersTyping};
 
 use rb_core::types::Ty;
 use rb_core::typing::TypeFault;
@@ -44,7 +44,7 @@ pub fn can_hold(ty: Ty, n: u64) -> bool
 ///
 /// `Mismatch` where values of the wanted type may not be that number.
 pub fn type_number(at: u32, n: u64, wanted: Option<Ty>) -> Result<Ty, TypeFault>
-    ensures { Answers result (number at n wanted) }
+    ensures { AnswersTyping result (number at n wanted) }
 {
     match wanted {
         None => Ok(Ty::Int(64)),
@@ -63,7 +63,7 @@ pub fn type_number(at: u32, n: u64, wanted: Option<Ty>) -> Result<Ty, TypeFault>
 ///
 /// `Mismatch` where another type is wanted.
 pub fn fit(at: u32, wanted: Option<Ty>, found: Ty) -> Result<Ty, TypeFault>
-    ensures { Answers result (fits at wanted found) }
+    ensures { AnswersTyping result (fits at wanted found) }
 {
     match wanted {
         None => Ok(found),
@@ -82,7 +82,7 @@ pub fn fit(at: u32, wanted: Option<Ty>, found: Ty) -> Result<Ty, TypeFault>
 ///
 /// `Mismatch`, with `u64` wanted, where it is a data type.
 pub fn integer(at: u32, found: Ty) -> Result<Ty, TypeFault>
-    ensures { Answers result (integer at found) }
+    ensures { AnswersTyping result (integer at found) }
 {
     match found {
         Ty::Int(_) => Ok(found),

@@ -40,7 +40,7 @@ use Rattle.rb_coding.specs.declared.fault.EncodeFault.{EncodeFault}
 use Rattle.rb_coding.specs.declared.fault.EncodeFault.TheVariants.{Full, Memory as NoMemory}
 use Rattle.rb_coding.specs.Encoding.{IsEncoded, only}
 use Rattle.rb_coding.specs.inner.Filling.{Progress, Stopped}
-use Rattle.rb_coding.specs.inner.Making.{IsReady, IsNodeMade}
+use Rattle.rb_coding.specs.inner.Making.{ValueIsReady, IsNodeMade}
 use Rattle.rb_coding.specs.inner.Nodes.{subs_of, node_at}
 use Rattle.rb_coding.proofs.GrowLemmas.{progress_none, progress_trans, progress_fits, stop_after, stop_wider, stopped_over}
 use Rattle.rb_coding.proofs.OnlyLemmas.{good_only, progress_only, filled_only}
@@ -123,13 +123,13 @@ module _ (p : Program) (typed : IsTyped p) (agrees : Agrees p) where
   asks = induction Asks asks_num asks_con
 
   -- a typed value is ready to be made
-  ready_by : {v : Value} {t : Ty} → Shape types v t → Typed types v t → IsReady layouts t v
+  ready_by : {v : Value} {t : Ty} → Shape types v t → Typed types v t → ValueIsReady layouts t v
   ready_by (P.number n bits lt) e = (n, refl)
   ready_by (construction k s vs ts is h) e =
       let c = chosen p typed agrees s (Con k vs) (declared_type p typed agrees s k ts is) e in
       (c.leaf, chosen_in p typed agrees s (Con k vs) c, placeable p typed agrees s c.layout c.number c.leaf c.is_layout c.is_number)
 
-  pub ready : (v : Value) (t : Ty) → Typed types v t → IsReady layouts t v
+  pub ready : (v : Value) (t : Ty) → Typed types v t → ValueIsReady layouts t v
   ready v t e = ready_by (shape_of types v t e) e
 
   pub small_by : {v : Value} {s : ℕ} → Shape types v (Named s) → s < length types
@@ -187,12 +187,12 @@ module _ (p : Program) (is_typed : IsTyped p) (agrees : Agrees p) (ty : Ty) (v :
       type_at (y ∷ xs) zero e = ap type_of (same_Some y x e)
       type_at (y ∷ xs) (suc i) e = type_at xs i e
 
-  pub nth_ready : (i : ℕ) (n : Nth i) → IsReady the_layouts n.node.1 n.node.0
+  pub nth_ready : (i : ℕ) (n : Nth i) → ValueIsReady the_layouts n.node.1 n.node.0
   nth_ready i n = ready p is_typed agrees n.node.0 n.node.1 n.is_at.typed
 
-  pub ready_at : (i : ℕ) (n : Nth i) (layouts' : List Layout) (nodes' : List Value) (t : Ty) → layouts' ≡ the_layouts → nodes' ≡ posts v → t ≡ n.node.1 → IsReady layouts' t (at nodes' i)
+  pub ready_at : (i : ℕ) (n : Nth i) (layouts' : List Layout) (nodes' : List Value) (t : Ty) → layouts' ≡ the_layouts → nodes' ≡ posts v → t ≡ n.node.1 → ValueIsReady layouts' t (at nodes' i)
   ready_at i n layouts' nodes' t el en et =
-      subst (λ ls. IsReady ls t (at nodes' i)) (sym el) (subst (λ u. IsReady the_layouts u (at nodes' i)) (sym et) (subst (λ u. IsReady the_layouts n.node.1 u) (sym (ap (λ ns. at ns i) en ∙ n.is_value)) (nth_ready i n)))
+      subst (λ ls. ValueIsReady ls t (at nodes' i)) (sym el) (subst (λ u. ValueIsReady the_layouts u (at nodes' i)) (sym et) (subst (λ u. ValueIsReady the_layouts n.node.1 u) (sym (ap (λ ns. at ns i) en ∙ n.is_value)) (nth_ready i n)))
 
   pub made_at : (i : ℕ) (n : Nth i) (layouts' : List Layout) (nodes' : List Value) (t : Ty) → layouts' ≡ the_layouts → nodes' ≡ posts v → t ≡ n.node.1 → (table : Table) (m m' : Memory) (r : Result (List ℕ) EncodeFault)
       → IsNodeMade layouts' t (at nodes' i) (subs_of table nodes' i) m m' r → IsNodeMade the_layouts n.node.1 n.node.0 (subs_of table (posts v) i) m m' r

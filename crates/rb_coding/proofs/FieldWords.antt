@@ -30,7 +30,7 @@ use Rattle.rb_layout.specs.Flattening.{flat_layouts, same_path, type_at}
 use Rattle.rb_layout.specs.Positions.{Open, open_positions, layout_of, leaf_of}
 use Rattle.rb_layout.specs.Words.{words_in, words_of_block, begins_at}
 use Rattle.rb_layout.proofs.OpenPositions.{position-typed}
-use Rattle.rb_rel.specs.Relation.{HoldsKind, Holds, Placed, Represents, word_count}
+use Rattle.rb_rel.specs.Relation.{HoldsKind, PartHolds, Placed, Represents, word_count}
 use Rattle.rb_rel.proofs.Agreeing.{lawful}
 use Rattle.rb_rel.proofs.Fitting.{KindFits}
 use Rattle.rb_rel.proofs.Holding.{path_is}
@@ -157,7 +157,7 @@ module _ (layouts : List Layout) (decls : List LayoutDecl) (opens : List Open) (
 
   -- a part holds, and what it holds has a place of so many bits
   abbrev pub IsPartOf : ℕ → Part → Type 0
-  IsPartOf w p = (1 ≤ p.l) × KindFits decls opens p.l p.kind × Holds subs ats w p
+  IsPartOf w p = (1 ≤ p.l) × KindFits decls opens p.l p.kind × PartHolds subs ats w p
 
   module _ (ty : Ty) (is_ty : type_at opens path ≡ Some ty) (small : (bits : ℕ) → ty ≡ Int bits → bits ≤ 64) where
     type_is : (own : List ℕ) (s : Ty) → same_path own path ≡ true → type_at opens own ≡ Some s → ty ≡ s
@@ -343,7 +343,7 @@ module _ (p : Program) (typed : IsTyped p) (agrees : Agrees p) (m : Memory) (t :
         let x = placed.words (record { block = None; word = k }) f e in
         let z : 0 + k ≡ k = omega arith in
         let here : slice_index ws (0 + k) ≡ x.0 = ap (slice_index ws) z ∙ get_or_from_slice_get ws k x.0 0 x.1 in
-        (fit.some q part at, fit.kinds q part at, subst (λ w. Holds subs ats w part) (sym here) (x.2.parts q part at)))
+        (fit.some q part at, fit.kinds q part at, subst (λ w. PartHolds subs ats w part) (sym here) (x.2.parts q part at)))
 
     inner_blocks : AreBlocks (flat_layouts p) p.layouts opens subs ats path leaf.blocks loaded
     inner_blocks = λ b c block e is k f isf q part at.
@@ -352,7 +352,7 @@ module _ (p : Program) (typed : IsTyped p) (agrees : Agrees p) (m : Memory) (t :
         let found = ap (λ (x : Option Block). load_of m (ats b) (begins_at (words_of_block x) k) f.width) is ∙ are.words subs ats placed b c block e is k f isf in
         let holds = found_holds leaf ws m false subs ats placed (record { block = Some b; word = k }) f (slice_index xs k) (ap (λ (x : Option Block). slice_get (words_of_block x) k) is ∙ isf) found in
         let z : k ≡ 0 + k = omega arith in
-        (fit.some q part at, fit.kinds q part at, subst (λ j. Holds subs ats (slice_index xs j) part) z (holds.parts q part at)))
+        (fit.some q part at, fit.kinds q part at, subst (λ j. PartHolds subs ats (slice_index xs j) part) z (holds.parts q part at)))
 
   -- what is gathered for a field is what represents the value there
   pub field_is : (subs : List ℕ → List ℕ) (ats : ℕ → ℕ) → Placed leaf ws m false subs ats → (k : ℕ) (o : Open) → slice_get opens k ≡ Some o → (u : Value) → AreOf p m o.ty (subs o.path) u

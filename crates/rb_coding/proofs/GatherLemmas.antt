@@ -10,7 +10,7 @@ use Rattle.rb_layout.specs.declared.layout.FlatWord.{FlatWord}
 use Rattle.rb_layout.specs.declared.layout.Kind.{Kind}
 use Rattle.rb_layout.specs.declared.layout.Kind.TheVariants.{Const, Bits, Word, Pointer}
 use Rattle.rb_layout.specs.declared.layout.Part.{Part}
-use Rattle.rb_rel.specs.Relation.{HoldsKind, Holds}
+use Rattle.rb_rel.specs.Relation.{HoldsKind, PartHolds}
 use Rattle.rb_coding.specs.inner.Gathering.{entry, put_entry, put_part, put_parts, put_words}
 use Rattle.rb_coding.specs.declared.gather.Wanted.{Wanted}
 use Rattle.rb_coding.specs.declared.gather.Wanted.TheVariants.{Addresses}
@@ -92,7 +92,7 @@ module _ (subs : List ℕ → List ℕ) (ats : ℕ → ℕ) where
     address_kept c (Word own j) first k l t holds h = h
     address_kept c (Pointer align b) first k l t holds h = address_set c b (k * align % 18446744073709551616) t (scaled c b k align holds h.1) h.0 h.1 (inr h.2)
 
-    pub address_step : (c w : ℕ) (p : Part) (t : List ℕ) → Holds subs ats w p → IsAt c t → IsAt c (put_part Addresses [] w t p)
+    pub address_step : (c w : ℕ) (p : Part) (t : List ℕ) → PartHolds subs ats w p → IsAt c t → IsAt c (put_part Addresses [] w t p)
     address_step c w p t holds h = address_kept c p.kind (slice_index t 0) (take_of w p.o p.l) p.l t holds h
 
     long_kept : (kind : Kind) (first k l : ℕ) (t : List ℕ) → length t ≡ n → length (put_entry t (entry Addresses [] first k l kind)) ≡ n
@@ -101,13 +101,13 @@ module _ (subs : List ℕ → List ℕ) (ats : ℕ → ℕ) where
     long_kept (Word own j) first k l t h = h
     long_kept (Pointer align b) first k l t h = set_long n t b (k * align % 18446744073709551616) h
 
-    pub long_step : (w : ℕ) (p : Part) (t : List ℕ) → Holds subs ats w p → length t ≡ n → length (put_part Addresses [] w t p) ≡ n
+    pub long_step : (w : ℕ) (p : Part) (t : List ℕ) → PartHolds subs ats w p → length t ≡ n → length (put_part Addresses [] w t p) ≡ n
     long_step w p t holds h = long_kept p.kind (slice_index t 0) (take_of w p.o p.l) p.l t h
 
     abbrev pub PointsAt : ℕ → Part → Type 0
     PointsAt c p = (align : ℕ) × (p.kind ≡ Pointer align c)
 
-    pub address_make : (c w : ℕ) (p : Part) (t : List ℕ) → c < n → Holds subs ats w p → PointsAt c p → length t ≡ n → IsAt c (put_part Addresses [] w t p)
+    pub address_make : (c w : ℕ) (p : Part) (t : List ℕ) → c < n → PartHolds subs ats w p → PointsAt c p → length t ≡ n → IsAt c (put_part Addresses [] w t p)
     address_make c w p t lt holds (align, is) long =
         let k = take_of w p.o p.l in
         let h : k * align ≡ ats c = subst (λ (x : Kind). HoldsKind subs ats k p.l x) is holds in

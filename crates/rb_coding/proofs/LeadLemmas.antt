@@ -14,7 +14,7 @@ use Rattle.rb_layout.specs.declared.layout.FlatWord.{FlatWord}
 use Rattle.rb_layout.specs.declared.layout.Leaf.{Leaf}
 use Rattle.rb_layout.specs.declared.layout.WordRef.{WordRef}
 use Rattle.rb_layout.specs.A4.{IsBlockWidth}
-use Rattle.rb_layout.specs.A7.{Meets}
+use Rattle.rb_layout.specs.A7.{MeetsTest}
 use Rattle.rb_layout.specs.Agreement.{Agrees}
 use Rattle.rb_layout.specs.Excluded.{Excludes}
 use Rattle.rb_layout.specs.Flat.{IsFlat}
@@ -28,7 +28,7 @@ use Rattle.rb_rel.proofs.Barred.{never, no_null}
 use Rattle.rb_rel.proofs.Known.{constant_bits-is}
 use Rattle.rb_rel.proofs.Reading.{word_beginning-is, reads_loc}
 use Rattle.rb_rel.proofs.Represented.{Opened}
-use Rattle.rb_coding.specs.inner.Leading.{Passes, Leads}
+use Rattle.rb_coding.specs.inner.Leading.{Passes, RouteLeads}
 
 module _ (leaf : Leaf) (wide : (b : ℕ) (block : Block) (j : ℕ) (f : FlatWord) → slice_get leaf.blocks b ≡ Some block → slice_get block.words j ≡ Some f → IsBlockWidth f.width) where
   in_block : (b : ℕ) (o : Option Block) (j : ℕ) (f : FlatWord) → slice_get leaf.blocks b ≡ o → slice_get (words_of_block o) j ≡ Some f → IsWidth f.width
@@ -91,7 +91,7 @@ module _ (p : Program) (typed : IsTyped p) (agrees : Agrees p) (m : Memory) (goo
       (no_null p.types (flat_layouts p) m false good leaf ws o.made.subs o.made.ats is_flat o.made.placed x.reached.ref x.reached.word r.stands.is_flat)
       (same_Some _ _ (sym r.is_read ∙ e))
 
-  passes : (test : Test) → Meets p.types (flat_layouts p) leaf test → Passes ws m test
+  passes : (test : Test) → MeetsTest p.types (flat_layouts p) leaf test → Passes ws m test
   passes (Is loc c) h = record { is_read = known_is loc c (reached_at leaf loc) refl h.1; widths = widths leaf wide loc h.0.0 h.0.1 }
   passes (IsNone loc cs) h =
       let r = reads_loc leaf ws m false o.made.subs o.made.ats o.made.placed loc h.0.0 h.0.1 in
@@ -99,7 +99,7 @@ module _ (p : Program) (typed : IsTyped p) (agrees : Agrees p) (m : Memory) (goo
       (n, record { is_read = r.is_read; widths = widths leaf wide loc h.0.0 h.0.1 }, λ one. excluded_is loc n (h.1 n one) r.is_read)
 
   -- the splits lead to the leaf of the value
-  pub leads_to : Leads ws m o.made.layout.tree o.made.number
+  pub leads_to : RouteLeads ws m o.made.layout.tree o.made.number
   leads_to =
       let d = o.made in
       let law = lawful p agrees typed in

@@ -14,7 +14,7 @@ use Rattle.rb_layout.specs.declared.layout.Leaf.{Leaf}
 use Rattle.rb_layout.specs.declared.layout.Part.{Part}
 use Rattle.rb_layout.specs.Flat.{IsAbove}
 use Rattle.rb_layout.specs.Words.{words_in, words_of_block, flat_at, begins_at, size_of}
-use Rattle.rb_rel.specs.Relation.{Holds, Placed}
+use Rattle.rb_rel.specs.Relation.{PartHolds, Placed}
 use Rattle.rb_rel.proofs.Lists.{got}
 use Rattle.rb_coding.specs.inner.Gathering.{put_words}
 use Rattle.rb_coding.specs.inner.Loading.{AreLoaded, AreWordsOf, CanLoad, IsLoadable}
@@ -105,32 +105,32 @@ module _ (leaf : Leaf) (ws : List ℕ) (m : Memory) (good : IsGood m) where
         let l = good.limit in
         omega (arith, bounds, n, l)
 
-    fine_root : FineWords Addresses [] (Holds subs ats) leaf.root ws 0
+    fine_root : FineWords Addresses [] (PartHolds subs ats) leaf.root ws 0
     fine_root j f e k q h =
         let x = placed.words (record { block = None; word = j }) f e in
         let z : 0 + j ≡ j = omega arith in
         let w : slice_index ws (0 + j) ≡ x.0 = ap (slice_index ws) z ∙ get_or_from_slice_get ws j x.0 0 x.1 in
-        subst (λ y. Holds subs ats y q) (sym w) (x.2.parts k q h)
+        subst (λ y. PartHolds subs ats y q) (sym w) (x.2.parts k q h)
 
     module _ (b : ℕ) (block : Block) (at : slice_get leaf.blocks b ≡ Some block) where
-      found : (j : ℕ) (f : FlatWord) → slice_get block.words j ≡ Some f → (w : ℕ) × (load_of m (ats b) (begins_at block.words j) f.width ≡ Ok w) × ((k : ℕ) (q : Part) → slice_get f.parts k ≡ Some q → Holds subs ats w q)
+      found : (j : ℕ) (f : FlatWord) → slice_get block.words j ≡ Some f → (w : ℕ) × (load_of m (ats b) (begins_at block.words j) f.width ≡ Ok w) × ((k : ℕ) (q : Part) → slice_get f.parts k ≡ Some q → PartHolds subs ats w q)
       found j f h =
           let is_flat : flat_at leaf (record { block = Some b; word = j }) ≡ Some f = ap (λ o. slice_get (words_of_block o) j) at ∙ h in
           let x = placed.words (record { block = Some b; word = j }) f is_flat in
           (x.0, ap (λ o. load_of m (ats b) (begins_at (words_of_block o) j) f.width) (sym at) ∙ x.1, x.2.parts)
 
-      fine_block : (words : List ℕ) → AreLoaded m (ats b) block.words words → FineWords Addresses [] (Holds subs ats) block.words words 0
+      fine_block : (words : List ℕ) → AreLoaded m (ats b) block.words words → FineWords Addresses [] (PartHolds subs ats) block.words words 0
       fine_block words are j f h k q g =
           let x = found j f h in
           let l : slice_index words j ≡ x.0 = (let same = sym (are j f h) ∙ x.1 in cc) in
           let z : 0 + j ≡ j = omega arith in
-          subst (λ y. Holds subs ats y q) (sym (ap (slice_index words) z ∙ l)) (x.2 k q g)
+          subst (λ y. PartHolds subs ats y q) (sym (ap (slice_index words) z ∙ l)) (x.2 k q g)
 
     -- the words of the root give addresses
     root_known : (table : List ℕ) → length table ≡ length leaf.blocks → Known leaf (length leaf.blocks) ats (put_words Addresses [] leaf.root ws 0 table)
     root_known table long (Some a) j f is k q e align c p from lt = absurd (let w = in_blocks a j f (slice_get leaf.blocks a) refl is in omega (arith, w, from))
     root_known table long None j f is k q e align c p from lt =
-        (words_make Addresses [] (Holds subs ats) (λ t. length t ≡ length leaf.blocks) (long_step subs ats (length leaf.blocks) small)
+        (words_make Addresses [] (PartHolds subs ats) (λ t. length t ≡ length leaf.blocks) (long_step subs ats (length leaf.blocks) small)
         (IsAt subs ats (length leaf.blocks) small c) (address_step subs ats (length leaf.blocks) small c)
         (PointsAt subs ats (length leaf.blocks) small c) (λ w x t holds h l. address_make subs ats (length leaf.blocks) small c w x t lt holds h l)
         leaf.root ws 0 table fine_root long j f is k q e (align, p)).2
@@ -141,11 +141,11 @@ module _ (leaf : Leaf) (ws : List ℕ) (m : Memory) (good : IsGood m) where
     block_known b block at words are table long known o j f is k q e align c p from lt = go o is from
       where
         kept : slice_index table c ≡ ats c → slice_index (put_words Addresses [] block.words words 0 table) c ≡ ats c
-        kept h = (words_keep Addresses [] (Holds subs ats) (IsAt subs ats (length leaf.blocks) small c) (address_step subs ats (length leaf.blocks) small c) block.words words 0 table (fine_block b block at words are) (long, lt, h)).2
+        kept h = (words_keep Addresses [] (PartHolds subs ats) (IsAt subs ats (length leaf.blocks) small c) (address_step subs ats (length leaf.blocks) small c) block.words words 0 table (fine_block b block at words are) (long, lt, h)).2
 
         made : slice_get block.words j ≡ Some f → slice_index (put_words Addresses [] block.words words 0 table) c ≡ ats c
         made h =
-            (words_make Addresses [] (Holds subs ats) (λ t. length t ≡ length leaf.blocks) (long_step subs ats (length leaf.blocks) small)
+            (words_make Addresses [] (PartHolds subs ats) (λ t. length t ≡ length leaf.blocks) (long_step subs ats (length leaf.blocks) small)
             (IsAt subs ats (length leaf.blocks) small c) (address_step subs ats (length leaf.blocks) small c)
             (PointsAt subs ats (length leaf.blocks) small c) (λ w x t holds g l. address_make subs ats (length leaf.blocks) small c w x t lt holds g l)
             block.words words 0 table (fine_block b block at words are) long j f h k q e (align, p)).2
@@ -162,7 +162,7 @@ module _ (leaf : Leaf) (ws : List ℕ) (m : Memory) (good : IsGood m) where
     loading_start zeros table are is =
         let long : length zeros ≡ length leaf.blocks = ap length are ∙ length-replicate (length leaf.blocks) 0 in
         record {
-          long = ap length is ∙ words_keep Addresses [] (Holds can.subs can.ats) (λ t. length t ≡ length leaf.blocks) (long_step can.subs can.ats (length leaf.blocks) (small can.subs can.ats can.placed))
+          long = ap length is ∙ words_keep Addresses [] (PartHolds can.subs can.ats) (λ t. length t ≡ length leaf.blocks) (long_step can.subs can.ats (length leaf.blocks) (small can.subs can.ats can.placed))
               leaf.root ws 0 zeros (fine_root can.subs can.ats can.placed) long;
           count = omega arith;
           known = λ subs ats placed. subst (Known leaf (length leaf.blocks) ats) (sym is) (root_known subs ats placed zeros long);
@@ -192,7 +192,7 @@ module _ (leaf : Leaf) (ws : List ℕ) (m : Memory) (good : IsGood m) where
           λ subs ats placed. subst (λ a. AreLoaded m a block.words words) (base_is subs ats placed) are in
           let n = h.count in
           record {
-            long = ap length is_new ∙ words_keep Addresses [] (Holds can.subs can.ats) (λ t. length t ≡ length leaf.blocks) (long_step can.subs can.ats (length leaf.blocks) (small can.subs can.ats can.placed))
+            long = ap length is_new ∙ words_keep Addresses [] (PartHolds can.subs can.ats) (λ t. length t ≡ length leaf.blocks) (long_step can.subs can.ats (length leaf.blocks) (small can.subs can.ats can.placed))
                 block.words words 0 addresses (fine_block can.subs can.ats can.placed b block at words (here can.subs can.ats can.placed)) h.long;
             count = (let l = ap length is_more ∙ length-append loaded (words ∷ []) in omega (arith, l, n));
             known = λ subs ats placed. subst (Known leaf b ats) (sym is_new) (block_known subs ats placed b block at words (here subs ats placed) addresses h.long (h.known subs ats placed));

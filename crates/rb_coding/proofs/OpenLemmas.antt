@@ -20,7 +20,7 @@ use Rattle.rb_rel.proofs.Represented.{Opened, opened}
 use Rattle.rb_coding.specs.Decoding.{AreOf}
 use Rattle.rb_coding.specs.declared.todo.Step.{Step}
 use Rattle.rb_coding.specs.inner.Gathering.{field_words}
-use Rattle.rb_coding.specs.inner.Leading.{Leads}
+use Rattle.rb_coding.specs.inner.Leading.{RouteLeads}
 use Rattle.rb_coding.specs.inner.Loading.{AreWordsOf, IsLoadable}
 use Rattle.rb_coding.specs.inner.Planning.{plan_of}
 use Rattle.rb_coding.specs.inner.Todo.{IsOpened}
@@ -42,15 +42,15 @@ module _ (p : Program) (typed : IsTyped p) (agrees : Agrees p) (m : Memory) (goo
   same : (v : Value) (o : View v) → o.made.layout ≡ layout
   same v o = same_Some o.made.layout layout (sym o.made.is_layout ∙ is_layout)
 
-  leads_in : (v : Value) (o : View v) → Leads ws m layout.tree o.made.number
-  leads_in v o = subst (λ (y : Layout). Leads ws m y.tree o.made.number) (same v o) (leads_to p typed agrees m good t v ws o)
+  leads_in : (v : Value) (o : View v) → RouteLeads ws m layout.tree o.made.number
+  leads_in v o = subst (λ (y : Layout). RouteLeads ws m y.tree o.made.number) (same v o) (leads_to p typed agrees m good t v ws o)
 
   -- the splits lead to some leaf
-  pub some_leaf : (v : Value) → AreOf p m (Named t) ws v → (n : ℕ) × Leads ws m layout.tree n
+  pub some_leaf : (v : Value) → AreOf p m (Named t) ws v → (n : ℕ) × RouteLeads ws m layout.tree n
   some_leaf v rep = let o = view v rep in (o.made.number, leads_in v o)
 
   -- a leaf to which they lead, and no other
-  module _ (n : ℕ) (only : (k : ℕ) → Leads ws m layout.tree k → n ≡ k) where
+  module _ (n : ℕ) (only : (k : ℕ) → RouteLeads ws m layout.tree k → n ≡ k) where
     is_leaf : (v : Value) → AreOf p m (Named t) ws v → leaf_of layout v ≡ Some n
     is_leaf v rep = let o = view v rep in ap (λ (y : Layout). leaf_of y v) (sym (same v o)) ∙ o.made.is_leaf ∙ ap Some (sym (only o.made.number (leads_in v o)))
 

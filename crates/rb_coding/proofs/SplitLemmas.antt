@@ -21,7 +21,7 @@ use Rattle.rb_rel.specs.Reading.{after, read_from, read_loc}
 use Rattle.rb_rel.proofs.Lists.{get-append, get-map, get-left, get-right}
 use Rattle.rb_rel.proofs.Trees.{AreDistinct, LiteralsDistinct}
 use Rattle.rb_coding.specs.Arms.{under_number}
-use Rattle.rb_coding.specs.inner.Leading.{Reads, Passes, Leads}
+use Rattle.rb_coding.specs.inner.Leading.{ReadsNumber, Passes, RouteLeads}
 
 -- Steps of a location ------------------------------------------------------------------------------
 loaded : (x : Result ℕ Trap) (go : ℕ → Option ℕ) (n : ℕ) → after x go ≡ Some n → (r : ℕ) × (x ≡ Ok r)
@@ -156,7 +156,7 @@ module _ (ws : List ℕ) (m : Memory) where
   only n zero r e = ap (λ (q : Route). q.leaf) (same_Some _ _ e)
   only n (suc k) r e = absurd cc
 
-  pub leaf_only : (tree : FlatTree) (n leaf : ℕ) → tree ≡ Leaf n → Leads ws m tree leaf → n ≡ leaf
+  pub leaf_only : (tree : FlatTree) (n leaf : ℕ) → tree ≡ Leaf n → RouteLeads ws m tree leaf → n ≡ leaf
   leaf_only tree n leaf is h =
       let rs : routes_of tree ≡ record { leaf = n; tests = [] } ∷ [] = ap routes_of is ∙ F.fold-Leaf (List Route) (Under (List Route)) routes_step routes_arm n in
       only n h.number h.route (ap (λ (xs : List Route). slice_get xs h.number) (sym rs) ∙ h.is_route) ∙ h.is_leaf
@@ -164,10 +164,10 @@ module _ (ws : List ℕ) (m : Memory) where
   -- a split on the way: its number, and the way below it
   pub record Turn (loc : Loc) (arms : List FlatArm) (other : Option FlatTree) (leaf : ℕ) : Type 0 where
     pub n : ℕ
-    pub reads : Reads ws m loc n
+    pub reads : ReadsNumber ws m loc n
     pub next : FlatTree
     pub is_next : under_number arms other n ≡ Some next
-    pub leads : Leads ws m next leaf
+    pub leads : RouteLeads ws m next leaf
 
   module _ (loc : Loc) (arms : List FlatArm) (leaf : ℕ) (route : Route) (is_leaf : route.leaf ≡ leaf)
       (passes : (k : ℕ) (t : Test) → slice_get route.tests k ≡ Some t → Passes ws m t) where
@@ -211,7 +211,7 @@ module _ (ws : List ℕ) (m : Memory) where
           };
         }
 
-  pub turn : (tree : FlatTree) (loc : Loc) (arms : List FlatArm) (other : Option FlatTree) (leaf : ℕ) → tree ≡ Split loc arms other → Leads ws m tree leaf → Turn loc arms other leaf
+  pub turn : (tree : FlatTree) (loc : Loc) (arms : List FlatArm) (other : Option FlatTree) (leaf : ℕ) → tree ≡ Split loc arms other → RouteLeads ws m tree leaf → Turn loc arms other leaf
   turn tree loc arms other leaf is h =
       let e = ap (λ (xs : List Route). slice_get xs h.number) (sym (ap routes_of is ∙ tree_routes loc arms other)) ∙ h.is_route in
       let ds = subst LiteralsDistinct (ap splits_of is ∙ tree_splits loc arms other) h.distinct in
@@ -220,18 +220,18 @@ module _ (ws : List ℕ) (m : Memory) where
         | inr x ↦ by_else loc arms leaf h.route h.is_leaf h.passes other x.0 ds x.1
       ]
 
-  pub turned : (tree : FlatTree) (loc : Loc) (arms : List FlatArm) (other : Option FlatTree) (leaf : ℕ) (is : tree ≡ Split loc arms other) (h : Leads ws m tree leaf) (n : ℕ) (next : Option FlatTree)
-      → read_loc ws m loc ≡ Some n → next ≡ under_number arms other n → (x : FlatTree) × (next ≡ Some x) × Leads ws m x leaf
+  pub turned : (tree : FlatTree) (loc : Loc) (arms : List FlatArm) (other : Option FlatTree) (leaf : ℕ) (is : tree ≡ Split loc arms other) (h : RouteLeads ws m tree leaf) (n : ℕ) (next : Option FlatTree)
+      → read_loc ws m loc ≡ Some n → next ≡ under_number arms other n → (x : FlatTree) × (next ≡ Some x) × RouteLeads ws m x leaf
   turned tree loc arms other leaf is h n next reads under =
       let t = turn tree loc arms other leaf is h in
       let e : n ≡ t.n = same_Some n t.n (sym reads ∙ t.reads.is_read) in
       (t.next, under ∙ ap (under_number arms other) e ∙ t.is_next, t.leads)
 
-  pub turned_to : (tree : FlatTree) (loc : Loc) (arms : List FlatArm) (other : Option FlatTree) (leaf : ℕ) (is : tree ≡ Split loc arms other) (h : Leads ws m tree leaf) (n : ℕ) (next : FlatTree)
-      → read_loc ws m loc ≡ Some n → Some next ≡ under_number arms other n → Leads ws m next leaf
+  pub turned_to : (tree : FlatTree) (loc : Loc) (arms : List FlatArm) (other : Option FlatTree) (leaf : ℕ) (is : tree ≡ Split loc arms other) (h : RouteLeads ws m tree leaf) (n : ℕ) (next : FlatTree)
+      → read_loc ws m loc ≡ Some n → Some next ≡ under_number arms other n → RouteLeads ws m next leaf
   turned_to tree loc arms other leaf is h n next reads under =
       let t = turned tree loc arms other leaf is h n (Some next) reads under in
-      subst (λ x. Leads ws m x leaf) (sym (same_Some next t.0 t.1)) t.2
+      subst (λ x. RouteLeads ws m x leaf) (sym (same_Some next t.0 t.1)) t.2
 
 -- there are fewer splits below
 fewer_here : (other : Option FlatTree) (next : FlatTree) → other ≡ Some next → length (splits_of next) ≤ length (splits_or_none (other_splits other))

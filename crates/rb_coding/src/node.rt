@@ -3,7 +3,7 @@
 ghost use Rattle.std.specs.Prelude.{◌≡◌, ◌∷◌, [], IfOk};
 ghost use Rattle.rb_bytes.specs.Memory.{IsGood};
 ghost use Rattle.rb_values.specs.Nodes.{at};
-ghost use Rattle.rb_coding.specs.inner.Making.{IsReady, IsNodeMade};
+ghost use Rattle.rb_coding.specs.inner.Making.{ValueIsReady, IsNodeMade};
 ghost use Rattle.rb_coding.specs.inner.Nodes.{subs_of};
 
 use crate::blocks::leaf_words;
@@ -38,7 +38,7 @@ pub(crate) fn node_words<M: ByteMemory>(
     table: &Table,
 ) -> Result<Seq<u64>, EncodeFault>
     requires good { IsGood (M.memory memory.old) }
-    requires ready { IsReady layouts.now ty (at nodes.now node) }
+    requires ready { ValueIsReady layouts.now ty (at nodes.now node) }
     ensures { IsNodeMade layouts.now ty (at nodes.now node) (subs_of table.now nodes.now node)
         (M.memory memory.old) (M.memory memory.new) result }
 {

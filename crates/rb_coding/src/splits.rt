@@ -5,7 +5,7 @@ ghost use Rattle.std.specs.Option.{option_copied};
 ghost use Rattle.rb_bytes.specs.Memory.{IsGood};
 ghost use Rattle.rb_rel.specs.Reading.{read_loc};
 ghost use Rattle.rb_coding.specs.Arms.{under_number};
-ghost use Rattle.rb_coding.specs.inner.Leading.{Leads, Reads};
+ghost use Rattle.rb_coding.specs.inner.Leading.{RouteLeads, ReadsNumber};
 
 use crate::bits::take_from;
 use rb_bytes::memory::ByteMemory;
@@ -16,7 +16,7 @@ use rb_layout::layout::{FlatArm, FlatTree};
 // The number that is read at a location, from the root words and the memory.
 fn read_loc<M: ByteMemory>(memory: &M, words: &[u64], loc: &Loc) -> u64
     requires good { IsGood (M.memory memory.now) }
-    requires reads { (n : ℕ) × Reads words.now (M.memory memory.now) loc.now n }
+    requires reads { (n : ℕ) × ReadsNumber words.now (M.memory memory.now) loc.now n }
     ensures { read_loc words.now (M.memory memory.now) loc.now ≡ Some result }
 {
     let mut word = match words.get(loc.word as usize) {
@@ -61,8 +61,9 @@ pub fn under<'a>(
 /// The number of the leaf to which a tree of splits leads, read on words.
 pub(crate) fn leaf_number<M: ByteMemory>(memory: &M, words: &[u64], tree: &FlatTree) -> u32
     requires good { IsGood (M.memory memory.now) }
-    requires leads { (leaf : ℕ) × Leads words.now (M.memory memory.now) tree.now leaf }
-    ensures { (leaf : ℕ) → Leads words.now (M.memory memory.now) tree.now leaf → result ≡ leaf }
+    requires leads { (leaf : ℕ) × RouteLeads words.now (M.memory memory.now) tree.now leaf }
+    ensures { (leaf : ℕ) → RouteLeads words.now (M.memory memory.now) tree.now leaf
+        → result ≡ leaf }
 {
     let mut tree = tree;
     loop {

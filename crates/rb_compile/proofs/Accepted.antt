@@ -28,7 +28,7 @@ use Rattle.rb_layout.specs.Positions.{layout_of}
 use Rattle.rb_rel.specs.Relation.{shape_length, word_count}
 use Rattle.rb_rel.proofs.Declared.{decl_at, declared}
 use Rattle.rb_fragment.specs.Plan.{Plan, types_of, words_in, words_of}
-use Rattle.rb_fetch.specs.Fetching.{IsSound}
+use Rattle.rb_fetch.specs.Fetching.{PlanIsSound}
 use Rattle.rb_match.specs.Bounding.{bound_of}
 use Rattle.rb_compile.specs.Plans.{bound_at, match_bound, plan_of, site_at, sites_in}
 use Rattle.rb_compile.specs.inner.Functions.{FunIsReady, ProgramIsReady}
@@ -81,7 +81,7 @@ module _ (agreed : LaidOut) (typed : IsTyped agreed.covered.program) (covered : 
   abbrev plan : Plan
   plan = plan_of agreed
 
-  sound : IsSound plan
+  sound : PlanIsSound plan
   sound = record { typed = typed; agreed = are }
 
   paid_at : (g : ℕ) (f : Fun) → slice_get p.funs g ≡ Some f → (s : Site) → IsAmong s (function_sites p.types p.funs f) → match_bound p agreed.layouts g s.at ≡ bound_of p.types agreed.layouts s.scrutinee s.patterns

@@ -43,7 +43,7 @@ use Rattle.rb_fragment.proofs.Pieces.{piece_frame, piece_weaken}
 use Rattle.rb_fetch.specs.Finding.{IsPlanOf}
 use Rattle.rb_match.specs.Bounding.{binding_bound}
 use Rattle.rb_match.specs.Choosing.{Binds, BindsPattern}
-use Rattle.rb_compile.specs.inner.Ready.{IsReady, SitesAreReady}
+use Rattle.rb_compile.specs.inner.Ready.{ExprIsReady, SitesAreReady}
 use Rattle.rb_compile.specs.inner.Forms.{EmitsExpr, meant}
 use Rattle.rb_compile.specs.inner.Used.{Serves}
 use Rattle.rb_compile.proofs.Agreeing.{same_meaning, same_sites, same_typing}
@@ -101,7 +101,7 @@ module _ (plan : Plan) (f : ℕ) (c : Clause) (wanted : Option Ty) (ls : List Lo
       ∙ sym (same_meaning plan.program calls f c.body wanted (scope_of ls ++ binders plan.program.types c.pat s) (scope_of ls ++ binders plan.program.types q1 s) left (env ++ bindings c.pat v) (env ++ bindings q1 v) (served.scopes (scope_of ls)) (served.values env v))
 
   -- and it is ready there
-  pub body_ready : (t : Ty) → ClauseIsReady plan f c wanted ls s t → IsReady plan f c.body wanted inner b.slots t
+  pub body_ready : (t : Ty) → ClauseIsReady plan f c wanted ls s t → ExprIsReady plan f c.body wanted inner b.slots t
   body_ready t ready =
       let types = plan.program.types in let funs = plan.program.funs in
       let all = scope_of ls ++ binders types c.pat s in

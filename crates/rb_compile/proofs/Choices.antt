@@ -54,7 +54,7 @@ use Rattle.rb_fragment.proofs.Matches.{match_adds, match_fragment, match_slots}
 use Rattle.rb_fragment.proofs.Moves.{one-from}
 use Rattle.rb_fragment.proofs.Patching.{at_closed, closed_length, hole_from, join_from, retarget_none}
 use Rattle.rb_fragment.proofs.Pieces.{branches_frame, branches_weaken}
-use Rattle.rb_fetch.specs.Fetching.{IsSound}
+use Rattle.rb_fetch.specs.Fetching.{PlanIsSound}
 use Rattle.rb_fetch.specs.Finding.{IsPlanOf}
 use Rattle.rb_match.specs.Bounding.{binding_bound, choosing_bound}
 use Rattle.rb_match.proofs.Sharing.{bound_shared}
@@ -66,7 +66,7 @@ use Rattle.rb_compile.proofs.Forms.{same_emits}
 use Rattle.rb_compile.proofs.Sites.{ready-Match}
 
 -- what represents a value has its type
-pub rep_typed : (plan : Plan) → IsSound plan → (clean : Bool) (m : Memory) (t : Ty) (v : Value) (ws : List ℕ) → Rep plan m clean t v ws → is_of_type plan.program.types v t ≡ true
+pub rep_typed : (plan : Plan) → PlanIsSound plan → (clean : Bool) (m : Memory) (t : Ty) (v : Value) (ws : List ℕ) → Rep plan m clean t v ws → is_of_type plan.program.types v t ≡ true
 rep_typed plan sound clean m t v ws r =
     let p = plan.program in
     Represents-typed p.types (flat_layouts p) m clean (lawful p sound.agreed.1 sound.typed).provenances (subst (λ l. Represents p.types l m clean t v ws) sound.agreed.0 r)
@@ -145,7 +145,7 @@ arms_map count e q joins starts P Q g arms k lt =
 -- All, where the scrutinee stands in its slots
 
 module _ (plan : Plan) (f at : ℕ) (cs : List Clause) (wanted : Option Ty) (ls : List Local) (b c q : Sheet) (held : Held) (holes joins : List Hole) (starts : List ℕ) (s t : Ty) (xs : List ℕ)
-    (sound : IsSound plan) (site : SiteIsReady plan f (record { at = at; scrutinee = s; patterns = map pat_of cs })) (given : AreGiven plan b.slots ls) (low : AllBelow b.slots xs)
+    (sound : PlanIsSound plan) (site : SiteIsReady plan f (record { at = at; scrutinee = s; patterns = map pat_of cs })) (given : AreGiven plan b.slots ls) (low : AllBelow b.slots xs)
     (choice : Branches plan b.slots b c holes (choosing_bound plan.program.types plan.layouts s (map pat_of cs)) (λ k sl m. IsChosen plan s (map pat_of cs) k (slots_at sl xs) m) (λ k sl m. Unit {0}))
     (holes_are : AreHoles (length b.code) (length cs) c.code holes) (ways : AreOfOneWay holes) (are : ArmsAre (length cs) c q joins starts)
     (done : ArmsDone plan f (length cs) cs wanted ls s t xs b.slots c q (Some held) joins starts) where

@@ -12,7 +12,7 @@ use Rattle.rb_target.specs.Validity.{CallsFit, IsFine, IsLower, IsValidFun, Slot
 use Rattle.rb_fragment.specs.Adding.{CallsWell}
 use Rattle.rb_fragment.specs.Functions.{Compiles, HasShapes, empty_sheet, param_locals}
 use Rattle.rb_fragment.specs.Holding.{Holds, scope_of}
-use Rattle.rb_fragment.specs.Owing.{Does, Gives}
+use Rattle.rb_fragment.specs.Owing.{Does, GivesValue}
 use Rattle.rb_fragment.specs.Plan.{Plan, words_of}
 use Rattle.rb_fragment.specs.declared.held.Local.{Local}
 use Rattle.rb_fragment.proofs.Laying.{does_map}
@@ -82,7 +82,7 @@ module _ (plan : Plan) (g : ℕ) (f : Fun) (b : Sheet) (named : IsLower f.name)
           let holds : Holds plan clean s w.memory ls env = params_hold plan clean w.memory f.params vs ws [] zs 0 refl reps in
           let room_slots : b.slots ≤ length s = omega (arith, slots_are, length-append ws zs, length-replicate {A = ℕ} (q.slots - length ws) 0) in
           let agrees : AgreesBut q.body b.code 0 (length b.code) Nowhere = record { same = λ pc lo hi no. ap (λ (c : List Instr). slice_get c pc) body_is } in
-          let Ok = Gives plan clean f.result out in
+          let Ok = GivesValue plan clean f.result out in
           subst (λ k. Does plan w.switches out w.memory (meaning_of plan.program calls g f.body (Some f.result) k w.left env) Ok) (params_scope plan 0 f.params)
           (does_map plan w.switches (w.switches + 0) out out Ok Ok w.memory (meaning_of plan.program calls g f.body (Some f.result) (scope_of ls) w.left env) (omega arith) refl (λ v w' x. x)
           ((e.does calls clean env).runs q.body callee next law rel agrees s w room_slots good holds));

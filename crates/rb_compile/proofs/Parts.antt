@@ -30,8 +30,8 @@ use Rattle.rb_fragment.proofs.Holds.{AreGiven-more}
 use Rattle.rb_fetch.specs.Choosing.{AreAsShown}
 use Rattle.rb_fetch.specs.Finding.{IsPlanOf}
 use Rattle.rb_build.specs.Building.{Builds}
-use Rattle.rb_fetch.specs.Fetching.{IsSound}
-use Rattle.rb_compile.specs.inner.Ready.{AreReady, IsReady}
+use Rattle.rb_fetch.specs.Fetching.{PlanIsSound}
+use Rattle.rb_compile.specs.inner.Ready.{AreReady, ExprIsReady}
 use Rattle.rb_compile.specs.inner.Forms.{EmitsExpr, EmitsFirst, meant}
 use Rattle.rb_compile.proofs.Forms.{same_emits}
 use Rattle.rb_compile.proofs.Showing.{emits_any, ends_shown, more_shown, none_shown}
@@ -62,7 +62,7 @@ module _ (plan : Plan) (f : ℕ) (es : List Expr) (ts : List Ty) (ls : List Loca
       let at : slice_get es i ≡ Some e = get_at es i e lt ∙ ap Some (sym item) in
       let r = ready i e at in
       let all = first ready given in
-      let here : IsReady plan f e (slice_get ts i) ls b.slots r.0 = record {
+      let here : ExprIsReady plan f e (slice_get ts i) ls b.slots r.0 = record {
         sound = r.2.sound;
         typed = subst (λ w. type_of plan.program.types plan.program.funs e w (scope_of ls) ≡ Ok r.0) (sym r.1) r.2.typed;
         within = r.2.within;
@@ -82,7 +82,7 @@ module _ (plan : Plan) (f : ℕ) (es : List Expr) (ts : List Ty) (ls : List Loca
       subst (λ ps. EmitsAll plan (AreAsShown ps) (λ calls. map (mf calls) (take (i + 1) es)) ts ls a c (hs ++ h ∷ [])) (sym whole) more
 
 -- What is done with the values of all parts, whose types are ts
-module _ (plan : Plan) (f : ℕ) (es : List Expr) (ts : List Ty) (ls : List Local) (a b : Sheet) (hs : List Held) (sound : IsSound plan) (within : List ℕ) (given : AreGiven plan a.slots ls)
+module _ (plan : Plan) (f : ℕ) (es : List Expr) (ts : List Ty) (ls : List Local) (a b : Sheet) (hs : List Held) (sound : PlanIsSound plan) (within : List ℕ) (given : AreGiven plan a.slots ls)
     (long : length (map (rule_of plan.program.types plan.program.funs) es) ≡ length ts) (typed : each_argument (map (rule_of plan.program.types plan.program.funs) es) ts (scope_of ls) ≡ Ok tt)
     (numbered : all_within (map (expression_is_numbered plan.program.types plan.program.funs) es) within ≡ true)
     (sites : (k : ℕ) (e : Expr) → slice_get es k ≡ Some e → Ready plan f e (scope_of ls)) (first : EmitsFirst plan f (length es) es ts ls a b hs) where

@@ -13,7 +13,7 @@ use Rattle.rb_target.specs.Laws.{IsLawful}
 use Rattle.rb_target.specs.Meaning.{Outcome as Run, run_of}
 use Rattle.rb_rel.specs.Placing.{Fits, Laid, Over, lay, requests_of}
 use Rattle.rb_fragment.specs.Plan.{Plan, Rep, cost_of}
-use Rattle.rb_fragment.specs.Owing.{Does, Ends, Gives}
+use Rattle.rb_fragment.specs.Owing.{Does, Ends, GivesValue}
 use Rattle.rb_fragment.specs.Functions.{AllCompile}
 use Rattle.rb_fragment.proofs.Functions.{runs_do}
 use Rattle.rb_compile.specs.Refining.{DoesAs, EndsAs, Refines}
@@ -22,7 +22,7 @@ use Rattle.rb_compile.specs.inner.Functions.{FirstCompile, ProgramIsReady}
 use Rattle.rb_compile.proofs.Whole.{all_compile}
 
 module _ (plan : Plan) (clean : Bool) (t : Ty) (m : Memory) (run : Run) (most : ℕ) where
-  ends_as : (l : Laid) (e : SourceEnd) → Ends most run m l e (Gives plan clean t run) → EndsAs plan clean t m l e run × (run.world.switches ≤ most)
+  ends_as : (l : Laid) (e : SourceEnd) → Ends most run m l e (GivesValue plan clean t run) → EndsAs plan clean t m l e run × (run.world.switches ≤ most)
   ends_as (Over full) e h = (ap (λ (r : Run). r.ended) h.1, subst (λ (r : Run). r.world.switches ≤ most) (sym h.1) h.2)
   ends_as (Fits bs p) Stopped h = (ap (λ (r : Run). r.ended) h.1, subst (λ (r : Run). r.world.switches ≤ most) (sym h.1) h.2)
   ends_as (Fits bs p) (Done v left) h =
@@ -37,7 +37,7 @@ module _ (plan : Plan) (clean : Bool) (t : Ty) (m : Memory) (run : Run) (most : 
         subst (λ (r : Run). r.world.switches ≤ most) (sym is) h.3,
       )
 
-does_as : (plan : Plan) (clean : Bool) (t : Ty) (m : Memory) (o : Meant) (run : Run) → Does plan 0 run m o (Gives plan clean t run) → DoesAs plan clean t m o run × (run.world.switches ≤ cost_of plan o.log)
+does_as : (plan : Plan) (clean : Bool) (t : Ty) (m : Memory) (o : Meant) (run : Run) → Does plan 0 run m o (GivesValue plan clean t run) → DoesAs plan clean t m o run × (run.world.switches ≤ cost_of plan o.log)
 does_as plan clean t m o run d =
     let r = ends_as plan clean t m run (0 + cost_of plan o.log) (lay m.limit m.next (requests_of plan.layouts o.log)) o.end d in
     let few = r.1 in

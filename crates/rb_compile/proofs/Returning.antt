@@ -26,7 +26,7 @@ use Rattle.rb_fragment.specs.Adding.{Adds, IsFitting, IsWrittenFrom}
 use Rattle.rb_fragment.specs.Arms.{closed}
 use Rattle.rb_fragment.specs.Fragments.{Comes, Emits, Fragment}
 use Rattle.rb_fragment.specs.Holding.{Holds}
-use Rattle.rb_fragment.specs.Owing.{Does, Gives}
+use Rattle.rb_fragment.specs.Owing.{Does, GivesValue}
 use Rattle.rb_fragment.specs.Pieces.{AtEnd, Piece}
 use Rattle.rb_fragment.specs.Plan.{Plan, Rep, words_of}
 use Rattle.rb_fragment.specs.Slots.{AllBelow}
@@ -198,7 +198,7 @@ same_tail plan ev ev' ls a b t eq e = record {
   tail = e.tail;
   does = λ calls clean env. record {
     runs = λ final callee next law rel agrees s w long good pre.
-        subst (λ o. Does plan (w.switches + 0) (next (length a.code) s w) w.memory o (Gives plan clean t (next (length a.code) s w))) (sym (eq calls w.left env))
+        subst (λ o. Does plan (w.switches + 0) (next (length a.code) s w) w.memory o (GivesValue plan clean t (next (length a.code) s w))) (sym (eq calls w.left env))
         ((e.does calls clean env).runs final callee next law rel agrees s w long good pre);
   };
 }
@@ -221,7 +221,7 @@ module _ (plan : Plan) (ev : Calls → ℕ → List Binding → Outcome) (ls : L
           let l1 = e.adds.grows.longer in
           let agrees1 = Agrees-part final last.code b.code (length a.code) (length last.code) (length a.code) (length b.code) Nowhere Nowhere (Grows-append b.code (Return xs ∷ [])) (omega arith) (omega (arith, long_is)) (omega arith) (λ pc lo hi x. x) agrees in
           let there : slice_get final (length b.code) ≡ Some (Return xs) = agrees.same (length b.code) l1 (omega (arith, long_is)) (λ x. x) ∙ get-seam b.code (Return xs) [] in
-          let Ok = Gives plan clean t out in
+          let Ok = GivesValue plan clean t out in
           does_map plan (w.switches + 0) w.switches out out Ok Ok w.memory o (omega arith) refl (λ v w' x. x)
           (does_later plan w.switches out Ok (Comes plan clean out next (length b.code) a.slots t xs s) w.memory o
           (λ v w' r. (taken w', refl, refl, (let le : w'.switches ≤ w'.switches = omega arith in le), (slots_at r.0 xs, r.1 ∙ law.step (length b.code) (Return xs) r.0 w' there, r.3)))
@@ -242,7 +242,7 @@ module _ (plan : Plan) (clean : Bool) (calls : Calls) (a b c : Sheet) (t u : Ty)
         let agrees1 = Agrees-part final c.code b.code (length a.code) (length c.code) (length a.code) (length b.code) Nowhere Nowhere gb.grows (omega arith) (omega (arith, l2)) (omega arith) (λ pc lo hi x. x) agrees in
         let agrees2 = Agrees-part final c.code c.code (length a.code) (length c.code) (length b.code) (length c.code) Nowhere Nowhere (Grows-refl c.code) (omega (arith, l1)) (omega arith) (omega arith) (λ pc lo hi x. x) agrees in
         let d1 = first.runs final callee next law rel agrees1 s w long1 good pre in
-        let Ok = Gives plan clean u out in
+        let Ok = GivesValue plan clean u out in
         does_map plan (w.switches + 0) w.switches out out Ok Ok w.memory (then_do (o w.left) go) (omega arith) refl (λ v w' x. x)
         (bind plan out Ok (Comes plan clean out next (length b.code) a.slots t xs s) w.switches w.memory (o w.left) go d1
         (λ v w1 bs p g mid.
@@ -250,7 +250,7 @@ module _ (plan : Plan) (clean : Bool) (calls : Calls) (a b c : Sheet) (t u : Ty)
         let long2 : c.slots ≤ length s1 = omega (arith, mid.2.long, long) in
         let ext = Grown-extends w.memory w1.memory bs p good g in
         let out1 = next (length b.code) s1 w1 in
-        does_map plan w1.switches (w1.switches + 0) out out1 Ok (Gives plan clean u out1) w1.memory (go v w1.left) (omega arith) mid.1
+        does_map plan w1.switches (w1.switches + 0) out out1 Ok (GivesValue plan clean u out1) w1.memory (go v w1.left) (omega arith) mid.1
         (λ x w' r. (r.0, mid.1 ∙ r.1, r.2))
         ((second v).runs final callee next law rel agrees2 s1 w1 long2 g.good (between v s s1 w.memory w1.memory ext mid.2 mid.3 pre))));
   }
@@ -271,11 +271,11 @@ module _ (plan : Plan) (clean : Bool) (calls : Calls) (n : ℕ) (t : Ty) (a b c 
         let good1 : IsGood r.2.memory = subst (λ m. IsGood m) (sym r.5.memory) good in
         let holds : Holds plan clean r.1 r.2.memory inner env = subst (λ m. Holds plan clean r.1 m inner env) (sym r.5.memory) r.6.1 in
         let out1 = next (length b.code) r.1 r.2 in
-        let Mid = Gives plan clean t out1 in
+        let Mid = GivesValue plan clean t out1 in
         let same : out ≡ out1 = subst (λ pc. out ≡ next pc r.1 r.2) r.6.0 r.3 in
         let few = r.5.switches in
         let d1 = (body.does calls clean env).runs final callee next law rel agrees2 r.1 r.2 long2 good1 holds in
         let d2 = subst (λ l. Does plan (r.2.switches + 0) out1 r.2.memory (eb calls l env) Mid) r.5.left d1 in
         let d3 = subst (λ m. Does plan (r.2.switches + 0) out1 m (eb calls w.left env) Mid) r.5.memory d2 in
-        does_map plan (w.switches + extra) (r.2.switches + 0) out out1 (Gives plan clean t out) Mid w.memory (eb calls w.left env) (omega (arith, few)) same (λ v w' q. (q.0, same ∙ q.1, q.2)) d3;
+        does_map plan (w.switches + extra) (r.2.switches + 0) out out1 (GivesValue plan clean t out) Mid w.memory (eb calls w.left env) (omega (arith, few)) same (λ v w' q. (q.0, same ∙ q.1, q.2)) d3;
   }

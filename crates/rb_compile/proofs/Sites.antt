@@ -14,7 +14,7 @@ use Rattle.rb_core.specs.declared.expression.Clause.{Clause}
 use Rattle.rb_core.specs.declared.expression.Expr.{Expr}
 use Rattle.rb_core.specs.declared.expression.Expr as X
 use Rattle.rb_core.specs.Clauses.{pat_of}
-use Rattle.rb_core.specs.Coverage.{AreExhaustive, Branch, branch_sites, part_sites, sites}
+use Rattle.rb_core.specs.Coverage.{AreExhaustive, SitedBranch, branch_sites, part_sites, sites}
 use Rattle.rb_core.specs.Inference.{binders, inferred_type, with_binder}
 use Rattle.rb_core.specs.Matching.{IsExhaustive}
 use Rattle.rb_core.proofs.CoverageForms.{part, branch, sites-Clause, sites-Call, sites-Build, sites-Binary, sites-To, sites-Let, sites-Match}
@@ -57,7 +57,7 @@ module _ (types : List DataDecl) (funs : List Fun) where
   branch_among (d ∷ cs) t scope (suc k) c at s i =
       among-right (branch_sites types t scope (branch types funs d)) (flat_map (branch_sites types t scope) (map (branch types funs) cs)) s (branch_among cs t scope k c at s i)
 
-  pub patterns_are : (cs : List Clause) → map (λ (b : Branch). b.0.pat) (map (branch types funs) cs) ≡ map pat_of cs
+  pub patterns_are : (cs : List Clause) → map (λ (b : SitedBranch). b.0.pat) (map (branch types funs) cs) ≡ map pat_of cs
   patterns_are [] = refl
   patterns_are (c ∷ cs) = ap (λ (l : List Pat). c.pat ∷ l) (patterns_are cs)
 
@@ -98,7 +98,7 @@ module _ (plan : Plan) (f : ℕ) where
   ready-Match at e cs scope t is h =
       let u = inferred_type types funs e None scope in
       let here = subst (SitesAreReady plan f) (sites-Match types funs at e cs scope) h in
-      let first : Site = record { at = at; scrutinee = u; patterns = map (λ (b : Branch). b.0.pat) (map (branch types funs) cs) } in
+      let first : Site = record { at = at; scrutinee = u; patterns = map (λ (b : SitedBranch). b.0.pat) (map (branch types funs) cs) } in
       let rest = flat_map (branch_sites types u scope) (map (branch types funs) cs) in
       subst (λ k. SiteIsReady plan f (record { at = at; scrutinee = k; patterns = map pat_of cs }) × Ready e scope × ((j : ℕ) (c : Clause) → slice_get cs j ≡ Some c → Ready c.body (scope ++ binders types c.pat k))) is (
         subst (λ (l : List Pat). SiteIsReady plan f (record { at = at; scrutinee = u; patterns = l })) (patterns_are types funs cs) (here first (inl refl)),

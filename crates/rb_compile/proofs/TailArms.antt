@@ -17,7 +17,7 @@ use Rattle.rb_layout.specs.declared.layout.Layout.{Layout}
 use Rattle.rb_fragment.specs.declared.held.Held.{Held}
 use Rattle.rb_fragment.specs.declared.held.Local.{Local}
 use Rattle.rb_fragment.specs.Plan.{Plan}
-use Rattle.rb_fragment.specs.Owing.{Does, Gives}
+use Rattle.rb_fragment.specs.Owing.{Does, GivesValue}
 use Rattle.rb_fragment.specs.Slots.{AllFrom}
 use Rattle.rb_fetch.specs.Finding.{IsPlanOf}
 use Rattle.rb_match.specs.Choosing.{Binds, BindsPattern}
@@ -45,7 +45,7 @@ module _ (plan : Plan) (f : ℕ) (c : Clause) (t : Ty) (ls : List Local) (held :
         record {
           runs = λ final callee next law rel agrees sl w long good pre.
               let out = next (length a.code) sl w in
-              subst (λ o. Does plan (w.switches + extra) out w.memory o (Gives plan clean t out)) (means plan f c (Some t) ls held a b bound s n q1 served ground B calls env v w.left)
+              subst (λ o. Does plan (w.switches + extra) out w.memory o (GivesValue plan clean t out)) (means plan f c (Some t) ls held a b bound s n q1 served ground B calls env v w.left)
               (k.runs final callee next law rel agrees sl w long good (good, pre));
         };
   }

@@ -35,8 +35,8 @@ use Rattle.rb_fragment.specs.declared.held.Held.{Held}
 use Rattle.rb_fragment.specs.declared.held.Local.{Local}
 use Rattle.rb_fragment.specs.Arms.{AreHoles, AreOfOneWay, ArePatchable, closed}
 use Rattle.rb_fragment.specs.Holding.{AreGiven, Holds, scope_of}
-use Rattle.rb_fragment.specs.Owing.{Does, Gives, Related}
-use Rattle.rb_fragment.specs.Pieces.{Branches, Reached}
+use Rattle.rb_fragment.specs.Owing.{Does, GivesValue, Related}
+use Rattle.rb_fragment.specs.Pieces.{Branches, ReachesExit}
 use Rattle.rb_fragment.specs.Plan.{Plan, Rep}
 use Rattle.rb_fragment.specs.Slots.{AllBelow, AllFrom}
 use Rattle.rb_fragment.proofs.Closing.{closed_is}
@@ -44,7 +44,7 @@ use Rattle.rb_fragment.proofs.Holds.{AreGiven-more, Holds-kept, slots_at-kept}
 use Rattle.rb_fragment.proofs.Laying.{does_map}
 use Rattle.rb_fragment.proofs.Patching.{AreClosable, all_holes_grow, all_holes_of, at_closed, closed_length, closed_slots, from_at, hole_from, hole_within, holes_patchable, retarget_all, retarget_none}
 use Rattle.rb_fragment.proofs.Pieces.{branches_frame, branches_weaken, does_event, reached_does}
-use Rattle.rb_fetch.specs.Fetching.{IsSound}
+use Rattle.rb_fetch.specs.Fetching.{PlanIsSound}
 use Rattle.rb_fetch.specs.Finding.{IsPlanOf}
 use Rattle.rb_match.specs.Bounding.{binding_bound, choosing_bound}
 use Rattle.rb_match.proofs.Sharing.{bound_shared}
@@ -117,7 +117,7 @@ module _ (plan : Plan) (n most count : ℕ) (b e q : Sheet) (t : Ty) (holes : Li
 
     -- the way that is taken leads to its arm's start
     chooses : (s : List ℕ) (w : World) (k : ℕ) → whole.slots ≤ length s → IsGood w.memory → Pre k s w.memory
-        → Reached next (length b.code) n most (λ pc s' m. (pc ≡ slice_index starts k) × Mid k s' m) s w
+        → ReachesExit next (length b.code) n most (λ pc s' m. (pc ≡ slice_index starts k) × Mid k s' m) s w
     chooses s w k room good pre =
         let all = closed_is final holes starts e (length b.code) (length e.code) of_choice (all_holes_of (length b.code) count e.code holes holes_are) ways in
         let r = choice.leaves final callee next law all.finishes s w k (omega (arith, room, slots_are, adds.more)) good pre in
@@ -137,7 +137,7 @@ module _ (plan : Plan) (n most count : ℕ) (b e q : Sheet) (t : Ty) (holes : Li
   module _ (clean : Bool) (calls : Calls) (o : ℕ → ℕ → Outcome) (extra : ℕ → ℕ) (stand : TailArmsIn count e q starts (λ k a d. Tail plan clean calls (extra k) a d (Mid k) (o k) t)) where
     does : (final : List Instr) (callee : Callee) (next : Next) → Law final callee next → Related plan calls callee → AgreesBut final whole.code (length b.code) (length whole.code) Nowhere
         → (s : List ℕ) (w : World) (k : ℕ) → k < count → whole.slots ≤ length s → IsGood w.memory → Pre k s w.memory
-        → Does plan (w.switches + (most + extra k)) (next (length b.code) s w) w.memory (o k w.left) (Gives plan clean t (next (length b.code) s w))
+        → Does plan (w.switches + (most + extra k)) (next (length b.code) s w) w.memory (o k w.left) (GivesValue plan clean t (next (length b.code) s w))
     does final callee next law rel agrees s w k lt room good pre =
         let x = stand k lt in
         let r = chooses final callee next law agrees s w k room good pre in
@@ -147,13 +147,13 @@ module _ (plan : Plan) (n most count : ℕ) (b e q : Sheet) (t : Ty) (holes : Li
         let good1 : IsGood r.2.memory = subst (λ m. IsGood m) (sym r.5.memory) good in
         let mid1 : Mid k r.1 r.2.memory = subst (λ m. Mid k r.1 m) (sym r.5.memory) r.6.1 in
         let ok = o k r.2.left in
-        let Ok1 = Gives plan clean t out1 in
+        let Ok1 = GivesValue plan clean t out1 in
         let d1 : Does plan (r.2.switches + extra k) out1 r.2.memory ok Ok1 =
         x.does.runs final callee next law rel (of_arm final callee next law agrees (slice_index starts k) (λ a d. Tail plan clean calls (extra k) a d (Mid k) (o k) t) x) r.1 r.2 long_d good1 mid1 in
         let d2 : Does plan (r.2.switches + extra k) (next r.0 r.1 r.2) r.2.memory ok Ok1 = subst (λ pc. Does plan (r.2.switches + extra k) (next pc r.1 r.2) r.2.memory ok Ok1) (sym to) d1 in
         let out = next (length b.code) s w in
         let same : out ≡ out1 = subst (λ pc. out ≡ next pc r.1 r.2) to r.3 in
-        let Ok = Gives plan clean t out in
+        let Ok = GivesValue plan clean t out in
         let d3 = reached_does plan next (length b.code) n most (extra k) (λ pc s' m. (pc ≡ slice_index starts k) × Mid k s' m) s w ok Ok Ok1 r (λ u w' y. (y.0, same ∙ y.1, y.2)) d2 in
         subst (λ l. Does plan (w.switches + (most + extra k)) out w.memory (o k l) Ok) r.5.left d3
 
@@ -165,7 +165,7 @@ module _ (plan : Plan) (n most count : ℕ) (b e q : Sheet) (t : Ty) (holes : Li
       runs = λ final callee next law rel agrees s w long good from.
           let c = choose s w.memory good from in
           let out = next (length b.code) s w in
-          let Ok = Gives plan clean t out in
+          let Ok = GivesValue plan clean t out in
           let base = w.switches + 0 in
           let d = does final callee next law rel agrees s w c.0 c.1 long good c.2 in
           let paid = few c.0 c.1 in
@@ -197,7 +197,7 @@ wanted_same (suc k) t = refl
 -- All, where the scrutinee stands in its slots
 
 module _ (plan : Plan) (f at : ℕ) (cs : List Clause) (ls : List Local) (b c q : Sheet) (holes : List Hole) (starts : List ℕ) (s t : Ty) (xs : List ℕ)
-    (sound : IsSound plan) (site : SiteIsReady plan f (record { at = at; scrutinee = s; patterns = map pat_of cs })) (given : AreGiven plan b.slots ls) (low : AllBelow b.slots xs)
+    (sound : PlanIsSound plan) (site : SiteIsReady plan f (record { at = at; scrutinee = s; patterns = map pat_of cs })) (given : AreGiven plan b.slots ls) (low : AllBelow b.slots xs)
     (choice : Branches plan b.slots b c holes (choosing_bound plan.program.types plan.layouts s (map pat_of cs)) (λ k sl m. IsChosen plan s (map pat_of cs) k (slots_at sl xs) m) (λ k sl m. Unit {0}))
     (holes_are : AreHoles (length b.code) (length cs) c.code holes) (ways : AreOfOneWay holes) (are : TailArmsAre (length cs) c q starts)
     (done : TailArmsDone plan f (length cs) cs ls s t xs c q starts) (some : 0 < length cs) where
@@ -269,7 +269,7 @@ module _ (plan : Plan) (f at : ℕ) (cs : List Clause) (ls : List Local) (b c q 
               let same : y.0 ≡ x.0 = same_Some y.0 x.0 (sym y.1 ∙ x.1) in
               let matches = subst (λ (z : Clause). matches_of z.pat v ≡ true) same y.2 in
               let out = next (length a.code) sl w in
-              subst (λ o. Does plan (w.switches + binding_in o) out w.memory (outcome_of o w.left) (Gives plan clean t out)) (sym x.1)
+              subst (λ o. Does plan (w.switches + binding_in o) out w.memory (outcome_of o w.left) (GivesValue plan clean t out)) (sym x.1)
               ((one.does calls clean env v matches).runs final callee next law rel agrees sl w long good (pre.1, pre.2));
         }) done.arms
 

@@ -46,7 +46,7 @@
 //!
 //! What is promised of an expression's code stands behind all that is known of the expression: that it has a
 //! type, that its numbers name something, that its matches are exhaustive and paid for, that its variables
-//! have slots (`IsReady`). So the functions that call one another here ask for nothing, and a program whose
+//! have slots (`ExprIsReady`). So the functions that call one another here ask for nothing, and a program whose
 //! layouts agree meets each premise.
 #![tactic(auto)]
 

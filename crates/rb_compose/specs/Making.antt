@@ -30,8 +30,8 @@ opens_of_leaf plan leaf = open_positions plan.program.types leaf.prov
 -- From a start the run makes a value of a data type. Where the value's blocks fit, the memory has exactly these
 -- more, and the run comes to instruction b with the value in slots, the first n of which are kept; else the first
 -- block that does not fit is asked for in vain. A value without blocks leaves the memory as it was.
-abbrev pub Makes : Plan → Bool → ℕ → Next → ℕ → ℕ → ℕ → ℕ → List ℕ → Value → List ℕ → World → Type 0
-Makes plan clean most next start b n t slots v s w =
+abbrev pub MakesValue : Plan → Bool → ℕ → Next → ℕ → ℕ → ℕ → ℕ → List ℕ → Value → List ℕ → World → Type 0
+MakesValue plan clean most next start b n t slots v s w =
     Ends most (next start s w) w.memory (lay w.memory.limit w.memory.next (blocks_of plan.layouts t v)) (Done v w.left)
     (λ u w'. Comes plan clean (next start s w) next b n (Named t) slots s u w'
     × (blocks_of plan.layouts t v ≡ [] → w'.memory ≡ w.memory))
@@ -50,7 +50,7 @@ pub record LeafIsMade (plan : Plan) (t n : ℕ) (layout : Layout) (leaf : Leaf) 
       → AgreesBut final new.code (length old.code) (length new.code) Nowhere
       → (s : List ℕ) (w : World) → new.slots ≤ length s → IsGood w.memory
       → ArePartsHeld plan clean s w.memory (opens_of_leaf plan leaf) xs v
-      → Makes plan clean w.switches next (length old.code) (length new.code) old.slots t slots v s w
+      → MakesValue plan clean w.switches next (length old.code) (length new.code) old.slots t slots v s w
 
 -- in every program whose layouts agree and have the leaf, the appended code makes the values of the leaf of the
 -- subvalues that are given at its open positions

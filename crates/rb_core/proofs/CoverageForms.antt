@@ -11,14 +11,14 @@ use Rattle.rb_core.specs.declared.expression.Expr as X
 use Rattle.rb_core.specs.declared.expression.Expr.{Expr}
 use Rattle.rb_core.specs.declared.expression.Expr.TheOpen as E
 use Rattle.rb_core.specs.declared.expression.Expr.TheFolds.{para-roll-Expr, para-roll-Clause}
-use Rattle.rb_core.specs.Coverage.{Sites, Part, Branch, sites, clause_sites, sites_step, body_sites}
+use Rattle.rb_core.specs.Coverage.{Sites, SitedPart, SitedBranch, sites, clause_sites, sites_step, body_sites}
 
 module _ (types : List DataDecl) (funs : List Fun) where
   -- a part and a clause with their matches
-  abbrev pub part : Expr → Part
+  abbrev pub part : Expr → SitedPart
   part e = (e, sites types funs e)
 
-  abbrev pub branch : Clause → Branch
+  abbrev pub branch : Clause → SitedBranch
   branch c = (c, clause_sites types funs c)
 
   pub sites-Clause : (c : Clause) (scope : List Binder) → clause_sites types funs c scope ≡ sites types funs c.body scope

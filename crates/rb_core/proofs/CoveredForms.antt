@@ -15,7 +15,7 @@ use Rattle.rb_core.specs.declared.expression.Expr.{Expr}
 use Rattle.rb_core.specs.declared.expression.Expr as X
 use Rattle.rb_core.specs.Inference.{with_binder, inferred_type, binders}
 use Rattle.rb_core.specs.Matching.{IsExhaustive}
-use Rattle.rb_core.specs.Coverage.{AreExhaustive, Branch, part_sites, branch_sites, sites, function_sites}
+use Rattle.rb_core.specs.Coverage.{AreExhaustive, SitedBranch, part_sites, branch_sites, sites, function_sites}
 use Rattle.rb_core.proofs.CoverageForms.{part, branch, sites-Clause, sites-Call, sites-Build, sites-Binary, sites-To, sites-Let, sites-Match}
 use Rattle.rb_core.specs.Clauses.{pat_of}
 
@@ -68,7 +68,7 @@ module _ (types : List DataDecl) (funs : List Fun) where
       let r = covered_both types (branch_sites types s scope (branch types funs d)) (flat_map (branch_sites types s scope) (map (branch types funs) cs)) h in
       branches_covered cs s scope r.1 k c at
 
-  pats_are : (cs : List Clause) → map (λ (b : Branch). b.0.pat) (map (branch types funs) cs) ≡ map pat_of cs
+  pats_are : (cs : List Clause) → map (λ (b : SitedBranch). b.0.pat) (map (branch types funs) cs) ≡ map pat_of cs
   pats_are [] = refl
   pats_are (c ∷ cs) = ap (λ (l : List Pat). c.pat ∷ l) (pats_are cs)
 

@@ -18,7 +18,7 @@ use Rattle.rb_core.specs.declared.expression.Expr.{Expr}
 use Rattle.rb_core.specs.Matching.{matches_of, bindings}
 use Rattle.rb_core.specs.Inference.{binders}
 use Rattle.rb_core.specs.Meaning.{Meaning, Calls, PartsOutcome, at_part, parts_after, first_wanted, later_wanted, all_of, first_of, meaning_of, clause_meaning}
-use Rattle.rb_core.specs.Outcomes.{Gives, GivesParts}
+use Rattle.rb_core.specs.Outcomes.{GivesOutcome, GivesParts}
 use Rattle.rb_core.proofs.MeaningForms.{clause_meaning-is}
 
 from_here : {A : Type 0} (xs : List A) (i : ℕ) (x : A) → i < length xs → x ≡ get_or xs i x → drop i xs ≡ x ∷ drop (i + 1) xs
@@ -68,11 +68,11 @@ after_both a b o = ap (λ l. record { log = l; end = o.end }) (sym (append_assoc
 
 module _ (all rest : PartsOutcome) (o : Outcome) (go : Value → ℕ → PartsOutcome) (old mid new : List Event)
     (so_far : parts_after old all ≡ parts_after mid rest) (next : rest ≡ parts_after o.log (at_part o.end go)) where
-  pub parts-next : (v : Value) (left : ℕ) → Gives o mid new (Done v left) → parts_after old all ≡ parts_after new (go v left)
+  pub parts-next : (v : Value) (left : ℕ) → GivesOutcome o mid new (Done v left) → parts_after old all ≡ parts_after new (go v left)
   parts-next v left g = so_far ∙ ap (parts_after mid) next ∙ ap (λ e. parts_after mid (parts_after o.log (at_part e go))) (sym g.same_end)
       ∙ after_both mid o.log (go v left) ∙ ap (λ l. parts_after l (go v left)) (sym g.same_log)
 
-  pub parts-cut : Gives o mid new Spent → GivesParts all old new Cut
+  pub parts-cut : GivesOutcome o mid new Spent → GivesParts all old new Cut
   parts-cut g =
       let same : parts_after old all ≡ parts_after new (record { log = []; end = Cut })
       = so_far ∙ ap (parts_after mid) next ∙ ap (λ e. parts_after mid (parts_after o.log (at_part e go))) (sym g.same_end)

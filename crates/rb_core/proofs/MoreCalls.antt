@@ -24,7 +24,7 @@ use Rattle.rb_core.specs.Matching.{matches_of, bindings}
 use Rattle.rb_core.specs.Typing.{binder_of}
 use Rattle.rb_core.specs.Inference.{binders}
 use Rattle.rb_core.specs.Meaning.{Meaning, Calls, after, at_end, then_do, PartsOutcome, at_part, parts_after, first_wanted, later_wanted, all_of, at_parts_end, then_with, first_of, meaning_of, clause_meaning, arguments, body_of, call_within, call_of}
-use Rattle.rb_core.specs.Outcomes.{BeginsWith, GoesOn, Extends}
+use Rattle.rb_core.specs.Outcomes.{BeginsWith, GoesOn, ExtendsOutcome}
 use Rattle.rb_core.proofs.ExpressionLaws.{Each, EachBody, induction}
 use Rattle.rb_core.proofs.MeaningForms.{clause_meaning-is, meaning-Num, meaning-Var, meaning-Call, meaning-Build, meaning-Binary, meaning-To, meaning-Let, meaning-Match}
 use Rattle.rb_core.proofs.CallLaws.{enough}
@@ -51,27 +51,27 @@ module _ (more : ℕ) where
   parts_behind log l (AllDone vs left) o h = (ap (λ x. log ++ x) h.0, h.1)
   parts_behind log l Cut o h = begins-behind log l o.log h
 
-  do_from : (log : List Event) (e : SourceEnd) (o : Outcome) (go go' : Value → ℕ → Outcome) → GoesOn more log e o → ((v : Value) (left : ℕ) → Extends more (go v left) (go' v (left + more)))
-      → Extends more (after log (at_end e go)) (then_do o go')
+  do_from : (log : List Event) (e : SourceEnd) (o : Outcome) (go go' : Value → ℕ → Outcome) → GoesOn more log e o → ((v : Value) (left : ℕ) → ExtendsOutcome more (go v left) (go' v (left + more)))
+      → ExtendsOutcome more (after log (at_end e go)) (then_do o go')
   unfolding then_do
   do_from log (Done v left) o go go' h k =
-      subst (λ (x : Outcome). Extends more (after log (go v left)) x) (ap (λ l. after l (go' v (left + more))) h.0 ∙ ap (λ e. after o.log (at_end e go')) (sym h.1))
+      subst (λ (x : Outcome). ExtendsOutcome more (after log (go v left)) x) (ap (λ l. after l (go' v (left + more))) h.0 ∙ ap (λ e. after o.log (at_end e go')) (sym h.1))
       (behind log (go v left).log (go v left).end (go' v (left + more)) (k v left))
   do_from log Spent o go go' h k = begins-append log o.log (at_end o.end go').log h
 
-  extends_do : (o o' : Outcome) (go go' : Value → ℕ → Outcome) → Extends more o o' → ((v : Value) (left : ℕ) → Extends more (go v left) (go' v (left + more))) → Extends more (then_do o go) (then_do o' go')
+  extends_do : (o o' : Outcome) (go go' : Value → ℕ → Outcome) → ExtendsOutcome more o o' → ((v : Value) (left : ℕ) → ExtendsOutcome more (go v left) (go' v (left + more))) → ExtendsOutcome more (then_do o go) (then_do o' go')
   unfolding then_do
   extends_do o o' go go' h k = do_from o.log o.end o' go go' h k
 
-  with_from : (log : List Event) (e : PartsEnd) (o : PartsOutcome) (go go' : List Value → ℕ → Outcome) → GoesOnParts log e o → ((vs : List Value) (left : ℕ) → Extends more (go vs left) (go' vs (left + more)))
-      → Extends more (after log (at_parts_end e go)) (then_with o go')
+  with_from : (log : List Event) (e : PartsEnd) (o : PartsOutcome) (go go' : List Value → ℕ → Outcome) → GoesOnParts log e o → ((vs : List Value) (left : ℕ) → ExtendsOutcome more (go vs left) (go' vs (left + more)))
+      → ExtendsOutcome more (after log (at_parts_end e go)) (then_with o go')
   unfolding then_with
   with_from log (AllDone vs left) o go go' h k =
-      subst (λ (x : Outcome). Extends more (after log (go vs left)) x) (ap (λ l. after l (go' vs (left + more))) h.0 ∙ ap (λ e. after o.log (at_parts_end e go')) (sym h.1))
+      subst (λ (x : Outcome). ExtendsOutcome more (after log (go vs left)) x) (ap (λ l. after l (go' vs (left + more))) h.0 ∙ ap (λ e. after o.log (at_parts_end e go')) (sym h.1))
       (behind log (go vs left).log (go vs left).end (go' vs (left + more)) (k vs left))
   with_from log Cut o go go' h k = begins-append log o.log (at_parts_end o.end go').log h
 
-  extends_with : (o o' : PartsOutcome) (go go' : List Value → ℕ → Outcome) → ExtendsParts o o' → ((vs : List Value) (left : ℕ) → Extends more (go vs left) (go' vs (left + more))) → Extends more (then_with o go) (then_with o' go')
+  extends_with : (o o' : PartsOutcome) (go go' : List Value → ℕ → Outcome) → ExtendsParts o o' → ((vs : List Value) (left : ℕ) → ExtendsOutcome more (go vs left) (go' vs (left + more))) → ExtendsOutcome more (then_with o go) (then_with o' go')
   unfolding then_with
   extends_with o o' go go' h k = with_from o.log o.end o' go go' h k
 
@@ -82,17 +82,17 @@ module _ (more : ℕ) where
       (parts_behind log (go v left).log (go v left).end (go' v (left + more)) (k v left))
   part_from log Spent o go go' h k = begins-append log o.log (at_part o.end go').log h
 
-  module _ (p : Program) (calls : Calls) (longer : (g n : ℕ) (vs : List Value) → Extends more (calls g n vs) (calls g (n + more) vs)) (f : ℕ) where
+  module _ (p : Program) (calls : Calls) (longer : (g n : ℕ) (vs : List Value) → ExtendsOutcome more (calls g n vs) (calls g (n + more) vs)) (f : ℕ) where
     abbrev ev : Expr → Meaning
     ev = meaning_of p calls f
 
     abbrev Longer : Expr → Type 0
-    Longer e = (wanted : Option Ty) (scope : List Binder) (left : ℕ) (env : List Binding) → Extends more (ev e wanted scope left env) (ev e wanted scope (left + more) env)
+    Longer e = (wanted : Option Ty) (scope : List Binder) (left : ℕ) (env : List Binding) → ExtendsOutcome more (ev e wanted scope left env) (ev e wanted scope (left + more) env)
 
-    same : (o o' a a' : Outcome) → o ≡ a → o' ≡ a' → Extends more a a' → Extends more o o'
-    same o o' a a' e e' h = subst (λ x. Extends more x o') (sym e) (subst (λ x. Extends more a x) (sym e') h)
+    same : (o o' a a' : Outcome) → o ≡ a → o' ≡ a' → ExtendsOutcome more a a' → ExtendsOutcome more o o'
+    same o o' a a' e e' h = subst (λ x. ExtendsOutcome more x o') (sym e) (subst (λ x. ExtendsOutcome more a x) (sym e') h)
 
-    one_of : (b : Bool) (x x' y y' : Outcome) → Extends more x x' → Extends more y y' → Extends more (if b then x else y) (if b then x' else y')
+    one_of : (b : Bool) (x x' y y' : Outcome) → ExtendsOutcome more x x' → ExtendsOutcome more y y' → ExtendsOutcome more (if b then x else y) (if b then x' else y')
     one_of true x x' y y' h h' = h
     one_of false x x' y y' h h' = h'
 
@@ -109,7 +109,7 @@ module _ (more : ℕ) where
         ap (λ (b : Pat × Meaning). if matches_of b.0 v then b.1 wanted (scope ++ binders types b.0 t) left (env ++ bindings b.0 v) else first_of types t (map (clause_meaning p calls f) cs) others others scope v left env) (clause_meaning-is p calls f c)
 
     clauses_longer : (types : List DataDecl) (t : Ty) (cs : List Clause) → EachBody Longer cs → (wanted others : Option Ty) (scope : List Binder) (v : Value) (left : ℕ) (env : List Binding)
-        → Extends more (first_of types t (map (clause_meaning p calls f) cs) wanted others scope v left env) (first_of types t (map (clause_meaning p calls f) cs) wanted others scope v (left + more) env)
+        → ExtendsOutcome more (first_of types t (map (clause_meaning p calls f) cs) wanted others scope v left env) (first_of types t (map (clause_meaning p calls f) cs) wanted others scope v (left + more) env)
     clauses_longer types t [] each wanted others scope v left env = (refl, refl)
     clauses_longer types t (c ∷ cs) each wanted others scope v left env =
         same _ _ _ _ (opened types t c cs wanted others scope v left env) (opened types t c cs wanted others scope v (left + more) env)
@@ -136,15 +136,15 @@ module _ (more : ℕ) where
     })
 
   module _ (p : Program) where
-    body_longer : (calls : Calls) → ((g n : ℕ) (vs : List Value) → Extends more (calls g n vs) (calls g (n + more) vs)) → (o : Option Fun) (g n : ℕ) (vs : List Value) → Extends more (body_of p calls o g n vs) (body_of p calls o g (n + more) vs)
+    body_longer : (calls : Calls) → ((g n : ℕ) (vs : List Value) → ExtendsOutcome more (calls g n vs) (calls g (n + more) vs)) → (o : Option Fun) (g n : ℕ) (vs : List Value) → ExtendsOutcome more (body_of p calls o g n vs) (body_of p calls o g (n + more) vs)
     body_longer calls longer None g n vs = (refl, refl)
     body_longer calls longer (Some f) g n vs = goes_on p calls longer g f.body (Some f.result) (map binder_of f.params) n (arguments f.params vs)
 
-    within_longer : (k g n : ℕ) (vs : List Value) → Extends more (call_within p k g n vs) (call_within p k g (n + more) vs)
+    within_longer : (k g n : ℕ) (vs : List Value) → ExtendsOutcome more (call_within p k g n vs) (call_within p k g (n + more) vs)
     within_longer k g zero vs = record { rest = (call_within p k g (zero + more) vs).log; same = refl }
     within_longer zero g (suc n) vs = let e : suc n + more ≡ suc (n + more) = omega arith in rw e (record { rest = []; same = refl })
     within_longer (suc k) g (suc n) vs = let e : suc n + more ≡ suc (n + more) = omega arith in rw e (body_longer (call_within p k) (within_longer k) (slice_get p.funs g) g n vs)
 
-    pub call-longer : (g n : ℕ) (vs : List Value) → Extends more (call_of p g n vs) (call_of p g (n + more) vs)
+    pub call-longer : (g n : ℕ) (vs : List Value) → ExtendsOutcome more (call_of p g n vs) (call_of p g (n + more) vs)
     call-longer g n vs = let le : n ≤ n + more = omega arith in
-        subst (λ x. Extends more x (call_of p g (n + more) vs)) (enough p (n + more) n g n vs le (le_refl n)) (within_longer (n + more) g n vs)
+        subst (λ x. ExtendsOutcome more x (call_of p g (n + more) vs)) (enough p (n + more) n g n vs le (le_refl n)) (within_longer (n + more) g n vs)

@@ -8,7 +8,7 @@ use Rattle.rb_core.specs.declared.types.Ty.TheVariants.{Int}
 use Rattle.rb_core.specs.declared.expression.Op.{Op}
 use Rattle.rb_core.specs.Typing.{operator_type}
 use Rattle.rb_core.specs.Inference.{width_of}
-use Rattle.rb_core.specs.Meaning.{op_value, number_in, number_of}
+use Rattle.rb_core.specs.Meaning.{op_value, number_in_value, number_of}
 
 pow-pos : (k : ℕ) → 0 < 2 ^ k
 pow-pos k = let two : 0 < 2 = omega arith in let none : 0 ≤ k = omega arith in let room = pow-le-pow_right two none in omega (arith, room)
@@ -38,4 +38,4 @@ op_fits Op.Eq bits a b = (1, refl, bit_below (a == b))
 op_fits Op.Lt bits a b = (1, refl, bit_below (nat_lt a b))
 
 pub number_of-Num : (n : ℕ) → number_of (Num n) ≡ n
-number_of-Num n = ap number_in (outs-Num n)
+number_of-Num n = ap number_in_value (outs-Num n)

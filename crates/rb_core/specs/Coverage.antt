@@ -30,29 +30,30 @@ abbrev pub Sites : Type 0
 Sites = List Binder → List Site
 
 -- a part of an expression, with the sites in it
-abbrev pub Part : Type 0
-Part = Expr × Sites
+abbrev pub SitedPart : Type 0
+SitedPart = Expr × Sites
 
 -- a clause of a match, with the sites in its body
-abbrev pub Branch : Type 0
-Branch = Clause × Sites
+abbrev pub SitedBranch : Type 0
+SitedBranch = Clause × Sites
 
 -- the sites in a part that stands in this scope
-abbrev pub part_sites : List Binder → Part → List Site
+abbrev pub part_sites : List Binder → SitedPart → List Site
 part_sites scope part = part.1 scope
 
 -- the sites in a clause's body, where the match stands in this scope and its scrutinee has type t: the body
 -- stands in the scope with what the clause's pattern binds behind it
-abbrev pub branch_sites : List DataDecl → Ty → List Binder → Branch → List Site
+abbrev pub branch_sites : List DataDecl → Ty → List Binder → SitedBranch → List Site
 branch_sites types t scope branch = branch.1 (scope ++ binders types branch.0.pat t)
 
 -- the site of the match with this token number, a scrutinee of type t and these clauses, in their order
-abbrev pub site_of : ℕ → Ty → List Branch → Site
-site_of at t branches = record { at = at; scrutinee = t; patterns = map (λ (branch : Branch). branch.0.pat) branches }
+abbrev pub site_of : ℕ → Ty → List SitedBranch → Site
+site_of at t branches =
+    record { at = at; scrutinee = t; patterns = map (λ (branch : SitedBranch). branch.0.pat) branches }
 
 -- the sites in one layer of an expression, from those in its parts, in the order of the text: a match comes
 -- first, then what is in its scrutinee, then what is in its clauses' bodies
-abbrev pub sites_step : List DataDecl → List Fun → Expr-F Part Branch → Sites
+abbrev pub sites_step : List DataDecl → List Fun → Expr-F SitedPart SitedBranch → Sites
 sites_step types funs (E.Num at n) scope = []
 sites_step types funs (E.Var at x) scope = []
 sites_step types funs (E.Call at g es) scope = flat_map (part_sites scope) es
@@ -65,7 +66,7 @@ sites_step types funs (E.Match at e cs) scope =
     site_of at t cs ∷ (e.1 scope ++ flat_map (branch_sites types t scope) cs)
 
 -- the sites in one layer of a clause: those in its body
-abbrev pub body_sites : Clause-F Part Branch → Sites
+abbrev pub body_sites : Clause-F SitedPart SitedBranch → Sites
 body_sites c = c.body.1
 
 -- the sites in an expression that stands in a scope, in the order of the text

@@ -42,13 +42,13 @@ use Rattle.rb_core.specs.Inference.{Inference, width_of, with_binder, binders, o
 -- Numbers
 
 -- the number that one layer of a value is; 0 for a construction
-abbrev pub number_in : V.Value-F Value → ℕ
-number_in (V.Num n) = n
-number_in (V.Con k vs) = 0
+abbrev pub number_in_value : V.Value-F Value → ℕ
+number_in_value (V.Num n) = n
+number_in_value (V.Con k vs) = 0
 
 -- the number that a value is; 0 for a construction, which typed programs never have where a number is due
 abbrev pub number_of : Value → ℕ
-number_of v = number_in (Values.out-Value v)
+number_of v = number_in_value (Values.out-Value v)
 
 -- what an operator gives at operands a and b of `width` bits: `add`, `sub`, `mul`, `and`, `or` and `xor` give
 -- their result modulo two to the width, a difference below 0 too; `eq` gives 1 where a and b are equal, `lt` 1

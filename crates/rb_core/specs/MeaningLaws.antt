@@ -4,7 +4,7 @@ use Rattle.std.specs.Prelude.{◌≡◌, ℕ, suc, ◌+◌, List, slice_get}
 use Rattle.rb_core.specs.declared.value.Value.{Value}
 use Rattle.rb_core.specs.declared.program.Program.{Program}
 use Rattle.rb_core.specs.Meaning.{body_of, call_of}
-use Rattle.rb_core.specs.Outcomes.{Extends}
+use Rattle.rb_core.specs.Outcomes.{ExtendsOutcome}
 
 -- with n + 1 calls left, a call of a function does what the function's body does with n left, where each call
 -- in the body does what a call of the program does; where the program has no function g, the call is done with
@@ -18,4 +18,5 @@ CallsRunBodies = (p : Program) (g n : ℕ) (vs : List Value)
 -- of the longer log
 abbrev pub MoreCallsGoOn : Type 0
 MoreCallsGoOn =
-    (p : Program) (g n more : ℕ) (vs : List Value) → Extends more (call_of p g n vs) (call_of p g (n + more) vs)
+    (p : Program) (g n more : ℕ) (vs : List Value)
+    → ExtendsOutcome more (call_of p g n vs) (call_of p g (n + more) vs)

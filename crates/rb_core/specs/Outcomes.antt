@@ -21,7 +21,7 @@ IsPartsWithinCalls n (AllDone vs left) = left ≤ n
 IsPartsWithinCalls n Cut = Unit {0}
 
 -- a run with the outcome o has this end, and its events stand behind those of the log `old` in the log `new`
-pub record Gives (o : Outcome) (old new : List Event) (end : SourceEnd) : Type 0 where
+pub record GivesOutcome (o : Outcome) (old new : List Event) (end : SourceEnd) : Type 0 where
   pub same_end : end ≡ o.end
   pub same_log : new ≡ old ++ o.log
 
@@ -45,5 +45,5 @@ GoesOn more log Spent o = BeginsWith log o.log
 
 -- the outcome `long` is what more calls do where `short` ends: `long` has `more` more calls left from the
 -- start
-abbrev pub Extends : ℕ → Outcome → Outcome → Type 0
-Extends more short long = GoesOn more short.log short.end long
+abbrev pub ExtendsOutcome : ℕ → Outcome → Outcome → Type 0
+ExtendsOutcome more short long = GoesOn more short.log short.end long

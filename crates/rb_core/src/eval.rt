@@ -5,7 +5,7 @@
 ghost use Rattle.std.specs.Prelude.{◌≡◌, ◌≤◌, [], ℕ, IfOk, OnOk, map, slice_get};
 ghost use Rattle.rb_core.specs.declared.expression.Expr as X;
 ghost use Rattle.rb_core.specs.Meaning.{call_of, call_within, meaning_of, all_of};
-ghost use Rattle.rb_core.specs.Outcomes.{Gives, GivesParts, IsWithinCalls, IsPartsWithinCalls};
+ghost use Rattle.rb_core.specs.Outcomes.{GivesOutcome, GivesParts, IsWithinCalls, IsPartsWithinCalls};
 ghost use Rattle.rb_core.specs.inner.Evaluation.{EndsAs, EndsAsFirst};
 
 use crate::environment::{Frame, bind_arguments, scope_of, value_of};
@@ -81,7 +81,7 @@ fn eval_call(
     log: &mut Seq<Event>,
 ) -> Result<SourceEnd, AllocError>
     ensures gives { IfOk result (λ end. (k : ℕ) → left ≤ k
-        → Gives (call_within program.now k fun left args.now) log.old log.new end) }
+        → GivesOutcome (call_within program.now k fun left args.now) log.old log.new end) }
     ensures fewer { IfOk result (IsWithinCalls left) }
 {
     if left == 0 {

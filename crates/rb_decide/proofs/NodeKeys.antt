@@ -19,7 +19,7 @@ use Rattle.rb_decide.specs.declared.decision_graph.GraphNode.TheVariants.{Test, 
 use Rattle.rb_decide.specs.declared.decision_graph.GraphArm.{GraphArm}
 use Rattle.rb_decide.specs.declared.sharing.Sharing.{Sharing}
 use Rattle.rb_decide.specs.Graphs.{links}
-use Rattle.rb_decide.specs.inner.Sharing.{head_key, arm_key, other_key, node_key, number_at, IsFine, AddsKey, IsAdded}
+use Rattle.rb_decide.specs.inner.Sharing.{head_key, arm_key, other_key, node_key, number_at, SharingIsFine, AddsKey, IsAdded}
 use Rattle.rb_decide.proofs.Unfolding.{get-left, get-last, grows-none}
 
 -- other nodes have other keys -----------------------------------------------------------------------
@@ -139,7 +139,7 @@ module _ {K X : Type 0} (text : K → List ℕ) (cmp : K → K → Ordering) (sa
 none≢some : {A : Type 0} (x : A) → None ≡ Some x → ⊥
 none≢some x e = cc
 
-pub none-fine : (s : Sharing) → s.nodes ≡ [] → s.numbers.entries ≡ [] → IsFine s
+pub none-fine : (s : Sharing) → s.nodes ≡ [] → s.numbers.entries ≡ [] → SharingIsFine s
 none-fine s e f = record {
   lower = λ i n h. absurd (none≢some n (sym (ap (λ l. slice_get l i) e) ∙ h));
   known = λ i n h. absurd (none≢some n (sym (ap (λ l. slice_get l i) e) ∙ h));
@@ -156,8 +156,8 @@ last-or (z ∷ xs) x y (suc i) e = elim (last-or xs x y i e) [
   | inr h ↦ inr (ap suc h.0, h.1)
 ]
 
-pub pushed-fine : (old new : Sharing) (node : GraphNode) → IsFine old → AllByRecursion (λ j. j < length old.nodes) (links node) → number_at old (node_key node) ≡ None
-    → new.nodes ≡ old.nodes ++ node ∷ [] → AddsKey old new (node_key node) (length old.nodes) → IsFine new
+pub pushed-fine : (old new : Sharing) (node : GraphNode) → SharingIsFine old → AllByRecursion (λ j. j < length old.nodes) (links node) → number_at old (node_key node) ≡ None
+    → new.nodes ≡ old.nodes ++ node ∷ [] → AddsKey old new (node_key node) (length old.nodes) → SharingIsFine new
 pushed-fine old new node f low none nodes adds = record { lower = lower; known = known; sound = sound }
   where
     at : (i : ℕ) (n : GraphNode) → slice_get new.nodes i ≡ Some n → (slice_get old.nodes i ≡ Some n) ⊎ ((i ≡ length old.nodes) × (node ≡ n))
@@ -189,7 +189,7 @@ pushed-fine old new node f low none nodes adds = record { lower = lower; known =
         by false g h = let s = f.sound key i h in
             (s.0, ap (λ l. slice_get l i) nodes ∙ get-left old.nodes (node ∷ []) i s.0 s.1, s.2)
 
-pub pushed-added : (old new : Sharing) (node : GraphNode) (i : ℕ) → IsFine old → AllByRecursion (λ j. j < length old.nodes) (links node) → number_at old (node_key node) ≡ None
+pub pushed-added : (old new : Sharing) (node : GraphNode) (i : ℕ) → SharingIsFine old → AllByRecursion (λ j. j < length old.nodes) (links node) → number_at old (node_key node) ≡ None
     → i ≡ length old.nodes → new.nodes ≡ old.nodes ++ node ∷ [] → AddsKey old new (node_key node) i → IsAdded old new node i
 pushed-added old new node i f low none is nodes adds = record {
   fine = pushed-fine old new node f low none nodes (subst (AddsKey old new (node_key node)) is adds);
@@ -198,7 +198,7 @@ pushed-added old new node i f low none is nodes adds = record {
   alone = λ k le lt. let a = ap length nodes ∙ length-append old.nodes (node ∷ []) in omega (arith, a, is, le, lt);
 }
 
-pub found-added : (s : Sharing) (node : GraphNode) (i : ℕ) → IsFine s → number_at s (node_key node) ≡ Some i → IsAdded s s node i
+pub found-added : (s : Sharing) (node : GraphNode) (i : ℕ) → SharingIsFine s → number_at s (node_key node) ≡ Some i → IsAdded s s node i
 found-added s node i f e = let h = f.sound (node_key node) i e in record {
   fine = f;
   grown = grows-none s;

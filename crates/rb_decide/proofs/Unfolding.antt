@@ -14,7 +14,7 @@ use Rattle.rb_decide.specs.declared.decision_graph.GraphNode.TheVariants.{Test, 
 use Rattle.rb_decide.specs.declared.decision_graph.GraphArm.{GraphArm}
 use Rattle.rb_decide.specs.declared.sharing.Sharing.{Sharing}
 use Rattle.rb_decide.specs.Graphs.{tree_under, arm_under, node_tree, trees_onto, node_trees, arm_link, other_link, links, LinksAreLower, NodesDiffer, IsAmong, IsLinked}
-use Rattle.rb_decide.specs.inner.Sharing.{IsFine, Grows, AddsReached, IsAdded, IsShared, Linked, AreShared, OtherLinked, IsOtherShared}
+use Rattle.rb_decide.specs.inner.Sharing.{SharingIsFine, Grows, AddsReached, IsAdded, IsShared, Linked, AreShared, OtherLinked, IsOtherShared}
 
 -- lists ---------------------------------------------------------------------------------------------
 
@@ -248,7 +248,7 @@ test-shared old s1 s2 new q arms ls other o i a b d =
     }
 
 -- arms
-pub arms-none : (s : Sharing) → IsFine s → AreShared [] s s []
+pub arms-none : (s : Sharing) → SharingIsFine s → AreShared [] s s []
 arms-none s f = record { fine = f; grown = grows-none s; there = tt; reached = none-reached s (λ k. IsAmong k []) }
 
 pub arms-more : (old s1 s2 : Sharing) (arms : List TreeArm) (ls : List GraphArm) (a : TreeArm) (l : GraphArm)
@@ -263,7 +263,7 @@ arms-more old s1 s2 arms ls a l h k e = record {
 }
 
 -- the root's other branch
-pub other-none : (s : Sharing) → IsFine s → IsOtherShared None s s None
+pub other-none : (s : Sharing) → SharingIsFine s → IsOtherShared None s s None
 other-none s f = record { fine = f; grown = grows-none s; there = tt; reached = none-reached s (λ k. IsAmong k []) }
 
 pub other-some : (old new : Sharing) (t : Tree) (i : ℕ) → IsShared t old new i → IsOtherShared (Some t) old new (Some i)
@@ -274,7 +274,7 @@ other-some old new t i h = record { fine = h.fine; grown = h.grown; there = h.th
     one k (inr x) = inr x
 
 -- no two nodes are equal
-pub nodes-differ : (s : Sharing) → IsFine s → NodesDiffer s.nodes
+pub nodes-differ : (s : Sharing) → SharingIsFine s → NodesDiffer s.nodes
 nodes-differ s f i j n a b = some-back (sym (f.known i n a) ∙ f.known j n b)
   where
     some-back : Some i ≡ Some j → i ≡ j

@@ -6,8 +6,8 @@ ghost use Rattle.rb_decide.specs.ClauseMatrices.{special_rows, default_rows, fie
 use crate::clause_matrix::{Column, Row, number_of};
 use rb_core::seq::Seq;
 use rb_core::types::{DataDecl, Ty};
-use rb_matrix::specialization::{default_of_row, head_fields, specialize_row};
 use rb_matrix::matrix::Head;
+use rb_matrix::specialization::{default_of_row, head_fields, specialize_row};
 use std::alloc::{AllocError, Global};
 
 /// The rows of the specialised matrix, for a head with so many fields: those that match values

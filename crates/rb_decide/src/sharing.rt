@@ -3,7 +3,7 @@
 ghost use Rattle.std.specs.Prelude.{◌≡◌, ◌++◌, ◌∷◌, [], IfOk, OnOk, length};
 ghost use Rattle.std.specs.List.{AllByRecursion};
 ghost use Rattle.rb_decide.specs.Graphs.{links};
-ghost use Rattle.rb_decide.specs.inner.Sharing.{number_at, IsFine, IsAdded, AddsKey};
+ghost use Rattle.rb_decide.specs.inner.Sharing.{number_at, SharingIsFine, IsAdded, AddsKey};
 ghost use Rattle.std.specs.Prelude.{◌<◌};
 
 use crate::clause_matrix::number_of;
@@ -23,7 +23,7 @@ pub struct Sharing {
 impl Sharing {
     /// A graph without nodes, and no numbers.
     pub fn new(alloc: Global) -> Sharing
-        ensures fine { IsFine result }
+        ensures fine { SharingIsFine result }
         ensures none { result.nodes ≡ [] }
     {
         Sharing {
@@ -57,7 +57,7 @@ impl Sharing {
     ///
     /// Want of memory.
     pub fn add(&mut self, alloc: Global, node: GraphNode) -> Result<u32, AllocError>
-        requires fine { IsFine self.old }
+        requires fine { SharingIsFine self.old }
         requires links { AllByRecursion (λ j. j < length self.old.nodes) (links node) }
         ensures { IfOk result (λ i. IsAdded self.old self.new node i) }
     {

@@ -2,7 +2,7 @@
 
 ghost use Rattle.std.specs.Prelude.{◌≡◌, IfOk, Some};
 ghost use Rattle.rb_decide.specs.Graphs.{unfolding_of, LinksAreLower, NodesDiffer, NodesAreReached};
-ghost use Rattle.rb_decide.specs.inner.Sharing.{IsFine, IsShared, AreShared, IsOtherShared};
+ghost use Rattle.rb_decide.specs.inner.Sharing.{SharingIsFine, IsShared, AreShared, IsOtherShared};
 
 use crate::decision_graph::{Graph, GraphArm, GraphNode};
 use crate::decision_tree::{Tree, TreeArm};
@@ -14,7 +14,7 @@ use std::alloc::{AllocError, Global};
 // The number of a tree's root, after those of its nodes that are new were added, inner ones first.
 #[cycle(sharing)]
 fn add_tree(alloc: Global, sharing: &mut Sharing, tree: &Tree) -> Result<u32, AllocError>
-    requires { IsFine sharing.old }
+    requires { SharingIsFine sharing.old }
     ensures { IfOk result (λ i. IsShared tree.now sharing.old sharing.new i) }
 {
     match tree {
@@ -39,7 +39,7 @@ fn add_arms(
     sharing: &mut Sharing,
     arms: &[TreeArm],
 ) -> Result<Seq<GraphArm>, AllocError>
-    requires { IsFine sharing.old }
+    requires { SharingIsFine sharing.old }
     ensures { IfOk result (λ l. AreShared arms.now sharing.old sharing.new l) }
 {
     let mut links = Seq::new(alloc);
@@ -60,7 +60,7 @@ fn add_other(
     sharing: &mut Sharing,
     other: &Option<Boxed<Tree>>,
 ) -> Result<Option<u32>, AllocError>
-    requires { IsFine sharing.old }
+    requires { SharingIsFine sharing.old }
     ensures { IfOk result (λ l. IsOtherShared other.now sharing.old sharing.new l) }
 {
     match other {

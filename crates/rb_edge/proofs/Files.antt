@@ -7,7 +7,7 @@ use Rattle.std.specs.Option.{option_map}
 use Rattle.std.specs.Str.{bytes_eq}
 use Rattle.rb_edge.specs.declared.named.NamedBytes.{NamedBytes}
 use Rattle.rb_edge.specs.MemSource.{held_in}
-use Rattle.rb_edge.specs.Source.{Gives}
+use Rattle.rb_edge.specs.Source.{GivesBytes}
 
 -- where the file of an index is of the name, what is held from there on are its bytes
 pub held_in-at : (files : List NamedBytes) (name : List ℕ) (i : ℕ) (f : NamedBytes) → i < length files → f ≡ get_or files i f
@@ -19,7 +19,7 @@ held_in-at (x ∷ xs) name (suc i) f h e t = held_in-at xs name i f (omega arith
 -- a read of the next bytes gives them
 pub gives : (bytes left buf copied : List ℕ) (at count step : ℕ) → at ≤ length bytes → 1 ≤ step → left ≡ drop at bytes
     → count ≡ min (min (length buf) step) (length left) → copied ≡ take count left
-    → Gives count (copied ++ drop count buf) left (drop (at + count) bytes)
+    → GivesBytes count (copied ++ drop count buf) left (drop (at + count) bytes)
 gives bytes left buf copied at count step inside some is_left is_count is_copied =
     let left_len : length left ≡ length bytes - at = ap length is_left ∙ length-drop at bytes in
     let cut : length (take count left) ≡ min count (length left) = length-take count left in

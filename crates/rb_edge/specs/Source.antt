@@ -12,7 +12,7 @@ pub record HoldsTheSame {S : Type 0} (tells : S → Bool) (held : S → List ℕ
 
 -- A read gave n bytes: these, the first of the buffer, are the first of the bytes that were left before, `old`, and
 -- `new` are those that are left after it. Where the buffer has room, n is 0 just where none was left.
-pub record Gives (n : ℕ) (buffer old new : List ℕ) : Type 0 where
+pub record GivesBytes (n : ℕ) (buffer old new : List ℕ) : Type 0 where
   pub bytes : old ≡ take n buffer ++ new
   pub at_end : 0 < length buffer → (n ≡ 0) ↔ (old ≡ [])
 

@@ -3,7 +3,7 @@
 ghost use Rattle.std.specs.Prelude.{◌≡◌, ◌≤◌, ℕ, List, [], ◌∷◌, ◌++◌, take, Bool, Option, Some, None, length, IsTrue, IfOk, OnOk, OnErr, IsErr};
 ghost use Rattle.rb_edge.specs.Faults.{Rose};
 ghost use Rattle.rb_edge.specs.History.{Reading, begun, missed, broken, on_last, after_read};
-ghost use Rattle.rb_edge.specs.Source.{HoldsTheSame, Gives, FailsToOpen};
+ghost use Rattle.rb_edge.specs.Source.{HoldsTheSame, GivesBytes, FailsToOpen};
 
 use thiserror::Error;
 
@@ -72,7 +72,7 @@ pub trait Source {
 
         ensures within { IfOk result (λ n. n ≤ length buf.old) }
         ensures bytes { IfOk result (λ n. IsTrue (tells self.old)
-            → Gives n buf.new (left self.old) (left self.new)) }
+            → GivesBytes n buf.new (left self.old) (left self.new)) }
         ensures err { OnErr result (IsTrue (tells self.old) → left self.new ≡ left self.old) }
         ensures cause { OnErr result (Rose (faults self.old) (faults self.new)) };
 }

@@ -31,7 +31,7 @@ use Rattle.rb_compose.specs.declared.subvalue.Subvalue.{Subvalue}
 use Rattle.rb_fetch.specs.declared.choice.Way.{Way}
 use Rattle.rb_fetch.specs.declared.known.Seen.{Seen}
 use Rattle.rb_fetch.specs.Finding.{FindsLeaf, HasLeaf, leaf_count, leaves_within}
-use Rattle.rb_fetch.specs.inner.Choosing.{AreOpen, AreWaysOf, BranchIn, BranchesDone, BranchesStand, ChoosesBelow, ChoosesBy, ChoosesUnder, HasLeaves, IsPartIn, IsPlaceOf, IsRead, IsReady, IsWayAt, PartsHold, Takes, left_of, look_cost}
+use Rattle.rb_fetch.specs.inner.Choosing.{AreOpen, AreWaysOf, BranchIn, BranchesDone, BranchesStand, ChoosesBelow, ChoosesBy, ChoosesUnder, HasLeaves, IsPartIn, IsPlaceOf, AreInnerWords, ChoiceIsReady, IsWayAt, PartsHold, TakesOneWay, left_of, look_cost}
 use Rattle.rb_fetch.specs.inner.Heads.{is_among, leaf_known, shown_heads}
 use Rattle.rb_fetch.proofs.Branching.{behind_same, way_piece, whole_adds, whole_grows}
 use Rattle.rb_fetch.proofs.Chosen.{leaf_found}
@@ -43,7 +43,7 @@ use Rattle.rb_fetch.proofs.Ways.{given-more, hold-kept, open-low, open-same, way
 -- A part whose leaf is asked for ------------------------------------------------------------------
 
 module _ (agreed : LaidOut) (plan : Plan) (t k : ℕ) (layout : Layout) (leaves : List ℕ) (xs : List Subvalue) (path : List ℕ) (s : ℕ) (words : List ℕ) (n : ℕ) (part : IsPartIn xs path s words)
-    (ready : IsReady agreed plan t k layout leaves xs n) where
+    (ready : ChoiceIsReady agreed plan t k layout leaves xs n) where
   part_below : AllBelow n words
   part_below = subst (AllBelow n) part.5 (ready.given part.0 part.1 part.2).0
 
@@ -91,7 +91,7 @@ module _ (agreed : LaidOut) (flat : agreed.layouts ≡ flat_layouts agreed.cover
   pub look_patchable : ArePatchable q.code holes starts
   look_patchable = holes_patchable (length old.code) e q holes starts done.grows (subst (λ n. AreHoles (length old.code) n e.code holes) (sym done.many) many_holes) done.starts_from
 
-  module _ (part : IsPartIn xs path s words) (plan : Plan) (k : ℕ) (layout : Layout) (ready : IsReady agreed plan t k layout leaves xs old.slots) (place : IsPlaceOf layout leaves seen.looked path s) where
+  module _ (part : IsPartIn xs path s words) (plan : Plan) (k : ℕ) (layout : Layout) (ready : ChoiceIsReady agreed plan t k layout leaves xs old.slots) (place : IsPlaceOf layout leaves seen.looked path s) where
     abbrev inner : Layout
     inner = has.0
 
@@ -110,10 +110,10 @@ module _ (agreed : LaidOut) (flat : agreed.layouts ≡ flat_layouts agreed.cover
     choice : Branches plan old.slots old e holes most (λ n s1 m. HasLeaf plan s n (slots_at s1 words) m) (λ n s1 m. Unit {0})
     choice = finds plan ready.of below long
 
-    ready1 : IsReady agreed plan t k layout leaves xs e.slots
+    ready1 : ChoiceIsReady agreed plan t k layout leaves xs e.slots
     ready1 = record { of = ready.of; is_layout = ready.is_layout; are_leaves = ready.are_leaves; given = given-more plan old.slots e.slots xs choice.adds.more ready.given }
 
-    read1 : IsRead plan s has.0 words e.slots
+    read1 : AreInnerWords plan s has.0 words e.slots
     read1 = record { is_inner = is_inner; below = AllBelow-more old.slots e.slots words choice.adds.more below; count = long }
 
     stand : BranchesStand agreed plan t k layout leaves seen xs path s has.0 words count e q starts ways
@@ -133,8 +133,8 @@ module _ (agreed : LaidOut) (flat : agreed.layouts ≡ flat_layouts agreed.cover
       rep_of = part_rep agreed plan t k layout leaves xs path s words old.slots part ready v u at
 
       module _ (br : BranchIn e q (slice_index starts l) ways (λ first last own. ChoosesBelow plan t k layout leaves seen xs path s has.0 words l first last own))
-          (tk : Takes plan br.first br.last br.own v n (mend_of plan.layouts s + left_of plan.layouts t k (seen.looked ++ path ∷ [])) Under) where
-        taken : Takes plan old whole ways v n (left_of plan.layouts t k seen.looked) (λ clean s1 m. IsGood m × PartsHold plan clean v s1 m xs)
+          (tk : TakesOneWay plan br.first br.last br.own v n (mend_of plan.layouts s + left_of plan.layouts t k (seen.looked ++ path ∷ [])) Under) where
+        taken : TakesOneWay plan old whole ways v n (left_of plan.layouts t k seen.looked) (λ clean s1 m. IsGood m × PartsHold plan clean v s1 m xs)
         taken =
             let am = br.among tk.number tk.way tk.is_way in
             record {
@@ -207,10 +207,10 @@ module _ (agreed : LaidOut) (typed : IsTyped agreed.covered.program) (flat : agr
             taken plan k layout ready part place v p.0 at n (b.takes v p.0 is_of parts follows at of (f.is_leaf ∙ ap Some same) n i en at_n);
       }
     where
-      taken : (plan : Plan) (k : ℕ) (layout : Layout) (ready : IsReady agreed plan t k layout leaves xs old.slots) (part : IsPartIn xs path s words) → IsPlaceOf layout leaves seen.looked path s
+      taken : (plan : Plan) (k : ℕ) (layout : Layout) (ready : ChoiceIsReady agreed plan t k layout leaves xs old.slots) (part : IsPartIn xs path s words) → IsPlaceOf layout leaves seen.looked path s
           → (v u : Value) → part_at v path ≡ Some u → (n : ℕ)
-          → Takes plan old new ways v n (mend_of plan.layouts s + left_of plan.layouts t k (seen.looked ++ path ∷ [])) (λ clean s1 m. IsGood m × PartsHold plan clean v s1 m xs × Rep plan m clean (Named s) u (slots_at s1 words))
-          → Takes plan old new ways v n (left_of plan.layouts t k seen.looked) (λ clean s1 m. IsGood m × PartsHold plan clean v s1 m xs)
+          → TakesOneWay plan old new ways v n (mend_of plan.layouts s + left_of plan.layouts t k (seen.looked ++ path ∷ [])) (λ clean s1 m. IsGood m × PartsHold plan clean v s1 m xs × Rep plan m clean (Named s) u (slots_at s1 words))
+          → TakesOneWay plan old new ways v n (left_of plan.layouts t k seen.looked) (λ clean s1 m. IsGood m × PartsHold plan clean v s1 m xs)
       taken plan k layout ready part place v u at n tk =
           let le = part_costs agreed plan t k layout leaves xs path s words old.slots part ready seen.looked place in
           let most = mend_of plan.layouts s + left_of plan.layouts t k (seen.looked ++ path ∷ []) in

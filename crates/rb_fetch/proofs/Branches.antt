@@ -31,7 +31,7 @@ use Rattle.rb_compose.specs.declared.subvalue.Subvalue.{Subvalue}
 use Rattle.rb_fetch.specs.declared.choice.Way.{Way}
 use Rattle.rb_fetch.specs.declared.heads.Place.{Place}
 use Rattle.rb_fetch.specs.declared.known.Seen.{Seen}
-use Rattle.rb_fetch.specs.inner.Choosing.{AreOpen, BranchIn, BranchesDone, BranchesStand, ChoosesBelow, ChoosesFrom, ChoosesUnder, FetchesFields, Follows, GivesFields, HasAll, HasCon, HasParts, HasRoot, IsRead, IsReady, IsWayAt, IsWayOf, PartsGiven, PartsHold, Takes, left_of, root_con}
+use Rattle.rb_fetch.specs.inner.Choosing.{AreOpen, BranchIn, BranchesDone, BranchesStand, ChoosesBelow, ChoosesFrom, ChoosesUnder, FetchesFields, Follows, GivesFields, HasAll, HasCon, HasParts, HasRootCon, AreInnerWords, ChoiceIsReady, IsWayAt, IsWayOf, PartsGiven, PartsHold, TakesOneWay, left_of, root_con}
 use Rattle.rb_fetch.specs.inner.Fields.{leaf_at, leaf_within}
 use Rattle.rb_fetch.specs.inner.Heads.{bare_paths, head_under, heads_in, is_among, leaves_beside, leaves_that_can_be, shown_head, shown_heads}
 use Rattle.rb_fetch.specs.inner.Seen.{seen_more}
@@ -52,7 +52,7 @@ root_shown leaf k u is m =
     ap (λ x. root_con (out-Value x)) (same_Some u h.0 h.1) ∙ h.2 ∙ ap Some r.is_con
 
 module _ (agreed : LaidOut) (flat : agreed.layouts ≡ flat_layouts agreed.covered.program) (agrees : Agrees agreed.covered.program) (t : ℕ) (leaves : List ℕ) (seen : Seen) (xs : List Subvalue) (path : List ℕ) where
-  module _ (words : List ℕ) (l : ℕ) (con : ConRef) (root : HasRoot agreed.layouts con.ty l con.con) (ps : List Place) (below : shown_heads ps ≡ map (head_under path) (heads_in (leaf_at agreed.layouts con.ty l)))
+  module _ (words : List ℕ) (l : ℕ) (con : ConRef) (root : HasRootCon agreed.layouts con.ty l con.con) (ps : List Place) (below : shown_heads ps ≡ map (head_under path) (heads_in (leaf_at agreed.layouts con.ty l)))
       (a b c : Sheet) (ys : List Subvalue) (ways : List Way) (fetches : FetchesFields agreed path con.ty l words a b xs ys)
       (chooses : ChoosesFrom agreed t (leaves_beside agreed.layouts t (shown_heads ps) (leaves_that_can_be agreed.layouts t path con.con leaves)) (seen_more agreed.covered.program.types seen path ps) ys b c ways)
       (opened : AreOpen (length b.code) c.code ways) where
@@ -72,7 +72,7 @@ module _ (agreed : LaidOut) (flat : agreed.layouts ≡ flat_layouts agreed.cover
     abbrev seen1 : Seen
     seen1 = seen_more agreed.covered.program.types seen path ps
 
-    module _ (plan : Plan) (k : ℕ) (layout inner : Layout) (ready : IsReady agreed plan t k layout leaves xs a.slots) (read : IsRead plan con.ty inner words a.slots) where
+    module _ (plan : Plan) (k : ℕ) (layout inner : Layout) (ready : ChoiceIsReady agreed plan t k layout leaves xs a.slots) (read : AreInnerWords plan con.ty inner words a.slots) where
       leaf : Leaf
       leaf = root.0
 
@@ -90,7 +90,7 @@ module _ (agreed : LaidOut) (flat : agreed.layouts ≡ flat_layouts agreed.cover
           (λ is. mend_less plan.program ag con.ty inner is l root.0 is_inner_leaf) read.is_inner
 
       module _ (f : GivesFields plan path con.ty l inner root.0 words a b xs ys) where
-        ready1 : IsReady agreed plan t k layout kept ys b.slots
+        ready1 : ChoiceIsReady agreed plan t k layout kept ys b.slots
         ready1 = record {
           of = ready.of;
           is_layout = ready.is_layout;
@@ -131,7 +131,7 @@ module _ (agreed : LaidOut) (flat : agreed.layouts ≡ flat_layouts agreed.cover
               let own = ready.are_leaves i n at_n in
               stays-from agreed.layouts t heads leaves i n at_n (own_stays agreed.layouts t layout there heads v has_heads n own.0 en own.1)
 
-          module _ (n : ℕ) (tk : Takes plan b c ways v n (left_of plan.layouts t k seen1.looked) (λ clean s m. IsGood m × PartsHold plan clean v s m ys)) (clean : Bool) where
+          module _ (n : ℕ) (tk : TakesOneWay plan b c ways v n (left_of plan.layouts t k seen1.looked) (λ clean s m. IsGood m × PartsHold plan clean v s m ys)) (clean : Bool) where
             abbrev F : List ℕ → Memory → Type 0
             F s m = IsGood m × PartsHold plan clean v s m xs
 
@@ -251,13 +251,13 @@ module _ (agreed : LaidOut) (t : ℕ) (leaves : List ℕ) (seen : Seen) (xs : Li
     abbrev starts1 : List ℕ
     starts1 = starts ++ length q.code ∷ []
 
-    ready_more : (plan : Plan) (k : ℕ) (layout : Layout) → e.slots ≤ q.slots → IsReady agreed plan t k layout leaves xs e.slots → IsReady agreed plan t k layout leaves xs q.slots
+    ready_more : (plan : Plan) (k : ℕ) (layout : Layout) → e.slots ≤ q.slots → ChoiceIsReady agreed plan t k layout leaves xs e.slots → ChoiceIsReady agreed plan t k layout leaves xs q.slots
     ready_more plan k layout le r = record { of = r.of; is_layout = r.is_layout; are_leaves = r.are_leaves; given = given-more plan e.slots q.slots xs le r.given }
 
-    read_more : (plan : Plan) (inner : Layout) → e.slots ≤ q.slots → IsRead plan s inner words e.slots → IsRead plan s inner words q.slots
+    read_more : (plan : Plan) (inner : Layout) → e.slots ≤ q.slots → AreInnerWords plan s inner words e.slots → AreInnerWords plan s inner words q.slots
     read_more plan inner le r = record { is_inner = r.is_inner; below = AllBelow-more e.slots q.slots words le r.below; count = r.count }
 
-    module _ (plan : Plan) (k : ℕ) (layout inner : Layout) (ready : IsReady agreed plan t k layout leaves xs e.slots) (read : IsRead plan s inner words e.slots) where
+    module _ (plan : Plan) (k : ℕ) (layout inner : Layout) (ready : ChoiceIsReady agreed plan t k layout leaves xs e.slots) (read : AreInnerWords plan s inner words e.slots) where
       abbrev Does : ℕ → Sheet → Sheet → List Way → Type 0
       Does l first last ws = ChoosesBelow plan t k layout leaves seen xs path s inner words l first last ws
 

@@ -42,7 +42,7 @@ use Rattle.rb_fetch.specs.declared.heads.Place.{Place}
 use Rattle.rb_fetch.specs.declared.known.Seen.{Seen}
 use Rattle.rb_fetch.specs.Choosing.{AreAsShown, ChoosesLeaf, TakesWay}
 use Rattle.rb_fetch.specs.Finding.{IsPlanOf}
-use Rattle.rb_fetch.specs.inner.Choosing.{AreLeavesOf, AreOpen, ChoosesFrom, ChoosesWays, Follows, HasAll, HasParts, IsReady, IsWayAt, PartsGiven, PartsHold, Takes, holes_from, left_of, parts_from, root_con}
+use Rattle.rb_fetch.specs.inner.Choosing.{AreLeavesOf, AreOpen, ChoosesFrom, ChoosesWays, Follows, HasAll, HasParts, ChoiceIsReady, IsWayAt, PartsGiven, PartsHold, TakesOneWay, holes_from, left_of, parts_from, root_con}
 use Rattle.rb_fetch.specs.inner.Heads.{bare_paths, leaves_beside, leaves_for, shown_heads}
 use Rattle.rb_fetch.proofs.Chosen.{begins, leaf_found, matched_leaf}
 use Rattle.rb_fetch.proofs.Costs.{left_most}
@@ -153,7 +153,7 @@ module _ (agreed : LaidOut) (typed : IsTyped agreed.covered.program) (flat : agr
         let g = given_each plan old.slots hs a.number a.held given a.is_held in
         subst (λ (y : Subvalue). AllBelow old.slots y.held.slots × (length y.held.slots ≡ words_of plan y.held.ty)) (sym a.is_part) g
 
-    ready : IsReady agreed plan con.ty con.con layout leaves xs old.slots
+    ready : ChoiceIsReady agreed plan con.ty con.con layout leaves xs old.slots
     ready = record { of = of; is_layout = is_layout; are_leaves = are_leaves; given = parts_given }
 
     all : ChoosesWays plan con.ty con.con layout leaves seen xs old new ways
@@ -217,7 +217,7 @@ module _ (agreed : LaidOut) (typed : IsTyped agreed.covered.program) (flat : agr
             leaves = λ clean leaf is. go tk clean leaf is;
           }
         where
-          go : (tk : Takes plan old new ways v (leaf_found plan.program sound.1.1 con.ty layout is_flat v is_of).number (left_of plan.layouts con.ty con.con looked) (λ clean s m. IsGood m × PartsHold plan clean v s m xs))
+          go : (tk : TakesOneWay plan old new ways v (leaf_found plan.program sound.1.1 con.ty layout is_flat v is_of).number (left_of plan.layouts con.ty con.con looked) (λ clean s m. IsGood m × PartsHold plan clean v s m xs))
               → (clean : Bool) (leaf : Leaf) → slice_get layout.leaves tk.way.leaf ≡ Some leaf
               → Branches plan old.slots old new choices.holes (choose_of plan.layouts con.ty con.con) (λ k s m. (k ≡ tk.number) × AreHeld plan clean s m hs vs)
               (λ k s m. ArePartsHeld plan clean s m (open_positions plan.program.types leaf.prov) tk.way.fields v)

@@ -37,7 +37,7 @@ use Rattle.rb_fetch.specs.declared.choice.Way.{Way}
 use Rattle.rb_fetch.specs.declared.heads.Place.{Place}
 use Rattle.rb_fetch.specs.declared.known.Seen.{Seen}
 use Rattle.rb_fetch.specs.Finding.{IsPlanOf}
-use Rattle.rb_fetch.specs.inner.Choosing.{AreOpen, AreWaysOf, ChoosesBy, ChoosesFrom, ChoosesWays, Follows, HasAll, HasOpens, IsWayOf, HasCon, IsEndOf, IsReady, root_con}
+use Rattle.rb_fetch.specs.inner.Choosing.{AreOpen, AreWaysOf, ChoosesBy, ChoosesFrom, ChoosesWays, Follows, HasAll, HasOpens, IsWayOf, HasCon, IsEndOf, ChoiceIsReady, root_con}
 use Rattle.rb_fetch.specs.inner.Fields.{leaf_at, leaf_within}
 use Rattle.rb_fetch.specs.inner.Heads.{are_looked_at, IsNext, is_among, shown_head, shown_heads}
 use Rattle.rb_fetch.proofs.Constructors.{heads-Con, is_matched, shows}
@@ -164,7 +164,7 @@ none_chooses agreed t seen xs old plan k layout ready = record {
 }
 
 module _ (agreed : LaidOut) (typed : IsTyped agreed.covered.program) (flat : agreed.layouts ≡ flat_layouts agreed.covered.program) (agrees : Agrees agreed.covered.program) (t : ℕ) where
-  module _ (plan : Plan) (k : ℕ) (layout : Layout) (n : ℕ) (rest : List ℕ) (seen : Seen) (xs : List Subvalue) (old : Sheet) (ready : IsReady agreed plan t k layout (n ∷ rest) xs old.slots)
+  module _ (plan : Plan) (k : ℕ) (layout : Layout) (n : ℕ) (rest : List ℕ) (seen : Seen) (xs : List Subvalue) (old : Sheet) (ready : ChoiceIsReady agreed plan t k layout (n ∷ rest) xs old.slots)
       (leaf : Leaf) (is_leaf : slice_get layout.leaves n ≡ Some leaf) (all : (j : ℕ) (h : Head) → slice_get (inner_heads leaf) j ≡ Some h → is_among seen.looked h.path ≡ true) where
     abbrev sound : IsTyped plan.program × AreAgreed plan.program plan.layouts
     sound = of_plan agreed typed flat agrees t plan ready.of

@@ -42,7 +42,7 @@ use Rattle.rb_fragment.proofs.Adding.{Adds-refl}
 use Rattle.rb_compose.specs.declared.subvalue.Subvalue.{Subvalue}
 use Rattle.rb_fetch.specs.Finding.{IsPlanOf}
 use Rattle.rb_fetch.specs.Positions.{PositionAt, mend_under}
-use Rattle.rb_fetch.specs.inner.Choosing.{FetchesFields, HasParts, IsRead, PartsGiven, PartsHold, parts_under}
+use Rattle.rb_fetch.specs.inner.Choosing.{FetchesFields, HasParts, AreInnerWords, PartsGiven, PartsHold, parts_under}
 use Rattle.rb_fetch.specs.inner.Fields.{leaf_at, leaf_within}
 use Rattle.rb_fetch.specs.inner.Rebuilding.{FetchesParts, PartsAreFetched}
 use Rattle.rb_fetch.proofs.Chosen.{matched_leaf}
@@ -124,7 +124,7 @@ made types at c ps u of m = go (out-Value u) refl (sym (matches-Con u at c ps) �
 module _ (agreed : LaidOut) (typed : IsTyped agreed.covered.program) (flat : agreed.layouts ≡ flat_layouts agreed.covered.program) (agrees : Agrees agreed.covered.program) (path : List ℕ) (ty : ℕ) (l : ℕ) (words : List ℕ)
     (old new : Sheet) (xs ys : List Subvalue) (found : Leaf) (is_found : leaf_at agreed.layouts ty l ≡ Some found) (at : ℕ) (root : ConRef) (ps : List Pat) (is_root : found.prov ≡ Con at root ps) (hs : List Held)
     (more : ys ≡ xs ++ parts_under path 0 hs) (fetches : FetchesParts agreed ty l root ps (length ps) [] words old new hs) where
-  module _ (plan : Plan) (inner : Layout) (leaf : Leaf) (of : IsPlanOf agreed plan) (read : IsRead plan ty inner words old.slots) (is_leaf : slice_get inner.leaves l ≡ Some leaf) where
+  module _ (plan : Plan) (inner : Layout) (leaf : Leaf) (of : IsPlanOf agreed plan) (read : AreInnerWords plan ty inner words old.slots) (is_leaf : slice_get inner.leaves l ≡ Some leaf) where
     same_leaf : found ≡ leaf
     same_leaf = same_Some found leaf (sym is_found ∙ ap (λ o. leaf_within o l) (ap (λ ls. layout_of ls ty) (sym of.layouts) ∙ read.is_inner) ∙ is_leaf)
 

@@ -22,7 +22,7 @@ use Rattle.rb_layout.specs.declared.layout.Layout.{Layout}
 use Rattle.rb_layout.specs.declared.layout.Leaf.{Leaf}
 use Rattle.rb_layout.specs.declared.layout.FlatWord.{FlatWord}
 use Rattle.rb_layout.specs.A2.{widths_of}
-use Rattle.rb_layout.specs.A7.{Meets, Resolves}
+use Rattle.rb_layout.specs.A7.{MeetsTest, Resolves}
 use Rattle.rb_layout.specs.A8.{last_length, length_of}
 use Rattle.rb_layout.specs.Agreement.{Agrees, AreAgreed}
 use Rattle.rb_layout.specs.Flattening.{flat_leaf, flat_layouts}
@@ -64,7 +64,7 @@ last_low [] o l h = omega (arith, h.1)
 last_low (s ∷ steps) o l h = last_low steps s.o s.l h.3
 
 -- what a test asks of a leaf: its location resolves there
-meets_loc : (p : Program) (leaf : Leaf) (test : Test) → Meets p.types (flat_layouts p) leaf test → Resolves leaf (loc_of test)
+meets_loc : (p : Program) (leaf : Leaf) (test : Test) → MeetsTest p.types (flat_layouts p) leaf test → Resolves leaf (loc_of test)
 meets_loc p leaf (Is loc c) h = h.0
 meets_loc p leaf (IsNone loc cs) h = h.0
 

@@ -40,7 +40,7 @@ use Rattle.rb_fragment.specs.Holding.{AreHeld, held_type}
 use Rattle.rb_fragment.specs.Owing.{Ends}
 use Rattle.rb_fragment.specs.Pieces.{Branches}
 use Rattle.rb_fragment.specs.Plan.{Plan, Rep, words_of}
-use Rattle.rb_fragment.specs.Slots.{AllBelow, AllFrom, AreApart, Stands, copied, copies, joining}
+use Rattle.rb_fragment.specs.Slots.{AllBelow, AllFrom, SlotsAreApart, CodeStands, copied, copies, joining}
 use Rattle.rb_fragment.proofs.Adding.{Adds-refl, Adds-trans}
 use Rattle.rb_fragment.proofs.Holds.{AllBelow-more}
 use Rattle.rb_fragment.proofs.Matches.{arms_more, match_adds, match_chooses, match_slots}
@@ -48,7 +48,7 @@ use Rattle.rb_fragment.proofs.Moves.{copied-kept, copies_run, joining_adds, join
 use Rattle.rb_fragment.proofs.Patching.{at_closed, closed_length, hole_from, join_at, join_closed, join_from, retarget_all, retarget_none}
 use Rattle.rb_fragment.proofs.Pieces.{jumps}
 use Rattle.rb_compose.specs.declared.subvalue.Subvalue.{Subvalue}
-use Rattle.rb_compose.specs.Making.{LeafIsMade, Makes, MakesLeaf}
+use Rattle.rb_compose.specs.Making.{LeafIsMade, MakesValue, MakesLeaf}
 use Rattle.rb_compose.specs.Subvalues.{AreGivenAt, ArePartsHeld}
 use Rattle.rb_rel.specs.Switches.{choose_of}
 use Rattle.rb_fetch.specs.declared.choice.Choices.{Choices}
@@ -126,7 +126,7 @@ module _ (plan : Plan) (t : ℕ) (layout : Layout) (way : Way) (leaf : Leaf) (is
       let l1 = made.adds.grows.longer in
       let more = Grows-append c.code (copies ds fs ++ Jump (length c.code + length (copies ds fs) + 1) ∷ []) in
       let agrees1 = Agrees-part final code c.code (length a.code) (length code) (length a.code) (length c.code) (λ pc. pc ≡ join) Nowhere more (omega arith) (omega (arith, len)) (omega arith) (λ pc lo hi e. absurd (omega (arith, hi, e))) agrees in
-      let there : Stands final (length c.code) (copies ds fs) = stands_from final (copies ds fs) c.code (Jump (length c.code + length (copies ds fs) + 1) ∷ []) (length c.code) refl
+      let there : CodeStands final (length c.code) (copies ds fs) = stands_from final (copies ds fs) c.code (Jump (length c.code + length (copies ds fs) + 1) ∷ []) (length c.code) refl
       (λ j lo hi. agrees.same j (omega (arith, lo, l1)) (omega (arith, hi, len)) (λ e. absurd (omega (arith, hi, e)))) in
       let held1 = subst (λ (y : Leaf). ArePartsHeld plan clean s w.memory (open_positions plan.program.types y.prov) way.fields v) (same_Some found leaf (sym at ∙ is_leaf)) held in
       let out = next (length a.code) s w in
@@ -180,7 +180,7 @@ module _ (plan : Plan) (t : ℕ) (layout : Layout) (way : Way) (leaf : Leaf) (is
       let up = made.adds.more in
       let same : length xs ≡ length slots = shared.count ∙ sym made.count in
       let below = AllBelow-more a.slots c.slots xs up shared.below in
-      let apart : AreApart xs slots = λ x i k. (let hi = one-below a.slots x xs shared.below i in let lo = one-from a.slots x slots made.fresh k in omega (arith, hi, lo)) in
+      let apart : SlotsAreApart xs slots = λ x i k. (let hi = one-below a.slots x xs shared.below i in let lo = one-from a.slots x slots made.fresh k in omega (arith, hi, lo)) in
       let moves : (s : List ℕ) → c.slots ≤ length s → slots_at (copied s xs slots) xs ≡ slots_at s slots = λ s long. slots_at-copied s xs slots same (AllBelow-more c.slots (length s) xs long below) shared.distinct apart in
       let m = arm_makes plan t layout way leaf is_leaf n a c slots xs xs slots low made same shared.from below made.given moves in
       record {
@@ -329,7 +329,7 @@ module _ (plan : Plan) (layout : Layout) (con : ConRef) (hs : List Held) (b e q 
 
   does : (clean : Bool) (vs : List Value) → AreAsShown shown vs → (final : List Instr) (callee : Callee) (next : Next) → Law final callee next → AgreesBut final whole.code (length b.code) (length whole.code) Nowhere
       → (s : List ℕ) (w : World) → whole.slots ≤ length s → IsGood w.memory → AreHeld plan clean s w.memory hs vs
-      → Makes plan clean (w.switches + most) next (length b.code) (length whole.code) b.slots con.ty into (Con con.con vs) s w
+      → MakesValue plan clean (w.switches + most) next (length b.code) (length whole.code) b.slots con.ty into (Con con.con vs) s w
   does clean vs as_shown final callee next law agrees s w room good held =
       let v = Con con.con vs in
       let takes = chooses.takes vs as_shown (typed_by clean vs s w.memory held) in

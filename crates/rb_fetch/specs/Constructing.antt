@@ -19,7 +19,7 @@ use Rattle.rb_fragment.specs.Plan.{Plan, words_of}
 use Rattle.rb_fragment.specs.Adding.{Adds}
 use Rattle.rb_fragment.specs.Holding.{AllGiven, AreHeld, held_type}
 use Rattle.rb_fragment.specs.Slots.{AllBelow, AllFrom}
-use Rattle.rb_compose.specs.Making.{Makes}
+use Rattle.rb_compose.specs.Making.{MakesValue}
 use Rattle.rb_fetch.specs.Choosing.{AreAsShown}
 use Rattle.rb_fetch.specs.Finding.{IsPlanOf}
 
@@ -37,7 +37,7 @@ pub record IsConstructed (plan : Plan) (con : ConRef) (hs : List Held) (shown : 
       → (final : List Instr) (callee : Callee) (next : Next) → Law final callee next
       → AgreesBut final new.code (length old.code) (length new.code) Nowhere
       → (s : List ℕ) (w : World) → new.slots ≤ length s → IsGood w.memory → AreHeld plan clean s w.memory hs vs
-      → Makes plan clean (w.switches + choose_of plan.layouts con.ty con.con) next (length old.code)
+      → MakesValue plan clean (w.switches + choose_of plan.layouts con.ty con.con) next (length old.code)
       (length new.code) old.slots con.ty held.slots (Con con.con vs) s w
 
 -- in every plan of the agreed program, the code from old to new constructs `held` by constructor con of values that

@@ -15,7 +15,7 @@ use Rattle.rb_layout.specs.Agreement.{AreAgreed}
 use Rattle.rb_layout.specs.Locations.{Reached, reached_at}
 use Rattle.rb_layout.specs.Positions.{layout_of}
 use Rattle.rb_rel.specs.Relation.{Made}
-use Rattle.rb_rel.specs.Reading.{Stands, read_loc}
+use Rattle.rb_rel.specs.Reading.{WordStands, read_loc}
 use Rattle.rb_fragment.specs.declared.reads.Read.{Read}
 use Rattle.rb_fragment.specs.Plan.{Plan}
 use Rattle.rb_fragment.specs.Adding.{Adds}
@@ -86,11 +86,11 @@ pub record AreBitsAt (plan : Plan) (t : ℕ) (loc : Loc) (ws : List ℕ) (m : Me
   pub reached : Reached
   pub resolves : reached_at made.leaf loc ≡ Some reached
   pub found : ℕ
-  pub stands : Stands made.leaf ws m clean made.subs made.ats reached.ref reached.word found
+  pub stands : WordStands made.leaf ws m clean made.subs made.ats reached.ref reached.word found
   pub are_bits : bits ≡ take_of found reached.o reached.l
 
 -- a typed program with layouts that agree
-pub record IsSound (plan : Plan) : Type 0 where
+pub record PlanIsSound (plan : Plan) : Type 0 where
   pub typed : IsTyped plan.program
   pub agreed : AreAgreed plan.program plan.layouts
 
@@ -98,7 +98,7 @@ pub record IsSound (plan : Plan) : Type 0 where
 -- value whose words are in some slots. The location resolves in some leaf with as many root words.
 abbrev pub FetchesBits : List ℕ → Loc → Sheet → Sheet → ℕ → Type 0
 FetchesBits words loc old new slot =
-    (plan : Plan) → IsSound plan → AllBelow old.slots words
+    (plan : Plan) → PlanIsSound plan → AllBelow old.slots words
     → (u n : ℕ) (layout : Layout) (leaf : Leaf) (x : Reached) → layout_of plan.layouts u ≡ Some layout
     → slice_get layout.leaves n ≡ Some leaf
     → length words ≡ length leaf.root → reached_at leaf loc ≡ Some x

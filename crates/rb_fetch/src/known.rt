@@ -2,7 +2,7 @@
 
 ghost use Rattle.std.specs.Prelude.{◌≡◌, ◌++◌, [], IfOk, OnOk, map};
 ghost use Rattle.std.specs.Option.{option_copied};
-ghost use Rattle.rb_fetch.specs.inner.Choosing.{HasRoot};
+ghost use Rattle.rb_fetch.specs.inner.Choosing.{HasRootCon};
 ghost use Rattle.rb_fetch.specs.inner.Fields.{leaf_at};
 ghost use Rattle.rb_fetch.specs.inner.Heads.{behind, head_behind, head_under, heads_behind, heads_in, known_con, leaf_known, leaves_beside, leaves_that_can_be, shown_heads, sole};
 ghost use Rattle.rb_fetch.specs.inner.Seen.{seen_before, seen_more};
@@ -48,7 +48,7 @@ pub(crate) fn below_leaf(
     place: &Place,
     leaf: usize,
 ) -> Result<Below, AllocError>
-    ensures root { IfOk result (λ b. HasRoot layouts.now place.now.con.ty leaf b.root) }
+    ensures root { IfOk result (λ b. HasRootCon layouts.now place.now.con.ty leaf b.root) }
     ensures heads { IfOk result (λ b. shown_heads b.heads
         ≡ map (head_under place.now.path) (heads_in (leaf_at layouts.now place.now.con.ty leaf))) }
     ensures kept { IfOk result (λ b. b.kept ≡ leaves_beside layouts.now ty (shown_heads b.heads)

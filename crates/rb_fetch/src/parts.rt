@@ -4,7 +4,7 @@ ghost use Rattle.std.specs.Prelude.{◌≡◌, ◌++◌, [], IfOk, IfSome, OnOk,
 ghost use Rattle.rb_core.specs.declared.types.Ty.TheVariants.{Named};
 ghost use Rattle.rb_layout.specs.Positions.{layout_of, opens_below, opens_of};
 ghost use Rattle.rb_rel.specs.Switches.{is_leaf_for, leaves_in};
-ghost use Rattle.rb_fetch.specs.inner.Choosing.{HasLeaves, HasOpens, HasRoot, HasType, IsPartIn, parts_from, parts_under};
+ghost use Rattle.rb_fetch.specs.inner.Choosing.{HasLeaves, HasOpens, HasRootCon, HasType, IsPartIn, parts_from, parts_under};
 ghost use Rattle.rb_fetch.specs.inner.Heads.{leaves_for};
 
 use crate::heads::{field_path, leaf_at};
@@ -23,7 +23,7 @@ use std::alloc::{AllocError, Global};
 // The constructor at the root of a leaf's provenance, by number; none where there is no such leaf,
 // or no constructor at its root.
 pub(crate) fn root_of(layouts: &[Layout], ty: u32, leaf: usize) -> Option<u32>
-    ensures { IfSome result (λ con. HasRoot layouts.now ty leaf con) }
+    ensures { IfSome result (λ con. HasRootCon layouts.now ty leaf con) }
 {
     let found = leaf_at(layouts, ty, leaf)?;
     match &found.prov {

@@ -23,7 +23,7 @@ use Rattle.rb_fragment.specs.Holding.{AreGiven, Holds, IsOfLocal}
 use Rattle.rb_fragment.specs.Owing.{Does}
 use Rattle.rb_fragment.specs.Pieces.{AtEnd, IsLater, Piece}
 use Rattle.rb_fragment.specs.Plan.{Plan, Rep, words_of}
-use Rattle.rb_fragment.specs.Slots.{AllBelow, AllFrom, AreApart, IsDistinct, IsOneOf, Stands, copied, copies, joining, slots_from}
+use Rattle.rb_fragment.specs.Slots.{AllBelow, AllFrom, SlotsAreApart, IsDistinct, IsOneOf, CodeStands, copied, copies, joining, slots_from}
 use Rattle.rb_fragment.specs.declared.held.Held.{Held}
 use Rattle.rb_fragment.specs.declared.held.Joined.{Joined}
 use Rattle.rb_fragment.specs.declared.held.Local.{Local}
@@ -41,7 +41,7 @@ module _ (plan : Plan) (clean : Bool) (calls : Calls) (n : ℕ) (t : Ty) (a b c 
     (new : (s : ℕ) → c.slots ≤ s → s < m → IsOneOf s into)
     (bind : Piece plan n a b Nowhere extra Pre (AtEnd b (λ s m. Holds plan clean s m inner env)))
     (body : Emits plan eb inner b c t ys)
-    (apart : AreApart into ys) where
+    (apart : SlotsAreApart into ys) where
   abbrev wide : Sheet
   wide = record c { slots = m }
 
@@ -68,7 +68,7 @@ module _ (plan : Plan) (clean : Bool) (calls : Calls) (n : ℕ) (t : Ty) (a b c 
         let more = Grows-append c.code (copies into ys ++ Jump (length c.code + length (copies into ys) + 1) ∷ []) in
         let agrees1 = Agrees-part final code b.code (length a.code) (length code) (length a.code) (length b.code) (λ pc. pc ≡ join) Nowhere (Grows-trans b.code c.code code body.adds.grows more) (omega arith) (omega (arith, l2, len)) (omega arith) (λ pc lo hi e. absurd (omega (arith, hi, e, l2))) agrees in
         let agrees2 = Agrees-part final code c.code (length a.code) (length code) (length b.code) (length c.code) (λ pc. pc ≡ join) Nowhere more (omega (arith, l1)) (omega (arith, len)) (omega arith) (λ pc lo hi e. absurd (omega (arith, hi, e))) agrees in
-        let there : Stands final (length c.code) (copies into ys) = stands_from final (copies into ys) c.code (Jump (length c.code + length (copies into ys) + 1) ∷ []) (length c.code) refl
+        let there : CodeStands final (length c.code) (copies into ys) = stands_from final (copies into ys) c.code (Jump (length c.code + length (copies into ys) + 1) ∷ []) (length c.code) refl
         (λ j lo hi. agrees.same j (omega (arith, lo, l1, l2)) (omega (arith, hi, len)) (λ e. absurd (omega (arith, hi, e)))) in
         let long1 : b.slots ≤ length s = omega (arith, room, room_into, body.adds.more) in
         let r = bind.runs final callee next law agrees1 s w long1 pre in
@@ -151,7 +151,7 @@ module _ (plan : Plan) (t : Ty) (n : ℕ) (a b q d : Sheet) (inner : List Local)
     pub does : (calls : Calls) (i : Case) → Arm plan (clean i) calls n a d r.join.pc extra (Pre i) (λ left. eb calls left (env i)) t r.into.slots
 
   done : (m : ℕ) → d ≡ joining (record q { slots = m }) r.into.slots hy.slots → r.join.pc ≡ length q.code + length (copies r.into.slots hy.slots) → q.slots ≤ m
-      → AreShared n m (words_of plan t) r.into.slots → ((x : ℕ) → q.slots ≤ x → x < m → IsOneOf x r.into.slots) → AreApart r.into.slots hy.slots → IsArm
+      → AreShared n m (words_of plan t) r.into.slots → ((x : ℕ) → q.slots ≤ x → x < m → IsOneOf x r.into.slots) → SlotsAreApart r.into.slots hy.slots → IsArm
   done m code join room sh new apart =
       let zs = r.into.slots in
       let w = joining (record q { slots = m }) zs hy.slots in

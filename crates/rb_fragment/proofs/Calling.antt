@@ -18,7 +18,7 @@ use Rattle.rb_fragment.proofs.Represented.{Rep-count}
 use Rattle.rb_fragment.specs.Adding.{Adds, IsFitting}
 use Rattle.rb_fragment.specs.Fragments.{AnyValues, Applies, Comes, calling}
 use Rattle.rb_fragment.specs.Holding.{AllGiven, AreHeld, all_slots, held_type}
-use Rattle.rb_fragment.specs.Owing.{Ends, Gives}
+use Rattle.rb_fragment.specs.Owing.{Ends, GivesValue}
 use Rattle.rb_fragment.specs.Plan.{Plan, Rep, Reps, types_of, words_in, words_of}
 use Rattle.rb_fragment.specs.Slots.{AllBelow, slots_from}
 use Rattle.rb_fragment.specs.declared.held.Held.{Held}
@@ -111,7 +111,7 @@ module _ (plan : Plan) (a : Sheet) (g : ℕ) (f : Fun) (hs : List Held) (is : sl
           let back = callee g ws (taken w) in
           let ran : out ≡ after_call back.ended back.world (λ words. next (length a.code + 1) (put_slots s ds words) back.world) = law.step (length a.code) instr s w there in
           let reps = subst (λ ts. Reps plan w.memory clean ts vs ws) kinds (held_words plan clean s w.memory hs vs pre) in
-          call_ends _ back out (λ words v. next (length a.code + 1) (put_slots s ds words) v) (Gives plan clean f.result back) (Comes plan clean out next (length code) a.slots f.result ds s) w.memory ran
+          call_ends _ back out (λ words v. next (length a.code + 1) (put_slots s ds words) v) (GivesValue plan clean f.result back) (Comes plan clean out next (length code) a.slots f.result ds s) w.memory ran
           (λ v w' r.
           let words = r.0 in
           let count : length words ≡ k = Rep-count plan clean w'.memory r.2 in

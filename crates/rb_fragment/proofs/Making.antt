@@ -23,7 +23,7 @@ use Rattle.rb_fragment.specs.declared.reads.Share.{Share}
 use Rattle.rb_fragment.specs.Plan.{Plan}
 use Rattle.rb_fragment.specs.Adding.{Adds}
 use Rattle.rb_fragment.specs.Pieces.{Straight, AtEnd}
-use Rattle.rb_fragment.specs.Reads.{where_some, loaded, Meant, joined_over, mean, meant_of, is_range, is_width, fits, fits_share, Makes}
+use Rattle.rb_fragment.specs.Reads.{where_some, loaded, Meant, joined_over, mean, meant_of, is_range, is_width, fits, fits_share, MakesReadIn}
 use Rattle.rb_fragment.specs.inner.Addresses.{multiple}
 use Rattle.rb_fragment.specs.inner.Shares.{PutsOne, PutsShare, PutsAll, PutsShares, PutsSome}
 use Rattle.rb_fragment.proofs.Adding.{Adds-refl, Adds-trans, Adds-one, push_adds}
@@ -73,10 +73,10 @@ module _ (plan : Plan) where
   }
 
   -- a read, and code that makes another number of its
-  module _ (r q : Read) (a b c : Sheet) (xs slot : ℕ) (made : Makes plan r a b xs) (more : Adds plan b c) (given : slot < c.slots) (G : ℕ → ℕ → Memory → Type 0)
+  module _ (r q : Read) (a b c : Sheet) (xs slot : ℕ) (made : MakesReadIn plan r a b xs) (more : Adds plan b c) (given : slot < c.slots) (G : ℕ → ℕ → Memory → Type 0)
       (opened : (s : List ℕ) (m : Memory) (x : ℕ) → mean q s m ≡ Some x → (w : ℕ) × (mean r s m ≡ Some w) × G w x m)
       (rest : (w x : ℕ) → Straight plan a.slots b c (λ s m. (IsGood m × G w x m) × (slice_index s xs ≡ w)) (λ s m. slice_index s slot ≡ x)) where
-    then_makes : Makes plan q a c slot
+    then_makes : MakesReadIn plan q a c slot
     then_makes = record {
       adds = Adds-trans plan a b c made.adds more;
       given = given;
@@ -91,7 +91,7 @@ module _ (plan : Plan) where
           (straight_frame plan a.slots a b (Frame w) (Inner w) (Mid w) (λ s s' m k f. f) (made.runs w)) (rest w x));
     }
 
-  pub made_slot : (x : ℕ) (a : Sheet) (k : ℕ) → k ≤ a.slots → fits k (Slot x) ≡ true → Makes plan (Slot x) a a x
+  pub made_slot : (x : ℕ) (a : Sheet) (k : ℕ) → k ≤ a.slots → fits k (Slot x) ≡ true → MakesReadIn plan (Slot x) a a x
   made_slot x a k le fit =
       let lt : x < k = (let t = sym (fits-Slot k x) ∙ fit in grind (arith, nat_tests, t)) in
       record {
@@ -101,7 +101,7 @@ module _ (plan : Plan) where
             (λ s m pre. same_Some (slice_index s x) y (sym (mean-Slot x s m) ∙ pre.1));
       }
 
-  pub made_number : (c : ℕ) (a : Sheet) → c < 2 ^ 64 → Makes plan (Number c) a (pushed (with_slot a) (Const a.slots c)) a.slots
+  pub made_number : (c : ℕ) (a : Sheet) → c < 2 ^ 64 → MakesReadIn plan (Number c) a (pushed (with_slot a) (Const a.slots c)) a.slots
   made_number c a small = record {
     adds = Adds-one plan a (Const a.slots c) (0, omega arith, refl) (record { bounded = small; slots_fit = omega arith; targets = tt; calls = tt });
     given = omega arith;
@@ -111,7 +111,7 @@ module _ (plan : Plan) where
         (λ s m pre. same_Some c x (sym (mean-Number c s m) ∙ pre.1)) (λ s m p. p) (straight_const plan a.slots a (omega arith) (λ k m. k ≡ x) c small);
   }
 
-  pub made_bits : (r : Read) (o l : ℕ) (a b : Sheet) (xs k : ℕ) → fits k (Bits r o l) ≡ true → Makes plan r a b xs → Makes plan (Bits r o l) a (pushed (with_slot b) (Take b.slots xs o l)) b.slots
+  pub made_bits : (r : Read) (o l : ℕ) (a b : Sheet) (xs k : ℕ) → fits k (Bits r o l) ≡ true → MakesReadIn plan r a b xs → MakesReadIn plan (Bits r o l) a (pushed (with_slot b) (Take b.slots xs o l)) b.slots
   made_bits r o l a b xs k fit made =
       let range = range_is o l (both (fits k r) (is_range o l) (sym (fits-Bits k r o l) ∙ fit)).1 in
       let c = pushed (with_slot b) (Take b.slots xs o l) in
@@ -122,7 +122,7 @@ module _ (plan : Plan) where
       (λ w x. straight_weaken plan a.slots b c (λ s m. take_of (slice_index s xs) o l ≡ x) (λ s m. (IsGood m × (take_of w o l ≡ x)) × (slice_index s xs ≡ w)) (λ s m. slice_index s b.slots ≡ x) (λ s m. slice_index s b.slots ≡ x)
       (λ s m pre. ap (λ y. take_of y o l) pre.1 ∙ pre.0.1) (λ s m p. p) (straight_take plan a.slots b made.adds.more (λ y m. y ≡ x) xs o l made.given range))
 
-  pub made_loaded : (r : Read) (byte width : ℕ) (a b : Sheet) (xs k : ℕ) → fits k (Loaded r byte width) ≡ true → Makes plan r a b xs → Makes plan (Loaded r byte width) a (pushed (with_slot b) (Load b.slots xs byte width)) b.slots
+  pub made_loaded : (r : Read) (byte width : ℕ) (a b : Sheet) (xs k : ℕ) → fits k (Loaded r byte width) ≡ true → MakesReadIn plan r a b xs → MakesReadIn plan (Loaded r byte width) a (pushed (with_slot b) (Load b.slots xs byte width)) b.slots
   made_loaded r byte width a b xs k fit made =
       let f = both (nat_le byte 511) (is_width width) (both (fits k r) _ (sym (fits-Loaded k r byte width) ∙ fit)).1 in
       let low : byte ≤ 511 = grind (arith, nat_tests, f.0) in
@@ -139,7 +139,7 @@ module _ (plan : Plan) where
   straight_fewer n n' a b Pre Post le p = piece_weaken plan n n' a b (λ pc. ⊥) 0 0 Pre Pre (AtEnd b Post) (AtEnd b Post) le (omega arith) (λ s m x. x) (λ pc s m x. x) p
 
   -- a number times a unit, where that is another read
-  module _ (p q : Read) (unit : ℕ) (a b : Sheet) (xs : ℕ) (small : unit < 2 ^ 64) (made : Makes plan p a b xs)
+  module _ (p q : Read) (unit : ℕ) (a b : Sheet) (xs : ℕ) (small : unit < 2 ^ 64) (made : MakesReadIn plan p a b xs)
       (opened : (s : List ℕ) (m : Memory) (x : ℕ) → mean q s m ≡ Some x → (w : ℕ) × (mean p s m ≡ Some w) × (w * unit % 2 ^ 64 ≡ x)) where
     abbrev b1 : Sheet
     b1 = pushed (with_slot b) (Const b.slots unit)
@@ -167,12 +167,12 @@ module _ (plan : Plan) where
         let last : Straight plan a.slots b1 b2 P1 P2 = straight_alu plan a.slots b1 (omega (arith, le)) (λ y m. y ≡ x) Mul 64 xs b.slots (omega arith) (omega arith) (omega (arith, made.given)) (omega arith) in
         straight_seq plan a.slots b b1 b2 P0 P1 P2 first last
 
-    made_multiple : Makes plan q a b2 b1.slots
+    made_multiple : MakesReadIn plan q a b2 b1.slots
     made_multiple = then_makes p q a b b2 xs b1.slots made product_adds (omega arith) (λ w x m. w * unit % 2 ^ 64 ≡ x) opened product
 
   -- a range, the unit, and their product
-  pub made_address : (r : Read) (o l align : ℕ) (a b : Sheet) (xs k : ℕ) → fits k (Address r o l align) ≡ true → align < 2 ^ 64 → Makes plan r a b xs
-      → let c = pushed (with_slot b) (Take b.slots xs o l) in Makes plan (Address r o l align) a (multiple b.slots align c) (c.slots + 1)
+  pub made_address : (r : Read) (o l align : ℕ) (a b : Sheet) (xs k : ℕ) → fits k (Address r o l align) ≡ true → align < 2 ^ 64 → MakesReadIn plan r a b xs
+      → let c = pushed (with_slot b) (Take b.slots xs o l) in MakesReadIn plan (Address r o l align) a (multiple b.slots align c) (c.slots + 1)
   made_address r o l align a b xs k fit small made =
       let c = pushed (with_slot b) (Take b.slots xs o l) in
       let fit_bits : fits k (Bits r o l) ≡ true = fits-Bits k r o l ∙ sym (fits-Address k r o l align) ∙ fit in
@@ -183,7 +183,7 @@ module _ (plan : Plan) where
       (part, mean-Bits r o l s m ∙ ap (λ v. where_some v (λ w. Some (take_of w o l))) h.1, same_Some (part * align % 2 ^ 64) x h.2))
 
   -- all bits of a slot, times the unit, are the word itself, times the unit
-  pub made_scaled : (r : Read) (o l align : ℕ) (a b : Sheet) (xs : ℕ) → o ≡ 0 → l ≡ 64 → align < 2 ^ 64 → Makes plan r a b xs → Makes plan (Address r o l align) a (multiple xs align b) (b.slots + 1)
+  pub made_scaled : (r : Read) (o l align : ℕ) (a b : Sheet) (xs : ℕ) → o ≡ 0 → l ≡ 64 → align < 2 ^ 64 → MakesReadIn plan r a b xs → MakesReadIn plan (Address r o l align) a (multiple xs align b) (b.slots + 1)
   made_scaled r o l align a b xs low long small made =
       made_multiple r (Address r o l align) align a b xs small made
       (λ s m x e.
@@ -194,7 +194,7 @@ module _ (plan : Plan) where
       (w, h.1, sym (mul-mod_first w align (2 ^ 64)) ∙ ap (λ y. y * align % 2 ^ 64) (sym all) ∙ same_Some (take_of w o l * align % 2 ^ 64) x h.2))
 
   -- a range that stands in its place, and the bits beside it masked off
-  module _ (r : Read) (o l : ℕ) (a b : Sheet) (xs : ℕ) (range : IsRange o l) (made : Makes plan r a b xs) where
+  module _ (r : Read) (o l : ℕ) (a b : Sheet) (xs : ℕ) (range : IsRange o l) (made : MakesReadIn plan r a b xs) where
     abbrev m1 : Sheet
     m1 = pushed (with_slot b) (Const b.slots (mask_of o l))
 
@@ -222,7 +222,7 @@ module _ (plan : Plan) where
         let last : Straight plan a.slots m1 m2 P1 P2 = straight_alu plan a.slots m1 (omega (arith, le)) (λ y m. y ≡ x) And 64 xs b.slots (omega arith) (omega arith) (omega (arith, made.given)) (omega arith) in
         straight_seq plan a.slots b m1 m2 P0 P1 P2 mask last
 
-    pub made_masked : (align : ℕ) → align ≡ 2 ^ o → Makes plan (Address r o l align) a m2 m1.slots
+    pub made_masked : (align : ℕ) → align ≡ 2 ^ o → MakesReadIn plan (Address r o l align) a m2 m1.slots
     made_masked align unit =
         then_makes r (Address r o l align) a b m2 xs m1.slots made masking_adds (omega arith) (λ w x m. take_of w o l * 2 ^ o % 2 ^ 64 ≡ x)
         (λ s m x e.
@@ -234,7 +234,7 @@ module _ (plan : Plan) where
   keeps_fewer : (n k : ℕ) (s s' : List ℕ) → k ≤ n → Keeps n s s' → Keeps k s s'
   keeps_fewer n k s s' le kept = record { long = kept.long; same = λ x lt. kept.same x (omega (arith, lt, le)) }
 
-  module _ (p : Share) (a b : Sheet) (xs k d : ℕ) (le : k ≤ d) (lt : d < a.slots) (fit : fits_share k p ≡ true) (made : Makes plan p.read a b xs) where
+  module _ (p : Share) (a b : Sheet) (xs k d : ℕ) (le : k ≤ d) (lt : d < a.slots) (fit : fits_share k p ≡ true) (made : MakesReadIn plan p.read a b xs) where
     abbrev c1 : Sheet
     c1 = pushed (with_slot b) (Take b.slots xs p.o p.l)
 
@@ -388,7 +388,7 @@ module _ (plan : Plan) where
       zero_over n = grind (arith, common_steps)
 
   -- a first share at bit 0, taken
-  pub begins_taken : (p : Share) (rest : List Share) (a b : Sheet) (d k : ℕ) → k ≤ a.slots → fits k (Joined (p ∷ rest)) ≡ true → p.a ≡ 0 → a.slots ≤ d → Makes plan (Bits p.read p.o p.l) a b d → Begins (p ∷ rest) rest a b d
+  pub begins_taken : (p : Share) (rest : List Share) (a b : Sheet) (d k : ℕ) → k ≤ a.slots → fits k (Joined (p ∷ rest)) ≡ true → p.a ≡ 0 → a.slots ≤ d → MakesReadIn plan (Bits p.read p.o p.l) a b d → Begins (p ∷ rest) rest a b d
   begins_taken p rest a b d k le fit low fresh made =
       let fit_rest = (both (fits_share k p) (list_all (λ b. b) (map (fits_share k) rest)) (sym (fits-Joined k (p ∷ rest)) ∙ fit)).1 in
       record {
@@ -413,7 +413,7 @@ module _ (plan : Plan) where
       }
 
   -- and then the rest
-  pub joined_all : (shares rest : List Share) (a b c : Sheet) (d k : ℕ) → k ≤ a.slots → list_all (λ b. b) (map (fits_share k) rest) ≡ true → Begins shares rest a b d → PutsShares rest d b c → Makes plan (Joined shares) a c d
+  pub joined_all : (shares rest : List Share) (a b c : Sheet) (d k : ℕ) → k ≤ a.slots → list_all (λ b. b) (map (fits_share k) rest) ≡ true → Begins shares rest a b d → PutsShares rest d b c → MakesReadIn plan (Joined shares) a c d
   joined_all shares rest a b c d k le fit begun puts =
       let all = puts plan k (omega (arith, le, begun.fresh)) begun.given fit in
       record {

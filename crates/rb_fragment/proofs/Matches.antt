@@ -23,7 +23,7 @@ use Rattle.rb_fragment.specs.Adding.{Adds}
 use Rattle.rb_fragment.specs.Arms.{AreHoles, AreJoins, AreOfOneWay, ArePatchable, Arm, ArmIn, ArmsAre, ArmsIn, HasHole, IsJoin, closed, whole_match}
 use Rattle.rb_fragment.specs.Fragments.{Comes, Fragment}
 use Rattle.rb_fragment.specs.Owing.{Does, Related}
-use Rattle.rb_fragment.specs.Pieces.{Branches, Reached}
+use Rattle.rb_fragment.specs.Pieces.{Branches, ReachesExit}
 use Rattle.rb_fragment.specs.Plan.{Plan}
 use Rattle.rb_fragment.specs.Slots.{AllBelow, AllFrom}
 use Rattle.rb_target.proofs.Growing.{Grows-refl, Grows-trans, Keeps-trans, below_or}
@@ -239,7 +239,7 @@ module _ (plan : Plan) (n most count : ℕ) (b e q : Sheet) (holes joins : List 
 
     -- the way that is taken leads to its arm's start
     pub match_chooses : (s : List ℕ) (w : World) (k : ℕ) → whole.slots ≤ length s → IsGood w.memory → Pre k s w.memory
-        → Reached next (length b.code) n most (λ pc s' m. (pc ≡ slice_index starts k) × Mid k s' m) s w
+        → ReachesExit next (length b.code) n most (λ pc s' m. (pc ≡ slice_index starts k) × Mid k s' m) s w
     match_chooses s w k room good pre =
         let all = closed_is final holes starts e (length b.code) (length e.code) of_choice (all_holes_of (length b.code) count e.code holes holes_are) ways in
         let r = choice.leaves final callee next law all.finishes s w k (omega (arith, room, match_slots, adds.more)) good pre in

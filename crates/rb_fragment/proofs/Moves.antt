@@ -14,7 +14,7 @@ use Rattle.rb_fragment.proofs.Pieces.{later-refl}
 use Rattle.rb_fragment.specs.Adding.{Adds, IsFitting, IsWrittenFrom}
 use Rattle.rb_fragment.specs.Pieces.{IsLater}
 use Rattle.rb_fragment.specs.Plan.{Plan}
-use Rattle.rb_fragment.specs.Slots.{AllBelow, AllFrom, AreApart, IsDistinct, IsOneOf, Stands, copied, copies, joining, slots_from}
+use Rattle.rb_fragment.specs.Slots.{AllBelow, AllFrom, SlotsAreApart, IsDistinct, IsOneOf, CodeStands, copied, copies, joining, slots_from}
 use Rattle.rb_target.proofs.Growing.{Grows-append, Keeps-refl, Keeps-set, Keeps-trans, below_or, get-append, get-seam}
 use Rattle.rb_target.specs.Growth.{Keeps}
 use Rattle.rb_target.specs.Meaning.{from}
@@ -114,7 +114,7 @@ copies_write (d ∷ ds) (f ∷ fs) x same (inr h) = let r = copies_write ds fs x
 
 -- Straight code
 
-pub stands_from : (final : List Instr) (is pre rest : List Instr) (pc : ℕ) → length pre ≡ pc → ((j : ℕ) → pc ≤ j → j < pc + length is → slice_get final j ≡ slice_get (pre ++ (is ++ rest)) j) → Stands final pc is
+pub stands_from : (final : List Instr) (is pre rest : List Instr) (pc : ℕ) → length pre ≡ pc → ((j : ℕ) → pc ≤ j → j < pc + length is → slice_get final j ≡ slice_get (pre ++ (is ++ rest)) j) → CodeStands final pc is
 stands_from final [] pre rest pc e f = tt
 stands_from final (i ∷ is) pre rest pc e f =
     let len : length (pre ++ i ∷ []) ≡ pc + 1 = omega (arith, e, length-append pre (i ∷ [])) in
@@ -180,7 +180,7 @@ module _ (plan : Plan) (c0 : Sheet) (m : ℕ) (into ys : List ℕ) (room : c0.sl
 
 -- Copies
 
-pub copies_run : (final : List Instr) (callee : Callee) (next : Next) → Law final callee next → (ds fs : List ℕ) (pc : ℕ) (s : List ℕ) (w : World) → Stands final pc (copies ds fs)
+pub copies_run : (final : List Instr) (callee : Callee) (next : Next) → Law final callee next → (ds fs : List ℕ) (pc : ℕ) (s : List ℕ) (w : World) → CodeStands final pc (copies ds fs)
     → (w' : World) × (next pc s w ≡ next (pc + length (copies ds fs)) (copied s ds fs) w') × IsLater 0 w w'
 copies_run final callee next law [] fs pc s w there = let e : pc ≡ pc + 0 = omega arith in (w, ap (λ p. next p s w) e, later-refl w)
 copies_run final callee next law (d ∷ ds) [] pc s w there = let e : pc ≡ pc + 0 = omega arith in (w, ap (λ p. next p s w) e, later-refl w)
@@ -203,7 +203,7 @@ slots_at-set s (f ∷ fs) d w out =
     ap (λ u. u ∷ slots_at (slice_set s d w) fs) (get_or-set_other s d f w 0 (λ e. out (inl (sym e)))) ∙ ap (λ us. slice_index s f ∷ us) (slots_at-set s fs d w (λ h. out (inr h)))
 
 -- the words arrive where no source is a destination
-pub slots_at-copied : (s ds fs : List ℕ) → length ds ≡ length fs → AllBelow (length s) ds → IsDistinct ds → AreApart ds fs → slots_at (copied s ds fs) ds ≡ slots_at s fs
+pub slots_at-copied : (s ds fs : List ℕ) → length ds ≡ length fs → AllBelow (length s) ds → IsDistinct ds → SlotsAreApart ds fs → slots_at (copied s ds fs) ds ≡ slots_at s fs
 slots_at-copied s [] [] same within distinct apart = refl
 slots_at-copied s [] (f ∷ fs) same within distinct apart = absurd (omega (arith, same))
 slots_at-copied s (d ∷ ds) [] same within distinct apart = absurd (omega (arith, same))

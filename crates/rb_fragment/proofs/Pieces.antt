@@ -20,7 +20,7 @@ use Rattle.rb_fragment.proofs.Patching.{jump_hole, patch_adds}
 use Rattle.rb_fragment.specs.Adding.{Adds, IsFitting}
 use Rattle.rb_fragment.specs.Arms.{IsOpenJump}
 use Rattle.rb_fragment.specs.Owing.{Does, Ends}
-use Rattle.rb_fragment.specs.Pieces.{AtEnd, Branches, IsLater, Piece, Reached, Straight}
+use Rattle.rb_fragment.specs.Pieces.{AtEnd, Branches, IsLater, Piece, ReachesExit, Straight}
 use Rattle.rb_fragment.specs.Plan.{Plan, cost_at, cost_of}
 use Rattle.rb_rel.specs.Placing.{lay, requests_at, requests_of}
 use Rattle.rb_target.proofs.Growing.{Agrees-part, Grows-refl, Keeps-refl, Keeps-set, Keeps-trans, get-seam}
@@ -36,7 +36,7 @@ pub later-trans : (k j : ℕ) (w w1 w2 : World) → IsLater k w w1 → IsLater j
 later-trans k j w w1 w2 a b = record { memory = b.memory ∙ a.memory; left = b.left ∙ a.left; switches = omega (arith, a.switches, b.switches) }
 
 -- What a run owes, where a piece comes first: its switches are added to the base.
-pub reached_does : (plan : Plan) (next : Next) (start n most extra : ℕ) (Exit : ℕ → List ℕ → Memory → Type 0) (s : List ℕ) (w : World) (o : Outcome) (Ok Ok1 : Value → World → Type 0) (r : Reached next start n most Exit s w)
+pub reached_does : (plan : Plan) (next : Next) (start n most extra : ℕ) (Exit : ℕ → List ℕ → Memory → Type 0) (s : List ℕ) (w : World) (o : Outcome) (Ok Ok1 : Value → World → Type 0) (r : ReachesExit next start n most Exit s w)
     → ((v : Value) (w' : World) → Ok1 v w' → Ok v w') → Does plan (r.2.switches + extra) (next r.0 r.1 r.2) r.2.memory o Ok1 → Does plan (w.switches + (most + extra)) (next start s w) w.memory o Ok
 reached_does plan next start n most extra Exit s w o Ok Ok1 r f d =
     does_map plan (w.switches + (most + extra)) (r.2.switches + extra) (next start s w) (next r.0 r.1 r.2) Ok Ok1 w.memory o (let few = r.5.switches in omega (arith, few)) r.3 f
@@ -109,7 +109,7 @@ module _ (plan : Plan) where
     }
       where
         go : (final : List Instr) (callee : Callee) (next : Next) → Law final callee next → AgreesBut final c.code (length b.code) (length c.code) O2 → (s : List ℕ) (w : World) → c.slots ≤ length s
-            → (r : Reached next (length a.code) n k1 Exit1 s w) → ((r.0 ≡ length b.code) × Mid r.1 w.memory) ⊎ Exit2 r.0 r.1 w.memory → Reached next (length a.code) n (k1 + k2) Exit2 s w
+            → (r : ReachesExit next (length a.code) n k1 Exit1 s w) → ((r.0 ≡ length b.code) × Mid r.1 w.memory) ⊎ Exit2 r.0 r.1 w.memory → ReachesExit next (length a.code) n (k1 + k2) Exit2 s w
         go final callee next law agrees2 s w long r (inr x) = (r.0, r.1, r.2, r.3, r.4, record { memory = r.5.memory; left = r.5.left; switches = omega (arith, r.5.switches) }, x)
         go final callee next law agrees2 s w long r (inl x) =
             let long2 : c.slots ≤ length r.1 = omega (arith, r.4.long, long) in
@@ -211,8 +211,8 @@ module _ (plan : Plan) (n : ℕ) (a b : Sheet) (Open : ℕ → Type 0) (k : ℕ)
         go final callee next law s w at r (eqb r.0 h.pc) refl;
   }
     where
-      go : (final : List Instr) (callee : Callee) (next : Next) → Law final callee next → (s : List ℕ) (w : World) → slice_get final h.pc ≡ Some (Jump t) → (r : Reached next (length a.code) n k Exit s w) → (u : Bool) → eqb r.0 h.pc ≡ u
-          → Reached next (length a.code) n k ExitAfter s w
+      go : (final : List Instr) (callee : Callee) (next : Next) → Law final callee next → (s : List ℕ) (w : World) → slice_get final h.pc ≡ Some (Jump t) → (r : ReachesExit next (length a.code) n k Exit s w) → (u : Bool) → eqb r.0 h.pc ≡ u
+          → ReachesExit next (length a.code) n k ExitAfter s w
       go final callee next law s w at r true e =
           let same : r.0 ≡ h.pc = grind arith in
           (t, r.1, taken r.2, r.3 ∙ ap (λ pc. next pc r.1 r.2) same ∙ jumps final callee next law h.pc t r.1 r.2 at, r.4, record { memory = r.5.memory; left = r.5.left; switches = r.5.switches }, inr (refl, subst (λ pc. Exit pc r.1 w.memory) same r.6))

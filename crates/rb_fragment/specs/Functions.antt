@@ -12,7 +12,7 @@ use Rattle.rb_target.specs.Sheet.{Sheet}
 use Rattle.rb_target.specs.Validity.{IsValidFun}
 use Rattle.rb_fragment.specs.declared.held.Local.{Local}
 use Rattle.rb_fragment.specs.Plan.{Plan, Reps, words_of, words_in, types_of}
-use Rattle.rb_fragment.specs.Owing.{Does, Gives, Related}
+use Rattle.rb_fragment.specs.Owing.{Does, GivesValue, Related}
 use Rattle.rb_fragment.specs.Slots.{slots_from}
 
 -- the parameters as variables in slots in a row from a on, each in as many as its type has words
@@ -49,7 +49,7 @@ pub record Compiles (plan : Plan) (g : ℕ) (f : Fun) (q : CodeFun) : Type 0 whe
       → Reps plan w.memory clean (types_of f) vs ws
       → Does plan w.switches (next 0 (ws ++ replicate (q.slots - length ws) 0) w) w.memory
       (body_of plan.program calls (Some f) g w.left vs)
-      (Gives plan clean f.result (next 0 (ws ++ replicate (q.slots - length ws) 0) w))
+      (GivesValue plan clean f.result (next 0 (ws ++ replicate (q.slots - length ws) 0) w))
 
 -- each function of the program has code with its number that does what it does
 abbrev pub AllCompile : Plan → List CodeFun → Type 0
@@ -65,4 +65,4 @@ RunsDo plan funs =
     → slice_get plan.program.funs g ≡ Some f → IsGood m
     → Reps plan m clean (types_of f) vs ws
     → Does plan 0 (run_of funs n g ws m) m (call_of plan.program g n vs)
-    (Gives plan clean f.result (run_of funs n g ws m))
+    (GivesValue plan clean f.result (run_of funs n g ws m))

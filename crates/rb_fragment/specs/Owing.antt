@@ -30,8 +30,8 @@ Does plan base out m o Ok =
     Ends (base + cost_of plan o.log) out m (lay m.limit m.next (requests_of plan.layouts o.log)) o.end Ok
 
 -- the run returns words that represent the value
-abbrev pub Gives : Plan → Bool → Ty → Run → Value → World → Type 0
-Gives plan clean t out v w =
+abbrev pub GivesValue : Plan → Bool → Ty → Run → Value → World → Type 0
+GivesValue plan clean t out v w =
     (words : List ℕ) × (out ≡ over (Returned words w.left) w) × Rep plan w.memory clean t v words
 
 -- the code's calls do what the source's do: for each function of the program and represented arguments
@@ -40,4 +40,5 @@ Related plan calls callee =
     (clean : Bool) (g : ℕ) (f : Fun) (vs : List Value) (ws : List ℕ) (w : World)
     → slice_get plan.program.funs g ≡ Some f
     → IsGood w.memory → Reps plan w.memory clean (types_of f) vs ws
-    → Does plan w.switches (callee g ws w) w.memory (calls g w.left vs) (Gives plan clean f.result (callee g ws w))
+    → Does plan w.switches (callee g ws w) w.memory (calls g w.left vs)
+    (GivesValue plan clean f.result (callee g ws w))

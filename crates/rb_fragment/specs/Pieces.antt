@@ -19,8 +19,8 @@ pub record IsLater (most : ℕ) (w w' : World) : Type 0 where
   pub switches : w'.switches ≤ w.switches + most
 
 -- from a number on the run comes to an instruction and slots of which Exit holds; the first n slots are kept
-abbrev pub Reached : Next → ℕ → ℕ → ℕ → (ℕ → List ℕ → Memory → Type 0) → List ℕ → World → Type 0
-Reached next start n most Exit s w =
+abbrev pub ReachesExit : Next → ℕ → ℕ → ℕ → (ℕ → List ℕ → Memory → Type 0) → List ℕ → World → Type 0
+ReachesExit next start n most Exit s w =
     (pc : ℕ) × (s' : List ℕ) × (w' : World) × (next start s w ≡ next pc s' w') × Keeps n s s' × IsLater most w w'
     × Exit pc s' w.memory
 
@@ -33,7 +33,7 @@ pub record Piece (plan : Plan) (n : ℕ) (old new : Sheet) (Open : ℕ → Type 
   pub runs : (final : List Instr) (callee : Callee) (next : Next) → Law final callee next
       → AgreesBut final new.code (length old.code) (length new.code) Open
       → (s : List ℕ) (w : World) → new.slots ≤ length s → Pre s w.memory
-      → Reached next (length old.code) n most Exit s w
+      → ReachesExit next (length old.code) n most Exit s w
 
 -- the run comes to the end of the code, where Post holds
 abbrev pub AtEnd : Sheet → (List ℕ → Memory → Type 0) → ℕ → List ℕ → Memory → Type 0

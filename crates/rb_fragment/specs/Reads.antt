@@ -100,7 +100,7 @@ fits_share n = fold-Share Bool Bool (fits_step n) share_fits
 -- Making
 
 -- the appended code leaves what the read means in a slot, and keeps all slots that there were
-pub record Makes (plan : Plan) (read : Read) (old new : Sheet) (slot : ℕ) : Type 0 where
+pub record MakesReadIn (plan : Plan) (read : Read) (old new : Sheet) (slot : ℕ) : Type 0 where
   pub adds : Adds plan old new
   pub given : slot < new.slots
   pub runs : (x : ℕ) → Straight plan old.slots old new (λ s m. IsGood m × (mean read s m ≡ Some x))
@@ -108,4 +108,5 @@ pub record Makes (plan : Plan) (read : Read) (old new : Sheet) (slot : ℕ) : Ty
 
 -- whatever the plan, the appended code makes the read, if instructions can make it over the old slots
 abbrev pub MakesRead : Read → Sheet → Sheet → ℕ → Type 0
-MakesRead read old new slot = (plan : Plan) (k : ℕ) → k ≤ old.slots → fits k read ≡ true → Makes plan read old new slot
+MakesRead read old new slot =
+    (plan : Plan) (k : ℕ) → k ≤ old.slots → fits k read ≡ true → MakesReadIn plan read old new slot

@@ -20,8 +20,8 @@ IsOneOf n [] = ⊥
 IsOneOf n (x ∷ xs) = (n ≡ x) ⊎ IsOneOf n xs
 
 -- no slot of the one list is in the other
-abbrev pub AreApart : List ℕ → List ℕ → Type 0
-AreApart ds fs = (x : ℕ) → IsOneOf x ds → IsOneOf x fs → ⊥
+abbrev pub SlotsAreApart : List ℕ → List ℕ → Type 0
+SlotsAreApart ds fs = (x : ℕ) → IsOneOf x ds → IsOneOf x fs → ⊥
 
 -- no number stands twice in a list
 abbrev pub IsDistinct : List ℕ → Type 0
@@ -50,9 +50,9 @@ copied s (d ∷ ds) [] = s
 copied s (d ∷ ds) (f ∷ fs) = copied (slice_set s d (slice_index s f)) ds fs
 
 -- these instructions stand in the code `final`, one behind the other from number pc on
-abbrev pub Stands : List Instr → ℕ → List Instr → Type 0
-Stands final pc [] = Unit {0}
-Stands final pc (i ∷ is) = (slice_get final pc ≡ Some i) × Stands final (pc + 1) is
+abbrev pub CodeStands : List Instr → ℕ → List Instr → Type 0
+CodeStands final pc [] = Unit {0}
+CodeStands final pc (i ∷ is) = (slice_get final pc ≡ Some i) × CodeStands final (pc + 1) is
 
 -- code behind that of b: the words of `froms` are copied to the slots `into`, which several ways share, and a jump,
 -- which is to be set, leads to where the ways meet

@@ -5,7 +5,7 @@ use Rattle.std.proofs.lemmas.Bool.Decides.{eqb_tells}
 use Rattle.std.proofs.lemmas.Grind.{common_steps}
 use Rattle.rb_bits.specs.LittleEndian.{IsByteCount, from_le_bytes}
 use Rattle.rb_image_text.specs.declared.image.ImageBlock.{ImageBlock}
-use Rattle.rb_image.specs.Blocks.{is_width, number_in, word_from}
+use Rattle.rb_image.specs.Blocks.{is_width, number_in_block, word_from}
 
 abbrev Width : ℕ → Type 0
 Width w = (w ≡ 8) ⊎ (w ≡ 16) ⊎ (w ≡ 32) ⊎ (w ≡ 64)
@@ -30,4 +30,4 @@ le_is a b e = grind (arith, common_steps)
 pub word_found : (b : ImageBlock) (byte width n : ℕ) → is_width width ≡ true → nat_le (byte + width / 8) (length b.bytes) ≡ true
     → n ≡ from_le_bytes (slice_range b.bytes byte (byte + width / 8)) → Some n ≡ word_from b byte width
 word_found b byte width n wide within is =
-    ap Some is ∙ sym (ap (λ t. if t then number_in b.bytes byte (width / 8) else None) wide ∙ ap (λ t. if t then Some (from_le_bytes (slice_range b.bytes byte (byte + width / 8))) else None) within)
+    ap Some is ∙ sym (ap (λ t. if t then number_in_block b.bytes byte (width / 8) else None) wide ∙ ap (λ t. if t then Some (from_le_bytes (slice_range b.bytes byte (byte + width / 8))) else None) within)

@@ -34,10 +34,10 @@ use Rattle.rb_image_text.specs.declared.image.ImageBlock.{ImageBlock}
 use Rattle.rb_image.specs.declared.kept.Kept.{Kept}
 use Rattle.rb_image.specs.Blocks.{block_at}
 use Rattle.rb_image.specs.Orders.{block_order, order_of}
-use Rattle.rb_image.specs.Parts.{At, addresses_of, field_word, field_words, look, look_layout, look_leaf, place_at, places_of}
+use Rattle.rb_image.specs.Parts.{At, addresses_of, field_word, field_words, look, look_layout, look_leaf, place_at, places_of_leaf}
 use Rattle.rb_image.specs.Sound.{Looking}
 use Rattle.rb_image.specs.Splits.{and_then, leaf_at, nothing, word_at}
-use Rattle.rb_image.specs.inner.Ending.{depth_bound, EndBelow, Ends}
+use Rattle.rb_image.specs.inner.Ending.{depth_bound, EndBelow, DescentEnds}
 use Rattle.rb_image.proofs.EndLemmas.{ends_more}
 use Rattle.rb_image.proofs.FallLemmas.{AreBelow, AreLow, AreUnder, IsBelow, IsUnder, RootPart, below_under, each_word, examine_high, examine_low, field_below, field_under, less_high, none_known, nothing_below, one_or_all, same_Ok}
 use Rattle.rb_image.proofs.LeafLemmas.{some_words}
@@ -187,7 +187,7 @@ module _ (p : Program) (typed : IsTyped p) (agrees : Agrees p) (m : List ImageBl
     position_falls k o is_open (Named s) is q (inr h) = absurd h
     position_falls k o is_open (Named s) is q (inl e) = subst (Falls high t) (sym e) (field_falls k o is_open s is (layout_of layouts s) refl)
 
-    places_fall : (q : At) → In q (places_of p.types layouts m leaf ws ats) → Falls high t q
+    places_fall : (q : At) → In q (places_of_leaf p.types layouts m leaf ws ats) → Falls high t q
     places_fall q h =
         let r = in_flat_map (λ (o : Open). place_at layouts (field_word m ws ats (order_of leaf)) o.path o.ty) q (open_positions p.types leaf.prov) h in
         let g = in_get r.0 (open_positions p.types leaf.prov) r.1 in
@@ -199,10 +199,10 @@ module _ (p : Program) (typed : IsTyped p) (agrees : Agrees p) (m : List ImageBl
 
   module _ (t : ℕ) (ws : List Kept) (high : ℕ) (under : AreUnder high ws) (ps : List At) (q : At) (h : In q ps) where
     leaf_falls : (layout : Layout) → layout_of layouts t ≡ Some layout → (n : ℕ) (leaf : Leaf) → slice_get layout.leaves n ≡ Some leaf
-        → (r : Result (List ℕ) ImageFault) → addresses_of m leaf ws ≡ r → and_then r (λ ats. Ok (places_of p.types layouts m leaf ws ats)) ≡ Ok ps → Falls high t q
+        → (r : Result (List ℕ) ImageFault) → addresses_of m leaf ws ≡ r → and_then r (λ ats. Ok (places_of_leaf p.types layouts m leaf ws ats)) ≡ Ok ps → Falls high t q
     leaf_falls layout is n leaf at (Err f) examined e = absurd cc
     leaf_falls layout is n leaf at (Ok ats) examined e =
-        places_fall t ws high under layout is n leaf at ats examined q (subst (In q) (sym (same_Ok (places_of p.types layouts m leaf ws ats) ps e)) h)
+        places_fall t ws high under layout is n leaf at ats examined q (subst (In q) (sym (same_Ok (places_of_leaf p.types layouts m leaf ws ats) ps e)) h)
 
     number_falls : (layout : Layout) → layout_of layouts t ≡ Some layout → (n : ℕ) (o : Option Leaf) → slice_get layout.leaves n ≡ o → look_leaf p.types layouts m ws o ≡ Ok ps → Falls high t q
     number_falls layout is n None at e = absurd (none_in ps q e h)
@@ -283,26 +283,26 @@ module _ (p : Program) (typed : IsTyped p) (agrees : Agrees p) (m : List ImageBl
   all_in P [] all = tt
   all_in P (q ∷ ps) all = (all q (inl refl), all_in P ps (λ x h. all x (inr h)))
 
-  over : (k : ℕ) (x : At) (r : Result (List At) ImageFault) → L x ≡ r → ((ps : List At) → L x ≡ Ok ps → (q : At) → In q ps → Ends L k q) → EndBelow (Ends L k) r
+  over : (k : ℕ) (x : At) (r : Result (List At) ImageFault) → L x ≡ r → ((ps : List At) → L x ≡ Ok ps → (q : At) → In q ps → DescentEnds L k q) → EndBelow (DescentEnds L k) r
   over k x (Err f) is all = tt
-  over k x (Ok ps) is all = all_in (Ends L k) ps (all ps is)
+  over k x (Ok ps) is all = all_in (DescentEnds L k) ps (all ps is)
 
-  no_layout_ends : (k : ℕ) (q : At) → 1 ≤ k → layout_of layouts q.ty ≡ None → Ends L k q
+  no_layout_ends : (k : ℕ) (q : At) → 1 ≤ k → layout_of layouts q.ty ≡ None → DescentEnds L k q
   no_layout_ends k q some is =
       let e : L q ≡ Ok [] = ap (look_layout p.types layouts m q.words) is in
-      ends_more L 1 k q (subst (EndBelow (Ends L 0)) (sym e) tt) some
+      ends_more L 1 k q (subst (EndBelow (DescentEnds L 0)) (sym e) tt) some
 
   abbrev level : ℕ → ℕ → ℕ
   level high j = suc (high * suc count + suc j)
 
-  module _ (high : ℕ) (lower : (q : At) → 1 ≤ high → AreBelow high q.words → Ends L (suc (high * suc count)) q) where
+  module _ (high : ℕ) (lower : (q : At) → 1 ≤ high → AreBelow high q.words → DescentEnds L (suc (high * suc count)) q) where
     -- below a place: so many more types on the same height
-    next : (j : ℕ) (q : At) (t : ℕ) → Falls high t q → (R t q.ty → AreUnder high q.words → Ends L (high * suc count + suc j) q) → Ends L (high * suc count + suc j) q
+    next : (j : ℕ) (q : At) (t : ℕ) → Falls high t q → (R t q.ty → AreUnder high q.words → DescentEnds L (high * suc count + suc j) q) → DescentEnds L (high * suc count + suc j) q
     next j q t (inl bare) go = no_layout_ends (high * suc count + suc j) q (omega arith) bare
     next j q t (inr (inl h)) go = ends_more L (suc (high * suc count)) (high * suc count + suc j) q (lower q h.0 h.1) (omega arith)
     next j q t (inr (inr h)) go = go h.0 h.1
 
-    flat_ends : (j : ℕ) (us : List ℕ) (t : ℕ) (ws : List Kept) → AreUnder high ws → Trail us t → length us + j ≡ count → Ends L (level high j) (record { ty = t; words = ws })
+    flat_ends : (j : ℕ) (us : List ℕ) (t : ℕ) (ws : List Kept) → AreUnder high ws → Trail us t → length us + j ≡ count → DescentEnds L (level high j) (record { ty = t; words = ws })
     flat_ends zero us t ws under trail long = over (high * suc count + 1) (record { ty = t; words = ws }) (L (record { ty = t; words = ws })) refl (λ ps is q h.
         next zero q t (falls t ws high under ps q h is) (λ r u. absurd (let few = still_few us t q.ty trail r in omega (arith, few, long))))
     flat_ends (suc j) us t ws under trail long = over (high * suc count + suc (suc j)) (record { ty = t; words = ws }) (L (record { ty = t; words = ws })) refl (λ ps is q h.
@@ -312,12 +312,12 @@ module _ (p : Program) (typed : IsTyped p) (agrees : Agrees p) (m : List ImageBl
   mul-more : (a b : ℕ) → suc a * b ≡ b + a * b
   mul-more a b = omega arith
 
-  all_end : (high t : ℕ) (ws : List Kept) → AreUnder high ws → Ends L (level high count) (record { ty = t; words = ws })
+  all_end : (high t : ℕ) (ws : List Kept) → AreUnder high ws → DescentEnds L (level high count) (record { ty = t; words = ws })
   all_end zero t ws under = flat_ends zero (λ q some b. absurd (omega (arith, some))) count [] t ws under (begun t) (omega arith)
   all_end (suc high) t ws under =
       let e = mul-more high (suc count) in
       flat_ends (suc high) (λ q some b. ends_more L (level high count) (suc (suc high * suc count)) q (all_end high q.ty q.words (λ j. less_high high (word_at q.words j) (b j))) (omega (arith, e))) count [] t ws under (begun t) (omega arith)
 
-  pub descents_end : (high t : ℕ) (ws : List Kept) → AreUnder high ws → Ends L (depth_bound high count) (record { ty = t; words = ws })
+  pub descents_end : (high t : ℕ) (ws : List Kept) → AreUnder high ws → DescentEnds L (depth_bound high count) (record { ty = t; words = ws })
   unfolding depth_bound
   descents_end high t ws under = all_end high t ws under

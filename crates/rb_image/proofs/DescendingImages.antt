@@ -12,7 +12,7 @@ use Rattle.rb_core.specs.declared.layout_decl.Loc.{Loc}
 use Rattle.rb_bits.specs.Words.{take_of}
 use Rattle.rb_bytes.specs.Memory.{Memory}
 use Rattle.rb_layout.specs.A4.{IsBlockWidth}
-use Rattle.rb_layout.specs.A7.{Meets}
+use Rattle.rb_layout.specs.A7.{MeetsTest}
 use Rattle.rb_layout.specs.Agreement.{Agrees}
 use Rattle.rb_layout.specs.Flat.{IsFlat}
 use Rattle.rb_layout.specs.Flattening.{flat_layouts, type_at}
@@ -37,7 +37,7 @@ use Rattle.rb_image.specs.declared.kept.Kept.{Kept}
 use Rattle.rb_image.specs.Falling.{AreKept, Descends, DescendingImagesAreSound, HasWord, PointersFall, built, number}
 use Rattle.rb_image.specs.Memories.{image_memory}
 use Rattle.rb_image.specs.Orders.{order_of}
-use Rattle.rb_image.specs.Parts.{At, bits_at, field_word, field_words, look, look_layout, look_leaf, place_at, places_of}
+use Rattle.rb_image.specs.Parts.{At, bits_at, field_word, field_words, look, look_layout, look_leaf, place_at, places_of_leaf}
 use Rattle.rb_image.specs.Roots.{AllFit, RootIsSound, WordFits, kept_from, widths_of}
 use Rattle.rb_image.specs.Roots as Roots
 use Rattle.rb_image.specs.Sound.{IsSound, sound}
@@ -91,7 +91,7 @@ module _ (p : Program) (typed : IsTyped p) (agrees : Agrees p) (blocks : List Im
     read : (loc : Loc) (x : Reached) → reached_at leaf loc ≡ Some x → HasRange blocks xs ws m loc
     read = read_at blocks m is leaf flat wide ws b.subs b.ats from b.placed falls xs kept
 
-    met : (test : Test) → Meets types layouts leaf test → HasRange blocks xs ws m (loc_of test)
+    met : (test : Test) → MeetsTest types layouts leaf test → HasRange blocks xs ws m (loc_of test)
     met (Is loc c) h = read loc h.0.0 h.0.1
     met (IsNone loc cs) h = read loc h.0.0 h.0.1
 
@@ -108,14 +108,14 @@ module _ (p : Program) (typed : IsTyped p) (agrees : Agrees p) (blocks : List Im
     found = addresses blocks m is leaf flat wide ws b.subs b.ats from b.placed falls xs kept (low p typed agrees t b.layout b.number leaf b.is_layout b.is_number)
 
     abbrev places : List At
-    places = places_of types layouts blocks leaf xs found.found
+    places = places_of_leaf types layouts blocks leaf xs found.found
 
     looked : ◌≡◌ {A = Result (List At) ImageFault} (look types layouts blocks (record { ty = t; words = xs })) (Ok places)
     looked =
         let one : ◌≡◌ {A = Result (List At) ImageFault} (look types layouts blocks (record { ty = t; words = xs })) (look_layout types layouts blocks xs (Some b.layout)) = ap (look_layout types layouts blocks xs) b.is_layout in
         one ∙ ap (λ z. and_then z (λ n. look_leaf types layouts blocks xs (slice_get b.layout.leaves n))) leads
         ∙ ap (look_leaf types layouts blocks xs) b.is_number
-        ∙ ap (λ z. and_then z (λ ats. Ok (places_of types layouts blocks leaf xs ats))) found.is_found
+        ∙ ap (λ z. and_then z (λ ats. Ok (places_of_leaf types layouts blocks leaf xs ats))) found.is_found
 
     -- the places below it
     abbrev word : List ℕ → ℕ → Kept

@@ -12,8 +12,8 @@ use Rattle.rb_image.specs.declared.descent.Step.TheVariants.{Look, Note}
 use Rattle.rb_image.specs.declared.kept.Place.{Place}
 use Rattle.rb_image.specs.Given.{IsGiven}
 use Rattle.rb_image.specs.Parts.{At, at_of, ats_of}
-use Rattle.rb_image.specs.Sound.{Looking, IsSound, sound, HasFault, own, inner, IsFound}
-use Rattle.rb_image.specs.inner.Descending.{looks, AreSound, HaveFault, IsNoted, AreNoted, Stands}
+use Rattle.rb_image.specs.Sound.{Looking, IsSound, sound, HasFault, own, inner, SoundnessIsFound}
+use Rattle.rb_image.specs.inner.Descending.{looks, AreSound, HaveFault, IsNoted, AreNoted, DescentStands}
 use Rattle.rb_image.specs.inner.Knowing.{is_among, with_place}
 use Rattle.rb_image.proofs.KnownLemmas.{holds_among, holds_with}
 
@@ -129,12 +129,12 @@ module _ (look : Looking) where
   ]
 
   -- Turns ------------------------------------------------------------------------------------
-  module _ (root : At) (known : List At) (todo rest : List Step) (s : Step) (pops : todo ≡ rest ++ s ∷ []) (stands : Stands look root known todo) where
-    stood : Stands look root known (rest ++ s ∷ [])
-    stood = subst (Stands look root known) pops stands
+  module _ (root : At) (known : List At) (todo rest : List Step) (s : Step) (pops : todo ≡ rest ++ s ∷ []) (stands : DescentStands look root known todo) where
+    stood : DescentStands look root known (rest ++ s ∷ [])
+    stood = subst (DescentStands look root known) pops stands
 
     replaced : (after : List At) (ts : List Step) → AllByRecursion (IsSound look) after → (AreSound look ts → AreSound look (s ∷ []))
-        → ((f : ImageFault) → HaveFault look ts f → HaveFault look (s ∷ []) f) → AreNoted look ts → Stands look root after (rest ++ ts)
+        → ((f : ImageFault) → HaveFault look ts f → HaveFault look (s ∷ []) f) → AreNoted look ts → DescentStands look root after (rest ++ ts)
     replaced after ts all go to here = record {
       found = all;
       sound = λ h. stood.sound (sound_over rest ts (s ∷ []) go h);
@@ -143,16 +143,16 @@ module _ (look : Looking) where
     }
 
     -- nothing is left of the step
-    done : (after : List At) → AllByRecursion (IsSound look) after → AreSound look (s ∷ []) → Stands look root after rest
-    done after all h = subst (Stands look root after) (append-nil rest) (replaced after [] all (λ x. h) (λ f x. absurd x) tt)
+    done : (after : List At) → AllByRecursion (IsSound look) after → AreSound look (s ∷ []) → DescentStands look root after rest
+    done after all h = subst (DescentStands look root after) (append-nil rest) (replaced after [] all (λ x. h) (λ f x. absurd x) tt)
 
-    pub noted_turn : (p : Place) → s ≡ Note p → (after : List At) → after ≡ with_place known (at_of p) → Stands look root after rest
+    pub noted_turn : (p : Place) → s ≡ Note p → (after : List At) → after ≡ with_place known (at_of p) → DescentStands look root after rest
     noted_turn p is after with_it =
         let n : AreNoted look (Note p ∷ []) = subst (λ x. AreNoted look (x ∷ [])) is (noted_right rest (s ∷ []) stood.noted) in
         done after (subst (AllByRecursion (IsSound look)) (sym with_it) (holds_with (IsSound look) known (at_of p) stood.found (n.0 tt)))
         (subst (λ x. AreSound look (x ∷ [])) (sym is) (tt, tt))
 
-    pub known_turn : (p : Place) → s ≡ Look p → is_among known (at_of p) ≡ true → Stands look root known rest
+    pub known_turn : (p : Place) → s ≡ Look p → is_among known (at_of p) ≡ true → DescentStands look root known rest
     known_turn p is among = done known stood.found (subst (λ x. AreSound look (x ∷ [])) (sym is) (holds_among (IsSound look) known (at_of p) stood.found among, tt))
 
     module _ (p : Place) (is : s ≡ Look p) where
@@ -164,10 +164,10 @@ module _ (look : Looking) where
           let x = subst (λ qs. FirstOf qs f) same (looks_fault ps f h) in
           inner (at_of p) below x.number x.place f e x.is x.before x.fault
 
-      pub look_turn : (r : Result (List At) ImageFault) → look (at_of p) ≡ r → (ps : List Place) → IsGiven ats_of r (Ok ps) → (new : List Step) → new ≡ rest ++ Note p ∷ looks ps → Stands look root known new
+      pub look_turn : (r : Result (List At) ImageFault) → look (at_of p) ≡ r → (ps : List Place) → IsGiven ats_of r (Ok ps) → (new : List Step) → new ≡ rest ++ Note p ∷ looks ps → DescentStands look root known new
       look_turn (Err e) at ps given new is_new = absurd given
       look_turn (Ok below) at ps given new is_new =
-          subst (Stands look root known) (sym is_new) (replaced known (Note p ∷ looks ps) stood.found
+          subst (DescentStands look root known) (sym is_new) (replaced known (Note p ∷ looks ps) stood.found
           (λ h. subst (λ x. AreSound look (x ∷ [])) (sym is) (all_below ps below at given h.1, tt))
           (λ f h. subst (λ x. HaveFault look (x ∷ []) f) (sym is) (local f h))
           (λ h. all_below ps below at given h, looks_noted ps))
@@ -184,17 +184,17 @@ module _ (look : Looking) where
           inl (stood.fault f (fault_right rest (s ∷ []) f (subst (λ x. HaveFault look (x ∷ []) f) (sym is) (inr (tt, h)))))
 
   -- the first turn, and the last
-  pub begins : (root : Place) (todo : List Step) → todo ≡ Look root ∷ [] → Stands look (at_of root) [] todo
-  begins root todo is = subst (Stands look (at_of root) []) (sym is) (record { found = tt; sound = λ h. h.0; fault = from; noted = (tt, tt) })
+  pub begins : (root : Place) (todo : List Step) → todo ≡ Look root ∷ [] → DescentStands look (at_of root) [] todo
+  begins root todo is = subst (DescentStands look (at_of root) []) (sym is) (record { found = tt; sound = λ h. h.0; fault = from; noted = (tt, tt) })
     where
       from : (f : ImageFault) → HaveFault look (Look root ∷ []) f → HasFault look (at_of root) f
       from f (inl h) = absurd h
       from f (inr h) = h.1
 
-  pub ends_sound : (root : At) (known : List At) (todo : List Step) → todo ≡ [] → Stands look root known todo → IsSound look root
-  ends_sound root known todo is stands = (subst (Stands look root known) is stands).sound tt
+  pub ends_sound : (root : At) (known : List At) (todo : List Step) → todo ≡ [] → DescentStands look root known todo → IsSound look root
+  ends_sound root known todo is stands = (subst (DescentStands look root known) is stands).sound tt
 
   -- a fault that is handed on
-  pub found_on : {A : Type 0} (p : At) (r : Result A ImageFault) (e : ImageFault) → IsErr r → IsErrAnd r (λ x. x ≡ e) → HasFault look p e ⊎ (e ≡ NoMemory) → IsFound look p r
+  pub found_on : {A : Type 0} (p : At) (r : Result A ImageFault) (e : ImageFault) → IsErr r → IsErrAnd r (λ x. x ≡ e) → HasFault look p e ⊎ (e ≡ NoMemory) → SoundnessIsFound look p r
   found_on p (Ok b) e is same h = absurd (false≢true is)
   found_on p (Err x) e is same h = subst (λ y. HasFault look p y ⊎ (y ≡ NoMemory)) (sym same) h

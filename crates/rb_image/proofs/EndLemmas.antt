@@ -9,7 +9,7 @@ use Rattle.rb_image.specs.Given.{IsGiven}
 use Rattle.rb_image.specs.Parts.{At, at_of, ats_of}
 use Rattle.rb_image.specs.Sound.{Looking}
 use Rattle.rb_image.specs.inner.Descending.{looks}
-use Rattle.rb_image.specs.inner.Ending.{EndBelow, Ends, total, steps_below, steps, AllEnd, weight, weights}
+use Rattle.rb_image.specs.inner.Ending.{EndBelow, DescentEnds, total, steps_below, steps, AllEnd, weight, weights}
 
 all_more : (P Q : At → Type 0) → ((p : At) → P p → Q p) → (ps : List At) → AllByRecursion P ps → AllByRecursion Q ps
 all_more P Q go [] h = tt
@@ -29,15 +29,15 @@ steps_same P f g same (Ok ps) h = ap (λ n. 1 + n) (total_same P f g same ps h)
 
 module _ (look : Looking) where
   -- a greater bound is one too
-  pub ends_more : (n k : ℕ) (p : At) → Ends look n p → n ≤ k → Ends look k p
+  pub ends_more : (n k : ℕ) (p : At) → DescentEnds look n p → n ≤ k → DescentEnds look k p
   ends_more zero k p h le = absurd h
   ends_more (suc n) zero p h le = absurd (omega (arith, le))
-  ends_more (suc n) (suc k) p h le = below_more (Ends look n) (Ends look k) (λ q x. ends_more n k q x (omega (arith, le))) (look p) h
+  ends_more (suc n) (suc k) p h le = below_more (DescentEnds look n) (DescentEnds look k) (λ q x. ends_more n k q x (omega (arith, le))) (look p) h
 
-  same_steps : (n k : ℕ) (p : At) → Ends look n p → n ≤ k → steps look k p ≡ steps look n p
+  same_steps : (n k : ℕ) (p : At) → DescentEnds look n p → n ≤ k → steps look k p ≡ steps look n p
   same_steps zero k p h le = absurd h
   same_steps (suc n) zero p h le = absurd (omega (arith, le))
-  same_steps (suc n) (suc k) p h le = ap (λ x. 1 + x) (steps_same (Ends look n) (steps look k) (steps look n) (λ q x. same_steps n k q x (omega (arith, le))) (look p) h)
+  same_steps (suc n) (suc k) p h le = ap (λ x. 1 + x) (steps_same (DescentEnds look n) (steps look k) (steps look n) (λ q x. same_steps n k q x (omega (arith, le))) (look p) h)
 
   module _ (n : ℕ) where
     weights-append : (ss ts : List Step) → weights look n (ss ++ ts) ≡ weights look n ss + weights look n ts
@@ -56,7 +56,7 @@ module _ (look : Looking) where
     end_both [] ts h g = g
     end_both (s ∷ ss) ts h g = (h.0, end_both ss ts h.1 g)
 
-    looks_end : (ps : List Place) → AllByRecursion (Ends look n) (ats_of ps) → AllEnd look n (looks ps)
+    looks_end : (ps : List Place) → AllByRecursion (DescentEnds look n) (ats_of ps) → AllEnd look n (looks ps)
     looks_end [] h = tt
     looks_end (p ∷ ps) h = end_both (looks ps) (Look p ∷ []) (looks_end ps h.1) (h.0, tt)
 
@@ -74,7 +74,7 @@ module _ (look : Looking) where
       pub note_less : (p : Place) → s ≡ Note p → weights look n rest < weights look n todo
       note_less p is = let e = heavy ∙ ap (λ x. weights look n rest + (weight look n x + 0)) is in omega (arith, e)
 
-  some_steps : (n : ℕ) (p : At) → Ends look n p → 0 < steps look n p
+  some_steps : (n : ℕ) (p : At) → DescentEnds look n p → 0 < steps look n p
   some_steps zero p h = absurd h
   some_steps (suc n) p h = omega arith
 
@@ -83,19 +83,19 @@ module _ (look : Looking) where
     ends : AllEnd look n (Note p ∷ looks ps)
     less : weights look n (Note p ∷ looks ps) < steps look n (at_of p)
 
-  lighter : (n : ℕ) (p : Place) (r : Result (List At) ImageFault) → look (at_of p) ≡ r → Ends look n (at_of p) → (ps : List Place) → IsGiven ats_of r (Ok ps) → Lighter n p ps
+  lighter : (n : ℕ) (p : Place) (r : Result (List At) ImageFault) → look (at_of p) ≡ r → DescentEnds look n (at_of p) → (ps : List Place) → IsGiven ats_of r (Ok ps) → Lighter n p ps
   lighter zero p r at h ps given = absurd h
   lighter (suc n) p (Err e) at h ps given = absurd given
   lighter (suc n) p (Ok below) at h ps given =
-      let all : AllByRecursion (Ends look n) (ats_of ps) = subst (AllByRecursion (Ends look n)) (sym given) (subst (EndBelow (Ends look n)) at h) in
-      let more = all_more (Ends look n) (Ends look (suc n)) (λ q x. ends_more n (suc n) q x (omega arith)) (ats_of ps) all in
+      let all : AllByRecursion (DescentEnds look n) (ats_of ps) = subst (AllByRecursion (DescentEnds look n)) (sym given) (subst (EndBelow (DescentEnds look n)) at h) in
+      let more = all_more (DescentEnds look n) (DescentEnds look (suc n)) (λ q x. ends_more n (suc n) q x (omega arith)) (ats_of ps) all in
       let a = looks_weigh (suc n) ps in
-      let b = total_same (Ends look n) (steps look (suc n)) (steps look n) (λ q x. same_steps n (suc n) q x (omega arith)) (ats_of ps) all in
+      let b = total_same (DescentEnds look n) (steps look (suc n)) (steps look n) (λ q x. same_steps n (suc n) q x (omega arith)) (ats_of ps) all in
       let c : steps look (suc n) (at_of p) ≡ 1 + (1 + total (steps look n) (ats_of ps)) = ap (λ r. 1 + steps_below (steps look n) r) at ∙ ap (λ qs. 1 + (1 + total (steps look n) qs)) (sym given) in
       record { ends = (tt, looks_end (suc n) ps more); less = omega (arith, a, b, c) }
 
   module _ (n : ℕ) (todo rest : List Step) (s : Step) (pops : todo ≡ rest ++ s ∷ []) (p : Place) (is : s ≡ Look p) (h : AllEnd look n todo) where
-    ends_here : Ends look n (at_of p)
+    ends_here : DescentEnds look n (at_of p)
     ends_here = let x = end_right n rest (s ∷ []) (subst (AllEnd look n) pops h) in (subst (λ t. AllEnd look n (t ∷ [])) is x).0
 
     weighs : weights look n todo ≡ weights look n rest + (steps look n (at_of p) + 0)

@@ -13,7 +13,7 @@ use Rattle.rb_image_text.specs.declared.fault.ImageFault.TheVariants.{BadBits, B
 use Rattle.rb_image_text.specs.declared.image.ImageBlock.{ImageBlock}
 use Rattle.rb_image.specs.declared.kept.Kept.{Kept}
 use Rattle.rb_image.specs.Blocks.{size_at}
-use Rattle.rb_image.specs.Falling.{Falls}
+use Rattle.rb_image.specs.Falling.{AddressFalls}
 use Rattle.rb_image.specs.Orders.{PartAt}
 use Rattle.rb_image.specs.Parts.{bits_at, block_from, block_size, examine, examine_kind, examine_part, followed, if_size, kept_at}
 use Rattle.rb_image.specs.Splits.{and_then, or_fault, pointed_from, range_of}
@@ -56,12 +56,12 @@ module _ (m : List ImageBlock) (leaf : Leaf) (ws : List Kept) where
   block_is (Some at) size a e = let r = sized at size a (size_at m at) refl e in (ap Some r.0, r.1)
 
   pub followed_is : (bits : Kept) (align b at : ℕ) → ◌≡◌ {A = Result ℕ ImageFault} (followed m leaf bits align b) (Ok at)
-      → (bits.number * align ≡ at) × (size_at m at ≡ Some (block_size (slice_get leaf.blocks b))) × Falls bits.base at
+      → (bits.number * align ≡ at) × (size_at m at ≡ Some (block_size (slice_get leaf.blocks b))) × AddressFalls bits.base at
   followed_is bits align b at e =
       let target = bits.number * align in
       let r = block_is (pointed_from bits.base target) (block_size (slice_get leaf.blocks b)) at (or_ok _ (BadPointer bits.base target) at e) in
       let q = pointed_is bits.base target at r.0 in
-      (q.0, r.1, subst (Falls bits.base) q.0 q.2)
+      (q.0, r.1, subst (AddressFalls bits.base) q.0 q.2)
 
   -- what is examined of a part, where these are the addresses of blocks
   abbrev pub FineKind : List ℕ → Kept → Kind → Type 0
@@ -69,7 +69,7 @@ module _ (m : List ImageBlock) (leaf : Leaf) (ws : List Kept) where
   FineKind ats bits (Bits path a) = Unit {0}
   FineKind ats bits (Word path j) = Unit {0}
   FineKind ats bits (Pointer align b) = (bits.number * align ≡ slice_index ats b) × (size_at m (slice_index ats b) ≡ Some (block_size (slice_get leaf.blocks b)))
-      × Falls bits.base (slice_index ats b)
+      × AddressFalls bits.base (slice_index ats b)
 
   abbrev pub IsFine : List ℕ → PartAt → Type 0
   IsFine ats s = FineKind ats (bits_at m ws ats s) s.part.kind
@@ -123,7 +123,7 @@ module _ (m : List ImageBlock) (leaf : Leaf) (ws : List Kept) where
         let none : pointing b ss ≡ 0 = omega (arith, one, few) in
         let is : slice_index new b ≡ at =
         keeps b ss found new none rest ∙ ap (λ xs. slice_index xs b) (sym (same_Ok (slice_set ats b at) found r.2)) ∙ get_or-set_same ats b at 0 (omega (arith, long, lt)) in
-        (f.0 ∙ sym is, ap (size_at m) is ∙ f.1, subst (Falls bits.base) (sym is) f.2)
+        (f.0 ∙ sym is, ap (size_at m) is ∙ f.1, subst (AddressFalls bits.base) (sym is) f.2)
 
     block_kept : (ats : List ℕ) (s : PartAt) (o : Option ℕ) → ((b : ℕ) → o ≡ Some b → slice_index new b ≡ slice_index ats b) → kept_at m ws ats o s ≡ kept_at m ws new o s
     block_kept ats s None same = refl

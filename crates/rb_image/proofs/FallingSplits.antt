@@ -7,12 +7,12 @@ use Rattle.rb_core.specs.declared.layout_decl.Loc.{Loc}
 use Rattle.rb_bytes.specs.Memory.{Memory}
 use Rattle.rb_layout.specs.declared.layout.FlatTree.{FlatTree, Split, Leaf}
 use Rattle.rb_layout.specs.declared.layout.FlatArm.{FlatArm}
-use Rattle.rb_layout.specs.A7.{IsAbove}
+use Rattle.rb_layout.specs.A7.{IsTestAbove}
 use Rattle.rb_layout.specs.Splits.{Test, Is, IsNone, Route, behind, Under, arm_routes, else_routes, literals_of, routes_of, routes_under}
 use Rattle.rb_layout.proofs.FlatForms.{Each, tree-induction}
 use Rattle.rb_rel.proofs.Lists.{get-append, get-left, get-mapped, get-right}
 use Rattle.rb_coding.specs.Arms.{under_number}
-use Rattle.rb_coding.specs.inner.Leading.{Leads}
+use Rattle.rb_coding.specs.inner.Leading.{RouteLeads}
 use Rattle.rb_coding.proofs.SplitLemmas.{leaf_only, turn}
 use Rattle.rb_image_text.specs.declared.fault.ImageFault.{ImageFault}
 use Rattle.rb_image_text.specs.declared.image.ImageBlock.{ImageBlock}
@@ -84,10 +84,10 @@ behind_arms loc cs (a ∷ arms) other n next e k r at = go (λ h. behind_arms lo
 module _ (blocks : List ImageBlock) (xs : List Kept) (ws : List ℕ) (m : Memory) (leaf : ℕ) where
   -- each location on the ways to the leaf
   abbrev pub HaveRanges : FlatTree → Type 0
-  HaveRanges tree = (test : Test) → IsAbove tree leaf test → HasRange blocks xs ws m (loc_of test)
+  HaveRanges tree = (test : Test) → IsTestAbove tree leaf test → HasRange blocks xs ws m (loc_of test)
 
   abbrev IsLed : FlatTree → Type 0
-  IsLed tree = Leads ws m tree leaf → HaveRanges tree → ◌≡◌ {A = Result ℕ ImageFault} (leaf_at tree blocks xs) (Ok leaf)
+  IsLed tree = RouteLeads ws m tree leaf → HaveRanges tree → ◌≡◌ {A = Result ℕ ImageFault} (leaf_at tree blocks xs) (Ok leaf)
 
   led_under : (arms : List FlatArm) (other : Option FlatTree) → Each (λ (a : FlatArm). IsLed a.under) arms → ((next : FlatTree) → other ≡ Some next → IsLed next)
       → (n : ℕ) (next : FlatTree) → under_number arms other n ≡ Some next → IsLed next

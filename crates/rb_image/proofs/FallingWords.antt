@@ -22,7 +22,7 @@ use Rattle.rb_layout.specs.declared.layout.Kind.{Kind}
 use Rattle.rb_layout.specs.declared.layout.Leaf.{Leaf}
 use Rattle.rb_layout.specs.declared.layout.Part.{Part}
 use Rattle.rb_layout.specs.declared.layout.WordRef.{WordRef}
-use Rattle.rb_rel.specs.Reading.{Stands, after, read_first, read_from, read_loc}
+use Rattle.rb_rel.specs.Reading.{WordStands, after, read_first, read_from, read_loc}
 use Rattle.rb_rel.specs.Relation.{HoldsKind, IsFound, Placed}
 use Rattle.rb_rel.proofs.Lists.{and_true}
 use Rattle.rb_rel.proofs.Reading.{IsAt, block_in-is, stands_at, word_beginning-is}
@@ -31,7 +31,7 @@ use Rattle.rb_image_text.specs.declared.fault.ImageFault.TheVariants.{BadPointer
 use Rattle.rb_image_text.specs.declared.image.ImageBlock.{ImageBlock}
 use Rattle.rb_image.specs.declared.kept.Kept.{Kept}
 use Rattle.rb_image.specs.Blocks.{size_at, word_in}
-use Rattle.rb_image.specs.Falling.{Falls, PointersFall, base_in}
+use Rattle.rb_image.specs.Falling.{AddressFalls, PointersFall, base_in}
 use Rattle.rb_image.specs.Parts.{block_from, block_size, followed, if_size, kept_at}
 use Rattle.rb_image.specs.Splits.{and_then, kept_in, or_fault, pointed_from, range_at, range_from, range_of, step_over, with_base, word_at}
 use Rattle.rb_image.proofs.FoundWords.{in_block}
@@ -49,11 +49,11 @@ or_true : (b : Bool) → (b || true) ≡ true
 or_true true = refl
 or_true false = refl
 
-falls_or : (base at : ℕ) → Falls base at → ((base == 0) || nat_lt at base) ≡ true
+falls_or : (base at : ℕ) → AddressFalls base at → ((base == 0) || nat_lt at base) ≡ true
 falls_or base at (inl z) = ap (λ t. t || nat_lt at base) (ap (λ k. k == 0) z ∙ same_is 0)
 falls_or base at (inr lt) = ap (λ t. (base == 0) || t) (lt_true at base lt) ∙ or_true (base == 0)
 
-pointed : (base at : ℕ) → at < 18446744073709551616 → Falls base at → pointed_from base at ≡ Some at
+pointed : (base at : ℕ) → at < 18446744073709551616 → AddressFalls base at → pointed_from base at ≡ Some at
 pointed base at lt f =
     ap (λ t. if t then Some at else None)
     (and_true (nat_lt at 18446744073709551616) ((base == 0) || nat_lt at base) (lt_true at 18446744073709551616 lt) (falls_or base at f))
@@ -116,7 +116,7 @@ module _ (blocks : List ImageBlock) (m : Memory) (is : IsWhole blocks m) where
     module _ (r : WordRef) (l align b : ℕ) (points : PointsTo leaf r l align b) (bits : Kept)
         (number : bits.number * align ≡ ats b) (base : bits.base ≡ base_in from ats r.block r.word) where
       pointer_falls : M.size_at m.blocks (ats b) ≡ Some (size_of (flat.below r l align b points).0.0) → pointed_from bits.base (ats b) ≡ Some (ats b)
-      pointer_falls there = pointed bits.base (ats b) (small (ats b) (size_of (flat.below r l align b points).0.0) there) (subst (λ k. Falls k (ats b)) (sym base) (falls r l align b points))
+      pointer_falls there = pointed bits.base (ats b) (small (ats b) (size_of (flat.below r l align b points).0.0) there) (subst (λ k. AddressFalls k (ats b)) (sym base) (falls r l align b points))
 
       block_there : M.size_at m.blocks (ats b) ≡ Some (size_of (flat.below r l align b points).0.0)
       block_there = let block = (flat.below r l align b points).0 in placed.blocks b block.0 block.1
@@ -146,7 +146,7 @@ module _ (blocks : List ImageBlock) (m : Memory) (is : IsWhole blocks m) where
 
     -- Locations ----------------------------------------------------------------------------
     abbrev At : WordRef → FlatWord → ℕ → Type 0
-    At = Stands leaf ws m false subs ats
+    At = WordStands leaf ws m false subs ats
 
     -- from a range on, the steps lead to what is read in the memory
     record Ranged (range : Kept) (w o l : ℕ) (steps : List Step) : Type 0 where

@@ -15,7 +15,7 @@ use Rattle.rb_image_text.specs.declared.image.ImageBlock.{ImageBlock}
 use Rattle.rb_image_text.specs.Images.{AreBlocks}
 use Rattle.rb_image_text.specs.Places.{AreInPlace}
 use Rattle.rb_image_text.proofs.PlaceLemmas.{end_next}
-use Rattle.rb_image.specs.Memories.{Stand, Stands}
+use Rattle.rb_image.specs.Memories.{Stand, BlockStands}
 use Rattle.rb_image.specs.inner.Filling.{AreStored, StandBefore, with_next}
 use Rattle.rb_image.proofs.StandLemmas.{stands_extends}
 
@@ -150,7 +150,7 @@ module _ (old m placed new : Memory) (b : ImageBlock) (ext : Extends old m) (goo
     written = λ a v at. let lt = written_below m a v good at in s.below a (omega (arith, lt, next)) ∙ at;
   })
 
-  pub block_stands : Stands new b
+  pub block_stands : BlockStands new b
   block_stands = record {
     size = ap (λ bs. size_at bs b.at) s.blocks ∙ found_next m (with_next m (length b.bytes)) b.at (length b.bytes) good next refl;
     bytes = λ i n at. s.written i n (slice_get_within b.bytes i n at) at;
@@ -172,7 +172,7 @@ module _ (blocks : List ImageBlock) (placed : AreInPlace blocks) (i : ℕ) (b : 
   pub stand_room : b.at + length b.bytes ≤ m.limit
   stand_room = s.room i b is
 
-  pub stand_more : (new : Memory) → Extends m new → Stands new b → new.next ≡ b.at + length b.bytes → IsGood new → StandBefore blocks (i + 1) new
+  pub stand_more : (new : Memory) → Extends m new → BlockStands new b → new.next ≡ b.at + length b.bytes → IsGood new → StandBefore blocks (i + 1) new
   stand_more new ext stands next good = record {
     good = good;
     room = λ k c at. (let fits = s.room k c at in let same = ext.limit in omega (arith, fits, same));
@@ -181,7 +181,7 @@ module _ (blocks : List ImageBlock) (placed : AreInPlace blocks) (i : ℕ) (b : 
       | inl before ↦ stands_extends m new c ext (s.stand k c before at)
       | inr past ↦
           let same : k ≡ i = omega (arith, below, past) in
-          subst (Stands new) (same_Some b c (sym is ∙ ap (λ j. slice_get blocks j) (sym same) ∙ at)) stands
+          subst (BlockStands new) (same_Some b c (sym is ∙ ap (λ j. slice_get blocks j) (sym same) ∙ at)) stands
     ];
   }
 

@@ -23,7 +23,7 @@ use Rattle.rb_image.specs.declared.kept.Kept.{Kept}
 use Rattle.rb_image.specs.Blocks.{block_at, size_at, size_in, is_width, word_in, word_of}
 use Rattle.rb_image.specs.Parts.{kept_at}
 use Rattle.rb_image.specs.Splits.{nothing, word_at}
-use Rattle.rb_image.specs.Values.{Keeps}
+use Rattle.rb_image.specs.Values.{KeepsImage}
 use Rattle.rb_image.proofs.BlockLemmas.{word_found}
 use Rattle.rb_image.proofs.PlacedSpots.{spot_of}
 
@@ -62,7 +62,7 @@ le_true a b le = grind (arith, common_steps)
 abbrev pub numbers : List Kept → List ℕ
 numbers ws = map (λ (w : Kept). w.number) ws
 
-module _ (blocks : List ImageBlock) (m : Memory) (keeps : Keeps blocks m) where
+module _ (blocks : List ImageBlock) (m : Memory) (keeps : KeepsImage blocks m) where
   -- a word that lies in a block of a known size
   pub record InBlock (at byte width : ℕ) : Type 0 where
     pub w : ℕ

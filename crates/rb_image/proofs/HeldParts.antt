@@ -47,7 +47,7 @@ use Rattle.rb_image.specs.Parts.{bits_at, field_word, field_words}
 use Rattle.rb_image.specs.PathParts.{IsPartThere}
 use Rattle.rb_image.specs.Peeking.{words_there}
 use Rattle.rb_image.specs.Rebuilds.{end_of, numbers_of, rebuilt, unless_refused, words_of}
-use Rattle.rb_image.specs.RebuiltValues.{AreRight, IsInner, Stands, is_plain}
+use Rattle.rb_image.specs.RebuiltValues.{AreRight, IsInner, ValueStands, is_plain}
 use Rattle.rb_image.specs.Roots.{kept_from}
 use Rattle.rb_image.specs.TakenApart.{open_words}
 use Rattle.rb_image.specs.Splits.{leaf_at}
@@ -219,7 +219,7 @@ module _ (p : Program) (typed : IsTyped p) (agrees : Agrees p) (blocks : List Im
         let found = λ (l : Leaf). numbers_of (field_words (field_word blocks w.last.words (reached blocks l w.last.words) (order_of l)) o.path 0 (word_count layouts (Named s))) in
         ap found st.is_leaf ∙ fields_numbers p typed agrees blocks m is w.last.ty st.u st.ws st.from st.b st.inner st.falls st.are_kept reps w.last.words st.kept k o e s is_named
 
-    stands_end : (x : Extra w st.u) → (w.last.at ≡ [] → ⊥) → Stands p m blocks (end_of types layouts blocks w) x.part w.here.pat w.here.ty
+    stands_end : (x : Extra w st.u) → (w.last.at ≡ [] → ⊥) → ValueStands p m blocks (end_of types layouts blocks w) x.part w.here.pat w.here.ty
     stands_end x within = record {
       is_pat = refl;
       is_ty = refl;

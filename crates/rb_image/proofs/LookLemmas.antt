@@ -14,7 +14,7 @@ use Rattle.rb_image_text.specs.declared.fault.ImageFault.TheVariants.{Memory as 
 use Rattle.rb_image_text.specs.declared.image.ImageBlock.{ImageBlock}
 use Rattle.rb_image.specs.declared.kept.Kept.{Kept}
 use Rattle.rb_image.specs.Orders.{PartAt, order_of}
-use Rattle.rb_image.specs.Parts.{At, addresses_of, field_word, look, look_layout, look_leaf, place_at, places_of}
+use Rattle.rb_image.specs.Parts.{At, addresses_of, field_word, look, look_layout, look_leaf, place_at, places_of_leaf}
 use Rattle.rb_image.specs.Splits.{and_then, leaf_at}
 use Rattle.rb_image.specs.Given.{IsGiven}
 
@@ -56,21 +56,21 @@ module _ (types : List DataDecl) (layouts : List Layout) (m : List ImageBlock) (
       no_leaf none = at_number ∙ ap (look_leaf types layouts m ws) none
 
       module _ (leaf : Leaf) (is_leaf : slice_get layout.leaves n ≡ Some leaf) where
-        look_is : look types layouts m place ≡ and_then (addresses_of m leaf ws) (λ ats. Ok (places_of types layouts m leaf ws ats))
+        look_is : look types layouts m place ≡ and_then (addresses_of m leaf ws) (λ ats. Ok (places_of_leaf types layouts m leaf ws ats))
         look_is = at_number ∙ ap (look_leaf types layouts m ws) is_leaf
 
         pub addresses_err : {B C : Type 0} (f : B → List ℕ) (g : C → List At) (fault : ImageFault) → IsGiven f (addresses_of m leaf ws) (Err fault) → IsGiven g (look types layouts m place) (Err fault)
         addresses_err {B} {C} f g fault h = subst (λ due. IsGiven g due (Err fault)) (sym look_is) (by (addresses_of m leaf ws) h)
           where
-            by : (due : Result (List ℕ) ImageFault) → IsGiven f due (Err fault) → IsGiven g (and_then due (λ ats. Ok (places_of types layouts m leaf ws ats))) (Err fault)
+            by : (due : Result (List ℕ) ImageFault) → IsGiven f due (Err fault) → IsGiven g (and_then due (λ ats. Ok (places_of_leaf types layouts m leaf ws ats))) (Err fault)
             by (Ok ats) x = x
             by (Err e) x = x
 
-        pub addresses_ok : {B : Type 0} (f : B → List ℕ) (b : B) → IsGiven f (addresses_of m leaf ws) (Ok b) → look types layouts m place ≡ Ok (places_of types layouts m leaf ws (f b))
+        pub addresses_ok : {B : Type 0} (f : B → List ℕ) (b : B) → IsGiven f (addresses_of m leaf ws) (Ok b) → look types layouts m place ≡ Ok (places_of_leaf types layouts m leaf ws (f b))
         addresses_ok {B} f b h = look_is ∙ by (addresses_of m leaf ws) h
           where
-            by : (due : Result (List ℕ) ImageFault) → IsGiven f due (Ok b) → and_then due (λ ats. Ok (places_of types layouts m leaf ws ats)) ≡ Ok (places_of types layouts m leaf ws (f b))
-            by (Ok ats) x = ap (λ a. Ok (places_of types layouts m leaf ws a)) (sym x)
+            by : (due : Result (List ℕ) ImageFault) → IsGiven f due (Ok b) → and_then due (λ ats. Ok (places_of_leaf types layouts m leaf ws ats)) ≡ Ok (places_of_leaf types layouts m leaf ws (f b))
+            by (Ok ats) x = ap (λ a. Ok (places_of_leaf types layouts m leaf ws a)) (sym x)
             by (Err e) x = absurd x
 
         -- the places that the open positions of its provenance give
@@ -79,10 +79,10 @@ module _ (types : List DataDecl) (layouts : List Layout) (m : List ImageBlock) (
 
         -- the places that were added are those of the leaf
         pub places_given : {C : Type 0} (g : C → List At) (c : C) (ts : List DataDecl) (ls : List Layout) (xs : List Kept) (order : List PartAt) (ats found : List ℕ) (before : List At)
-            → look types layouts m place ≡ Ok (places_of types layouts m leaf ws ats) → ts ≡ types → ls ≡ layouts → xs ≡ ws → order ≡ order_of leaf → found ≡ ats → before ≡ []
+            → look types layouts m place ≡ Ok (places_of_leaf types layouts m leaf ws ats) → ts ≡ types → ls ≡ layouts → xs ≡ ws → order ≡ order_of leaf → found ≡ ats → before ≡ []
             → open_positions types leaf.prov ≡ opens_of types leaf.prov (Named t) → g c ≡ before ++ Below ts ls xs order found → IsGiven g (look types layouts m place) (Ok c)
         places_given g c ts ls xs order ats found before is same_types same_layouts same_words same_order same_found none opens added =
-            given_ok g (look types layouts m place) (places_of types layouts m leaf ws ats) c is
+            given_ok g (look types layouts m place) (places_of_leaf types layouts m leaf ws ats) c is
             (added ∙ ap (λ ps. ps ++ Below ts ls xs order found) none ∙ ap (λ ys. Below ys ls xs order found) same_types ∙ ap (λ ys. Below types ys xs order found) same_layouts
             ∙ ap (λ ys. Below types layouts ys order found) same_words ∙ ap (λ ys. Below types layouts ws ys found) same_order ∙ ap (λ ys. Below types layouts ws (order_of leaf) ys) same_found
             ∙ ap (λ os. flat_map (λ (o : Open). place_at layouts (field_word m ws ats (order_of leaf)) o.path o.ty) os) (sym opens))

@@ -16,13 +16,13 @@ use Rattle.rb_image_text.specs.Images.{AreBlocks}
 use Rattle.rb_image_text.specs.Places.{AreInPlace}
 use Rattle.rb_image.specs.Falling.{RootDescends}
 use Rattle.rb_image.specs.Memories.{Stand, image_memory}
-use Rattle.rb_image.specs.Reads.{IsRead, IsReason}
-use Rattle.rb_image.specs.Values.{Keeps}
+use Rattle.rb_image.specs.Reads.{ImageIsRead, IsReason}
+use Rattle.rb_image.specs.Values.{KeepsImage}
 use Rattle.rb_image.proofs.KeepLemmas.{Represents-stand}
 use Rattle.rb_image.proofs.StandLemmas.{size_stands, word_loaded}
 
 -- ---- what has a value
-pub stand_keeps_blocks : (blocks : List ImageBlock) (m : Memory) → IsGood m → Stand blocks m → Keeps blocks m
+pub stand_keeps_blocks : (blocks : List ImageBlock) (m : Memory) → IsGood m → Stand blocks m → KeepsImage blocks m
 stand_keeps_blocks blocks m good stand = record {
   sizes = size_stands blocks m stand;
   words = word_loaded blocks m stand;
@@ -36,11 +36,11 @@ stands_for p image ty placed are m stand v is = Represents-stand p.types (flat_l
 
 -- ---- what reading gives
 module _ (p : Program) (layouts : List Layout) (image : Image) (ty : Ty) (limit : ℕ) (v : Value) (descends : RootDescends p image ty v) where
-  pub read_ok : (r : Result Value ImageFault) → IsRead v limit r → IfOk r (λ found. RootDescends p image ty found × (node_count found ≤ limit))
+  pub read_ok : (r : Result Value ImageFault) → ImageIsRead v limit r → IfOk r (λ found. RootDescends p image ty found × (node_count found ≤ limit))
   read_ok (Ok found) is = (subst (RootDescends p image ty) (sym is.0) descends, subst (λ x. node_count x ≤ limit) (sym is.0) is.1)
   read_ok (Err fault) is = tt
 
-  pub read_err : (r : Result Value ImageFault) → IsRead v limit r → IfErr r (IsReason p layouts image ty limit)
+  pub read_err : (r : Result Value ImageFault) → ImageIsRead v limit r → IfErr r (IsReason p layouts image ty limit)
   read_err (Ok found) is = tt
   read_err (Err fault) (inl over) = inr (inl (over.0, v, descends, over.1))
   read_err (Err fault) (inr memory) = inr (inr memory)

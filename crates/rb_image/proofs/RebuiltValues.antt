@@ -34,7 +34,7 @@ use Rattle.rb_image_text.specs.declared.fault.ImageFault.TheVariants.{Memory as 
 use Rattle.rb_image_text.specs.declared.image.ImageBlock.{ImageBlock}
 use Rattle.rb_image.specs.declared.pack.FieldWords.{FieldWords}
 use Rattle.rb_image.specs.Rebuilds.{chosen, data_words, fields_at, packed, rebuilt_within, words_along, words_at, words_in}
-use Rattle.rb_image.specs.RebuiltValues.{AreRight, RebuiltWordsRepresent, Stands, is_plain, plain_step}
+use Rattle.rb_image.specs.RebuiltValues.{AreRight, RebuiltWordsRepresent, ValueStands, is_plain, plain_step}
 use Rattle.rb_image.specs.Splits.{and_then}
 use Rattle.rb_image.specs.TakenApart.{open_words}
 use Rattle.rb_image.specs.Views.{Standing}
@@ -55,7 +55,7 @@ module _ (p : Program) (typed : IsTyped p) (agrees : Agrees p) (m : Memory) (goo
   layouts = flat_layouts p
 
   abbrev Stand : Standing → Value → Pat → Ty → Type 0
-  Stand x v q ty = Stands p m blocks x v q ty
+  Stand x v q ty = ValueStands p m blocks x v q ty
 
   abbrev Right : Ty → Value → Result (List ℕ) ImageFault → Type 0
   Right ty v r = AreRight p m blocks ty v r

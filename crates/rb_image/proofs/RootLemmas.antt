@@ -16,8 +16,8 @@ use Rattle.rb_image_text.specs.Places.{AreInPlace}
 use Rattle.rb_image.specs.declared.kept.Kept.{Kept}
 use Rattle.rb_image.specs.Blocks.{block_at}
 use Rattle.rb_image.specs.Parts.{look}
-use Rattle.rb_image.specs.Roots.{AllFit, FitsAt, IsFirstFault, IsFirstMisfit, IsSoundImage, WordFits, kept_from, root_at, widths_of}
-use Rattle.rb_image.specs.Sound.{IsFault, IsFine, IsFound}
+use Rattle.rb_image.specs.Roots.{AllFit, FitsAt, IsFirstImageFault, IsFirstMisfit, IsSoundImage, WordFits, kept_from, root_at, widths_of}
+use Rattle.rb_image.specs.Sound.{IsFault, IsFineResult, SoundnessIsFound}
 use Rattle.rb_image.specs.Splits.{word_at}
 use Rattle.rb_image.proofs.DropLemmas.{drop_item, drop_past}
 use Rattle.rb_image.proofs.FallLemmas.{AreUnder}
@@ -116,9 +116,9 @@ module _ (types : List DataDecl) (layouts : List Layout) (image : Image) (ty : T
   -- all that is said of an answer
   pub record Answers (r : Result (Unit {0}) ImageFault) : Type 0 where
     pub sound : OnOk r (IsSoundImage types layouts image ty)
-    pub fault : IfErr r (λ f. IsFirstFault types layouts image ty f ⊎ (f ≡ NoMemory))
-    pub fine : IsSoundImage types layouts image ty → IsFine r
-    pub first : (f : ImageFault) → IsFirstFault types layouts image ty f → IsFault f r
+    pub fault : IfErr r (λ f. IsFirstImageFault types layouts image ty f ⊎ (f ≡ NoMemory))
+    pub fine : IsSoundImage types layouts image ty → IsFineResult r
+    pub first : (f : ImageFault) → IsFirstImageFault types layouts image ty f → IsFault f r
 
   abbrev widths : List ℕ
   widths = widths_of layouts ty
@@ -136,7 +136,7 @@ module _ (types : List DataDecl) (layouts : List Layout) (image : Image) (ty : T
   pub misfit_answers : (i : ℕ) → IsFirstMisfit widths image.root i → Answers (Err (BadRoot i))
   misfit_answers i h = record { sound = tt; fault = inl (inl (i, refl, h)); fine = λ s. absurd (h.misfit (s.fit i)); first = first }
     where
-      first : (f : ImageFault) → IsFirstFault types layouts image ty f → IsFault {A = Unit {0}} f (Err (BadRoot i))
+      first : (f : ImageFault) → IsFirstImageFault types layouts image ty f → IsFault {A = Unit {0}} f (Err (BadRoot i))
       first f (inl x) = inl (ap BadRoot (same_misfit i x.0 h x.2) ∙ sym x.1)
       first f (inr x) = absurd (h.misfit (x.0 i))
 
@@ -147,29 +147,29 @@ module _ (types : List DataDecl) (layouts : List Layout) (image : Image) (ty : T
 pub integer_answers : (types : List DataDecl) (layouts : List Layout) (image : Image) (bits : ℕ) → AllFit (bits ∷ []) image.root → Answers types layouts image (Int bits) (Ok tt)
 integer_answers types layouts image bits fit = record { sound = record { fit = fit; sound = tt }; fault = tt; fine = λ s. tt; first = first }
   where
-    first : (f : ImageFault) → IsFirstFault types layouts image (Int bits) f → IsFault {A = Unit {0}} f (Ok tt)
+    first : (f : ImageFault) → IsFirstImageFault types layouts image (Int bits) f → IsFault {A = Unit {0}} f (Ok tt)
     first f (inl x) = x.2.misfit (fit x.0)
     first f (inr x) = x.1
 
 -- root words that fit a data type
 module _ (types : List DataDecl) (layouts : List Layout) (image : Image) (t : ℕ) (fit : AllFit (widths_of layouts (Named t)) image.root) where
-  named_sound : (r : Result (Unit {0}) ImageFault) → IsFound (look types layouts image.blocks) (root_at t image.root) r → OnOk r (IsSoundImage types layouts image (Named t))
+  named_sound : (r : Result (Unit {0}) ImageFault) → SoundnessIsFound (look types layouts image.blocks) (root_at t image.root) r → OnOk r (IsSoundImage types layouts image (Named t))
   named_sound (Ok x) found = record { fit = fit; sound = found }
   named_sound (Err f) found = tt
 
-  named_fault : (r : Result (Unit {0}) ImageFault) → IsFound (look types layouts image.blocks) (root_at t image.root) r → IfErr r (λ f. IsFirstFault types layouts image (Named t) f ⊎ (f ≡ NoMemory))
+  named_fault : (r : Result (Unit {0}) ImageFault) → SoundnessIsFound (look types layouts image.blocks) (root_at t image.root) r → IfErr r (λ f. IsFirstImageFault types layouts image (Named t) f ⊎ (f ≡ NoMemory))
   named_fault (Ok x) found = tt
   named_fault (Err f) (inl h) = inl (inr (fit, h))
   named_fault (Err f) (inr e) = inr e
 
-  named_fine : (r : Result (Unit {0}) ImageFault) → IsFound (look types layouts image.blocks) (root_at t image.root) r → IsSoundImage types layouts image (Named t) → IsFine r
+  named_fine : (r : Result (Unit {0}) ImageFault) → SoundnessIsFound (look types layouts image.blocks) (root_at t image.root) r → IsSoundImage types layouts image (Named t) → IsFineResult r
   named_fine (Ok x) found s = tt
   named_fine (Err f) (inl h) s = absurd (no_fault (look types layouts image.blocks) s.sound f h)
   named_fine (Err f) (inr e) s = e
 
-  named_first : (r : Result (Unit {0}) ImageFault) → IsFound (look types layouts image.blocks) (root_at t image.root) r → (f : ImageFault) → IsFirstFault types layouts image (Named t) f → IsFault f r
+  named_first : (r : Result (Unit {0}) ImageFault) → SoundnessIsFound (look types layouts image.blocks) (root_at t image.root) r → (f : ImageFault) → IsFirstImageFault types layouts image (Named t) f → IsFault f r
   named_first r found f (inl x) = absurd (x.2.misfit (fit x.0))
   named_first r found f (inr x) = fault_given (look types layouts image.blocks) (root_at t image.root) r found f x.1
 
-  pub named_answers : (r : Result (Unit {0}) ImageFault) → IsFound (look types layouts image.blocks) (root_at t image.root) r → Answers types layouts image (Named t) r
+  pub named_answers : (r : Result (Unit {0}) ImageFault) → SoundnessIsFound (look types layouts image.blocks) (root_at t image.root) r → Answers types layouts image (Named t) r
   named_answers r found = record { sound = named_sound r found; fault = named_fault r found; fine = named_fine r found; first = named_first r found }

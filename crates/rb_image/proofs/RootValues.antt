@@ -19,7 +19,7 @@ use Rattle.rb_image_text.specs.declared.image.Image.{Image}
 use Rattle.rb_image.specs.Falling.{Descends, RootDescends, SoundImagesDescend, SoundValuesDescend, number}
 use Rattle.rb_image.specs.Memories.{image_memory}
 use Rattle.rb_image.specs.Roots.{AllFit, IsSoundImage, kept_from, root_at, shape_of}
-use Rattle.rb_image.specs.Values.{IsDeclared, Keeps, SoundImagesHaveValues}
+use Rattle.rb_image.specs.Values.{IsDeclared, KeepsImage, SoundImagesHaveValues}
 use Rattle.rb_image.proofs.DescendingValues.{Descends-represents}
 use Rattle.rb_image.proofs.FoundWords.{numbers}
 use Rattle.rb_image.proofs.KeepLemmas.{Represents-stand}
@@ -54,7 +54,7 @@ int_value types layouts m bits [] h = absurd (h 0)
 int_value types layouts m bits (x ∷ []) h = (Num x, number bits x (λ j. 0) (h 0))
 int_value types layouts m bits (x ∷ y ∷ words) h = absurd (h (suc 0))
 
-module _ (p : Program) (typed : IsTyped p) (agrees : Agrees p) (image : Image) (m : Memory) (keeps : Keeps image.blocks m) where
+module _ (p : Program) (typed : IsTyped p) (agrees : Agrees p) (image : Image) (m : Memory) (keeps : KeepsImage image.blocks m) where
   root_value : (ty : Ty) → IsDeclared p.types ty → IsSoundImage p.types (flat_layouts p) image ty → (v : Value) × Descends p.types (flat_layouts p) m ty v image.root (λ j. 0)
   root_value (Int bits) there s = int_value p.types (flat_layouts p) m bits image.root s.fit
   root_value (Named t) there s =

@@ -24,7 +24,7 @@ use Rattle.rb_layout.specs.declared.layout.Leaf.{Leaf}
 use Rattle.rb_layout.specs.declared.layout.Part.{Part}
 use Rattle.rb_layout.specs.declared.layout.WordRef.{WordRef}
 use Rattle.rb_rel.proofs.Fitting.{KindFits}
-use Rattle.rb_layout.specs.A7.{Meets}
+use Rattle.rb_layout.specs.A7.{MeetsTest}
 use Rattle.rb_layout.specs.A9.{HasPointerPart}
 use Rattle.rb_layout.specs.Agreement.{Agrees}
 use Rattle.rb_layout.specs.Flat.{IsFlat}
@@ -36,7 +36,7 @@ use Rattle.rb_layout.specs.Splits.{Test, Is, IsNone}
 use Rattle.rb_layout.specs.Words.{flat_at, words_of_block}
 use Rattle.rb_layout.proofs.OpenPositions.{position-typed}
 use Rattle.rb_rel.specs.Reading.{read_first, read_from}
-use Rattle.rb_rel.specs.Relation.{Holds, HoldsKind, Made, Represents, word_count}
+use Rattle.rb_rel.specs.Relation.{PartHolds, HoldsKind, Made, Represents, word_count}
 use Rattle.rb_rel.proofs.Agreeing.{lawful}
 use Rattle.rb_rel.proofs.Lawful.{Holder, units_of}
 use Rattle.rb_rel.proofs.Represented.{Opened, Represents-count, Represents-int, opened}
@@ -88,7 +88,7 @@ module _ (leaf : Leaf) (none : leaf.blocks ≡ []) where
   -- Words ------------------------------------------------------------------------------------
   module _ (m : Memory) (ws : List Kept) (subs : List ℕ → List ℕ) (ats : ℕ → ℕ)
       (words : (j : ℕ) (f : FlatWord) → slice_get leaf.root j ≡ Some f
-      → (w : ℕ) × (slice_get (numbers_of ws) j ≡ Some w) × ((k : ℕ) (q : Part) → slice_get f.parts k ≡ Some q → Holds subs ats w q)) where
+      → (w : ℕ) × (slice_get (numbers_of ws) j ≡ Some w) × ((k : ℕ) (q : Part) → slice_get f.parts k ≡ Some q → PartHolds subs ats w q)) where
     ranges : (loc : Loc) (x : Reached) → reached_at leaf loc ≡ Some x → HasRange [] ws (numbers_of ws) m loc
     ranges loc x e =
         let r : WordRef = record { block = None; word = loc.word } in
@@ -169,10 +169,10 @@ module _ (p : Program) (typed : IsTyped p) (agrees : Agrees p) (m : Memory) (goo
   none = no_blocks b.leaf.blocks refl
 
   words : (j : ℕ) (f : FlatWord) → slice_get b.leaf.root j ≡ Some f
-      → (w : ℕ) × (slice_get (numbers_of ws) j ≡ Some w) × ((k : ℕ) (q : Part) → slice_get f.parts k ≡ Some q → Holds b.subs b.ats w q)
+      → (w : ℕ) × (slice_get (numbers_of ws) j ≡ Some w) × ((k : ℕ) (q : Part) → slice_get f.parts k ≡ Some q → PartHolds b.subs b.ats w q)
   words j f e = let x = b.placed.words (record { block = None; word = j }) f e in (x.0, x.1, x.2.parts)
 
-  met : (test : Test) → Meets p.types (flat_layouts p) b.leaf test → HasRange [] ws (numbers_of ws) m (loc_of test)
+  met : (test : Test) → MeetsTest p.types (flat_layouts p) b.leaf test → HasRange [] ws (numbers_of ws) m (loc_of test)
   met (Is loc c) h = ranges b.leaf none m ws b.subs b.ats words loc h.0.0 h.0.1
   met (IsNone loc cs) h = ranges b.leaf none m ws b.subs b.ats words loc h.0.0 h.0.1
 

@@ -5,7 +5,7 @@ use Rattle.std.proofs.lemmas.Bool.{cases_lt}
 use Rattle.std.proofs.lemmas.Option.{same_Some}
 use Rattle.rb_image_text.specs.declared.fault.ImageFault.{ImageFault}
 use Rattle.rb_image.specs.Parts.{At}
-use Rattle.rb_image.specs.Sound.{Looking, IsSound, sound, HasFault, own, inner, IsFound, IsFault}
+use Rattle.rb_image.specs.Sound.{Looking, IsSound, sound, HasFault, own, inner, SoundnessIsFound, IsFault}
 
 same_Ok : (ps qs : List At) → ◌≡◌ {A = Result (List At) ImageFault} (Ok ps) (Ok qs) → ps ≡ qs
 same_Ok ps qs e = cc
@@ -39,7 +39,7 @@ module _ (look : Looking) where
       ]
 
   -- so the fault that is there is given
-  pub fault_given : {A : Type 0} (p : At) (r : Result A ImageFault) → IsFound look p r → (f : ImageFault) → HasFault look p f → IsFault f r
+  pub fault_given : {A : Type 0} (p : At) (r : Result A ImageFault) → SoundnessIsFound look p r → (f : ImageFault) → HasFault look p f → IsFault f r
   fault_given p (Ok a) found f h = absurd (no_fault found f h)
   fault_given p (Err g) (inl x) f h = inl (one_fault x f h)
   fault_given p (Err g) (inr none) f h = inr none

@@ -44,13 +44,13 @@ use Rattle.rb_image_text.specs.declared.fault.ImageFault.{ImageFault}
 use Rattle.rb_image_text.specs.declared.image.ImageBlock.{ImageBlock}
 use Rattle.rb_image.specs.declared.kept.Kept.{Kept}
 use Rattle.rb_image.specs.Blocks.{size_at}
-use Rattle.rb_image.specs.Falling.{AreKept, Descends, Falls, PointersFall, base_in, built, number}
+use Rattle.rb_image.specs.Falling.{AreKept, Descends, AddressFalls, PointersFall, base_in, built, number}
 use Rattle.rb_image.specs.Integers.{field_bit, numbered}
 use Rattle.rb_image.specs.Orders.{PartAt, order_of}
-use Rattle.rb_image.specs.Parts.{At, addresses_of, bits_at, block_size, field_word, field_words, kept_at, look, look_layout, look_leaf, place_at, places_of}
+use Rattle.rb_image.specs.Parts.{At, addresses_of, bits_at, block_size, field_word, field_words, kept_at, look, look_layout, look_leaf, place_at, places_of_leaf}
 use Rattle.rb_image.specs.Sound.{IsSound, sound}
 use Rattle.rb_image.specs.Splits.{leaf_at, nothing, word_at}
-use Rattle.rb_image.specs.Values.{Keeps}
+use Rattle.rb_image.specs.Values.{KeepsImage}
 use Rattle.rb_image.proofs.DescendingValues.{Descends-represents}
 use Rattle.rb_image.proofs.ExaminedParts.{FineKind, IsFine, all_fine, then_ok}
 use Rattle.rb_image.proofs.FallLemmas.{same_Ok}
@@ -62,7 +62,7 @@ use Rattle.rb_image.proofs.PlacedSpots.{order_led, order_spots, part_in_order, s
 use Rattle.rb_image.proofs.PointerLemmas.{IsPointedOnce, flat_once}
 use Rattle.rb_image.proofs.SpotLemmas.{In, get_in, in_get, flat_map_in}
 
-module _ (p : Program) (typed : IsTyped p) (agrees : Agrees p) (blocks : List ImageBlock) (m : Memory) (keeps : Keeps blocks m) where
+module _ (p : Program) (typed : IsTyped p) (agrees : Agrees p) (blocks : List ImageBlock) (m : Memory) (keeps : KeepsImage blocks m) where
   abbrev types : List DataDecl
   types = p.types
 
@@ -166,7 +166,7 @@ module _ (p : Program) (typed : IsTyped p) (agrees : Agrees p) (blocks : List Im
       kept_base None j f q e = let lt = slice_get_within leaf.root j f e in let many = as_many in kept j (omega (arith, lt, many))
       kept_base (Some b) j f q e = refl
 
-      pointer_falls : (bits : Kept) (align b : ℕ) (kind : Kind) → kind ≡ Pointer align b → FineKind blocks leaf ws ats bits kind → Falls bits.base (slice_index ats b)
+      pointer_falls : (bits : Kept) (align b : ℕ) (kind : Kind) → kind ≡ Pointer align b → FineKind blocks leaf ws ats bits kind → AddressFalls bits.base (slice_index ats b)
       pointer_falls bits align b kind e f =
           let g : FineKind blocks leaf ws ats bits (Pointer align b) = subst (FineKind blocks leaf ws ats bits) e f in
           g.2
@@ -175,7 +175,7 @@ module _ (p : Program) (typed : IsTyped p) (agrees : Agrees p) (blocks : List Im
       falls r l align b pt =
           let spot = spot_of leaf r pt.word pt.part in
           let there = part_in_order leaf flat (low p typed agrees t layout n leaf is_layout is_number) r pt.word pt.number pt.part pt.is_word pt.is_part in
-          subst (λ k. Falls k (slice_index ats b)) (kept_base r.block r.word pt.word pt.part pt.is_word)
+          subst (λ k. AddressFalls k (slice_index ats b)) (kept_base r.block r.word pt.word pt.part pt.is_word)
           (pointer_falls (bits_at blocks ws ats spot) align b pt.part.kind pt.is_pointer (fine spot there))
 
       -- the blocks in which the words at a path are kept
@@ -233,7 +233,7 @@ module _ (p : Program) (typed : IsTyped p) (agrees : Agrees p) (blocks : List Im
           ap (λ (w : Kept). w.base) (get_or_from_slice_get (field_words word path 0 n) j (word path j) nothing there)
 
       abbrev below : List At
-      below = places_of types layouts blocks leaf ws ats
+      below = places_of_leaf types layouts blocks leaf ws ats
 
       -- the place at an open position is among those below
       place_there : (k : ℕ) (o : Open) → slice_get opens k ≡ Some o → (s : ℕ) → o.ty ≡ Named s → (j : ℕ) × (slice_get below j ≡ Some (place s o.path))
@@ -311,7 +311,7 @@ module _ (p : Program) (typed : IsTyped p) (agrees : Agrees p) (blocks : List Im
     is_number : slice_get fits.layout.leaves number ≡ Some leaf
     ats : List ℕ
     examined : ◌≡◌ {A = Result (List ℕ) ImageFault} (addresses_of blocks leaf q.words) (Ok ats)
-    is_found : places_of types layouts blocks leaf q.words ats ≡ found
+    is_found : places_of_leaf types layouts blocks leaf q.words ats ≡ found
 
   looked : (q : At) (fits : Fits q) (found : List At) → ◌≡◌ {A = Result (List At) ImageFault} (look types layouts blocks q) (Ok found) → Looked q fits found
   looked q fits found e =
@@ -319,8 +319,8 @@ module _ (p : Program) (typed : IsTyped p) (agrees : Agrees p) (blocks : List Im
       let r = then_ok (leaf_at fits.layout.tree blocks q.words) (λ n. look_leaf types layouts blocks q.words (slice_get fits.layout.leaves n)) found a in
       let l = leaf_there blocks q.words p agrees q.ty fits.layout fits.is_layout r.0 r.1 in
       let b : ◌≡◌ {A = Result (List At) ImageFault} (look_leaf types layouts blocks q.words (Some l.0)) (Ok found) = ap (look_leaf types layouts blocks q.words) (sym l.1) ∙ r.2 in
-      let s = then_ok (addresses_of blocks l.0 q.words) (λ ats. Ok (places_of types layouts blocks l.0 q.words ats)) found b in
-      record { number = r.0; leaf = l.0; is_number = l.1; ats = s.0; examined = s.1; is_found = same_Ok (places_of types layouts blocks l.0 q.words s.0) found s.2 }
+      let s = then_ok (addresses_of blocks l.0 q.words) (λ ats. Ok (places_of_leaf types layouts blocks l.0 q.words ats)) found b in
+      record { number = r.0; leaf = l.0; is_number = l.1; ats = s.0; examined = s.1; is_found = same_Ok (places_of_leaf types layouts blocks l.0 q.words s.0) found s.2 }
 
   layer : (q : At) (fits : Fits q) (found : List At) → ◌≡◌ {A = Result (List At) ImageFault} (look types layouts blocks q) (Ok found) → (from : ℕ → ℕ) → AreIn q.words from
       → ((j : ℕ) (r : At) → slice_get found j ≡ Some r → Fits r → (to : ℕ → ℕ) → AreIn r.words to → (v : Value) × Desc (Named r.ty) v (numbers r.words) to) → (v : Value) × Desc (Named q.ty) v (numbers q.words) from

@@ -12,9 +12,9 @@ use Rattle.rb_bytes.proofs.MemoryLemmas.{load_ok, load_within, size_at_extends}
 use Rattle.rb_image_text.specs.declared.image.ImageBlock.{ImageBlock}
 use Rattle.rb_image_text.specs.Images.{AreBlocks}
 use Rattle.rb_image_text.specs.Places.{AreInPlace}
-use Rattle.rb_image.specs.Blocks.{block_at, is_width, number_in, size_in, word_in, word_of}
+use Rattle.rb_image.specs.Blocks.{block_at, is_width, number_in_block, size_in, word_in, word_of}
 use Rattle.rb_image.specs.Blocks.{size_at as size_found}
-use Rattle.rb_image.specs.Memories.{Stand, Stands, image_memory}
+use Rattle.rb_image.specs.Memories.{Stand, BlockStands, image_memory}
 use Rattle.rb_image.proofs.AscentLemmas.{ascending}
 use Rattle.rb_image.proofs.BlockLemmas.{le_is}
 use Rattle.rb_image.proofs.SpanLemmas.{size_from, within_good, within_stand}
@@ -35,13 +35,13 @@ unfolding image_memory
 image_memory_size blocks base size is = size_from blocks base size is
 
 -- ---- a block that stands in two memories
-pub stands_extends : (m m' : Memory) (b : ImageBlock) → Extends m m' → Stands m b → Stands m' b
+pub stands_extends : (m m' : Memory) (b : ImageBlock) → Extends m m' → BlockStands m b → BlockStands m' b
 stands_extends m m' b ext s = record {
   size = size_at_extends m m' b.at (length b.bytes) ext s.size;
   bytes = λ i n is. ext.written (b.at + i) n (s.bytes i n is);
 }
 
-byte_same : (m m' : Memory) (b : ImageBlock) → Stands m b → Stands m' b → (a : ℕ) → b.at ≤ a → a < b.at + length b.bytes → byte_at m'.bytes a ≡ byte_at m.bytes a
+byte_same : (m m' : Memory) (b : ImageBlock) → BlockStands m b → BlockStands m' b → (a : ℕ) → b.at ≤ a → a < b.at + length b.bytes → byte_at m'.bytes a ≡ byte_at m.bytes a
 byte_same m m' b s s' a low high =
     let i = a - b.at in
     let e : b.at + (a - b.at) ≡ a = omega (arith, low) in
@@ -51,7 +51,7 @@ byte_same m m' b s s' a low high =
     ∙ sym (s.bytes (a - b.at) (get_or b.bytes (a - b.at) 0) at)
     ∙ ap (λ n. byte_at m.bytes n) e
 
-load_same : (m m' : Memory) (b : ImageBlock) (offset width r : ℕ) → Stands m b → Stands m' b → load_of m b.at offset width ≡ Ok r → load_of m' b.at offset width ≡ Ok r
+load_same : (m m' : Memory) (b : ImageBlock) (offset width r : ℕ) → BlockStands m b → BlockStands m' b → load_of m b.at offset width ≡ Ok r → load_of m' b.at offset width ≡ Ok r
 load_same m m' b offset width r s s' is =
     let got = load_ok m b.at offset width r is in
     let size : size_at m'.blocks b.at ≡ size_at m.blocks b.at = s'.size ∙ sym s.size in
@@ -92,7 +92,7 @@ chosen : {A : Type 0} (t : Bool) (o : Option A) (x : A) → ◌≡◌ {A = Optio
 chosen true o x is = (refl, is)
 chosen false o x is = absurd (none-some x is)
 
-number_is : (bytes : List ℕ) (byte count w : ℕ) → number_in bytes byte count ≡ Some w → (byte + count ≤ length bytes) × (from_le_bytes (slice_range bytes byte (byte + count)) ≡ w)
+number_is : (bytes : List ℕ) (byte count w : ℕ) → number_in_block bytes byte count ≡ Some w → (byte + count ≤ length bytes) × (from_le_bytes (slice_range bytes byte (byte + count)) ≡ w)
 number_is bytes byte count w is =
     let got = chosen (nat_le (byte + count) (length bytes)) (Some (from_le_bytes (slice_range bytes byte (byte + count)))) w is in
     (le_is (byte + count) (length bytes) got.0, same_Some (from_le_bytes (slice_range bytes byte (byte + count))) w got.1)
@@ -101,7 +101,7 @@ word_found : (o : Option ImageBlock) (byte width w : ℕ) → word_of o byte wid
     → (b : ImageBlock) × (o ≡ Some b) × (byte + width / 8 ≤ length b.bytes) × (from_le_bytes (slice_range b.bytes byte (byte + width / 8)) ≡ w)
 word_found None byte width w is = cc
 word_found (Some b) byte width w is =
-    let got = chosen (is_width width) (number_in b.bytes byte (width / 8)) w is in
+    let got = chosen (is_width width) (number_in_block b.bytes byte (width / 8)) w is in
     let number = number_is b.bytes byte (width / 8) w got.1 in
     (b, refl, number.0, number.1)
 
@@ -120,7 +120,7 @@ range_at bytes byte count i le lt =
     ∙ ap Some (get_or-take (byte + count - byte) (drop byte bytes) i 0 (omega (arith, lt)) ∙ get_or-drop byte bytes i 0)
     ∙ sym (slice_get-get_or bytes (byte + i) 0 (omega (arith, le, lt)))
 
-range_stands : (m : Memory) (b : ImageBlock) → Stands m b → (byte count i : ℕ) → byte + count ≤ length b.bytes → i < count
+range_stands : (m : Memory) (b : ImageBlock) → BlockStands m b → (byte count i : ℕ) → byte + count ≤ length b.bytes → i < count
     → byte_at m.bytes (b.at + byte + i) ≡ slice_get (slice_range b.bytes byte (byte + count)) i
 range_stands m b s byte count i le lt =
     let e : b.at + byte + i ≡ b.at + (byte + i) = omega arith in
@@ -128,7 +128,7 @@ range_stands m b s byte count i le lt =
     ap (λ n. byte_at m.bytes n) e ∙ s.bytes (byte + i) (get_or b.bytes (byte + i) 0) at ∙ sym at ∙ sym (range_at b.bytes byte count i le lt)
 
 -- a word of a block is loaded where the block stands
-block_loads : (m : Memory) (b : ImageBlock) → Stands m b → (byte width : ℕ) → byte + width / 8 ≤ length b.bytes
+block_loads : (m : Memory) (b : ImageBlock) → BlockStands m b → (byte width : ℕ) → byte + width / 8 ≤ length b.bytes
     → load_of m b.at byte width ≡ Ok (from_le_bytes (slice_range b.bytes byte (byte + width / 8)))
 block_loads m b s byte width le =
     let range = slice_range b.bytes byte (byte + width / 8) in

@@ -32,7 +32,7 @@ use Rattle.rb_image_text.specs.declared.fault.ImageFault.{ImageFault}
 use Rattle.rb_image_text.specs.declared.fault.ImageFault.TheVariants.{Memory as NoMemory}
 use Rattle.rb_image_text.specs.declared.image.ImageBlock.{ImageBlock}
 use Rattle.rb_image.specs.Rebuilds.{Matching, chosen, match_con, match_field, match_fields, match_step, matches, or_later, same_con}
-use Rattle.rb_image.specs.RebuiltValues.{IsInner, Stands, plain_step}
+use Rattle.rb_image.specs.RebuiltValues.{IsInner, ValueStands, plain_step}
 use Rattle.rb_image.specs.Splits.{and_then, or_fault}
 use Rattle.rb_image.specs.Views.{Standing, along, down, step_down}
 use Rattle.rb_image.proofs.FallingWords.{same_is}
@@ -97,7 +97,7 @@ module _ (p : Program) (typed : IsTyped p) (agrees : Agrees p) (m : Memory) (goo
   Match = matches types layouts blocks
 
   abbrev Stand : Standing → Value → Pat → Ty → Type 0
-  Stand x v q ty = Stands p m blocks x v q ty
+  Stand x v q ty = ValueStands p m blocks x v q ty
 
   abbrev FieldAt : Standing → ℕ → Ty → Value → Type 0
   FieldAt y j t w = Step p typed agrees m good blocks y j t w
@@ -242,7 +242,7 @@ module _ (p : Program) (typed : IsTyped p) (agrees : Agrees p) (m : Memory) (goo
     pub pat : Pat
     pub is_along : ◌≡◌ {A = Result Standing ImageFault} (along types layouts blocks x o.path) (Ok y)
     pub is_part : part_at v o.path ≡ Some w
-    pub stands : Stands p m blocks y w pat o.ty
+    pub stands : ValueStands p m blocks y w pat o.ty
 
   abbrev Comes : Pat → Type 0
   Comes q = (x : Standing) (v : Value) (r : Pat) (ty : Ty) → Stand x v r ty → IsInner p q ty → matches_of q v ≡ true → (k : ℕ) (o : Open) → slice_get (opens_of types q ty) k ≡ Some o → Ends x v o

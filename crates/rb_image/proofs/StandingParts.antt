@@ -40,7 +40,7 @@ use Rattle.rb_image_text.specs.declared.image.ImageBlock.{ImageBlock}
 use Rattle.rb_image.specs.declared.kept.Kept.{Kept}
 use Rattle.rb_image.specs.Fields.{field_in, field_of, with_type}
 use Rattle.rb_image.specs.Rebuilds.{numbers_of}
-use Rattle.rb_image.specs.RebuiltValues.{IsInner, Stands, is_plain, plain_step}
+use Rattle.rb_image.specs.RebuiltValues.{IsInner, ValueStands, is_plain, plain_step}
 use Rattle.rb_image.specs.TakenApart.{open_words}
 use Rattle.rb_image.specs.Views.{Standing, down, down_to, from_root, settled, settled_at, words_here}
 use Rattle.rb_image.specs.Walks.{data_of, open_data, open_in}
@@ -193,7 +193,7 @@ module _ (p : Program) (typed : IsTyped p) (agrees : Agrees p) (m : Memory) (goo
   layouts = flat_layouts p
 
   abbrev Stand : Standing → Value → Pat → Ty → Type 0
-  Stand x v q ty = Stands p m blocks x v q ty
+  Stand x v q ty = ValueStands p m blocks x v q ty
 
   -- Patterns ---------------------------------------------------------------------------------
   module _ (at : ℕ) (c : ConRef) (ps : List Pat) (ty : Ty) (inner : IsInner p (Con at c ps) ty) where
@@ -223,7 +223,7 @@ module _ (p : Program) (typed : IsTyped p) (agrees : Agrees p) (m : Memory) (goo
     pub z : Standing
     pub pat : Pat
     pub is_down : down types x j ≡ Some z
-    pub stands : Stands p m blocks z w pat t
+    pub stands : ValueStands p m blocks z w pat t
 
   named_is : (c : ConRef) (s : ℕ) → is_named c.ty (Named s) ≡ true → s ≡ c.ty
   named_is c s e = same_nat s c.ty e
@@ -274,7 +274,7 @@ module _ (p : Program) (typed : IsTyped p) (agrees : Agrees p) (m : Memory) (goo
     pub con : ConRef
     pub ps : List Pat
     pub is_settled : settled layouts blocks x ≡ Ok y
-    pub stands : Stands p m blocks y v (Con at con ps) (Named s)
+    pub stands : ValueStands p m blocks y v (Con at con ps) (Named s)
 
   int_named : (s : ℕ) → Int 64 ≡ Named s → ⊥
   int_named s e = cc

@@ -10,13 +10,13 @@ use Rattle.rb_image_text.specs.Images.{AreBlocks}
 use Rattle.rb_image_text.specs.Places.{AreInPlace}
 use Rattle.rb_image.specs.Blocks.{block_at, size_at, size_in}
 use Rattle.rb_image.specs.Memories.{image_memory}
-use Rattle.rb_image.specs.Values.{Keeps}
+use Rattle.rb_image.specs.Values.{KeepsImage}
 use Rattle.rb_image.proofs.StandLemmas.{image_memory_good, image_memory_size, image_size_stands, image_word_loaded}
 
 -- the memory keeps the blocks of an image, and has no others
 pub record IsWhole (blocks : List ImageBlock) (m : Memory) : Type 0 where
   pub good : IsGood m
-  pub keeps : Keeps blocks m
+  pub keeps : KeepsImage blocks m
   pub whole : (at size : ℕ) → M.size_at m.blocks at ≡ Some size → size_at blocks at ≡ Some size
 
 equal : (a : ℕ) → nat_eq a a ≡ true

@@ -22,14 +22,14 @@ abbrev pub is_width : ℕ → Bool
 is_width width = (width == 8) || ((width == 16) || ((width == 32) || (width == 64)))
 
 -- the number in so many bytes from one on, the lowest byte first, where there are so many
-abbrev pub number_in : List ℕ → ℕ → ℕ → Option ℕ
-number_in bytes byte count =
+abbrev pub number_in_block : List ℕ → ℕ → ℕ → Option ℕ
+number_in_block bytes byte count =
     if nat_le (byte + count) (length bytes) then Some (from_le_bytes (slice_range bytes byte (byte + count))) else None
 
 -- the word of `width` bits from a byte of a block on; none where no word has this width, or it does not lie in the
 -- block
 abbrev pub word_from : ImageBlock → ℕ → ℕ → Option ℕ
-word_from b byte width = if is_width width then number_in b.bytes byte (width / 8) else None
+word_from b byte width = if is_width width then number_in_block b.bytes byte (width / 8) else None
 
 -- the word of `width` bits from a byte of a block on; none where there is no block, or no such word in it
 abbrev pub word_of : Option ImageBlock → ℕ → ℕ → Option ℕ

@@ -36,13 +36,13 @@ base_in from ats (Some b) j = ats b
 
 -- the address `at`, to which a pointer leads, lies below that of the block in which the pointer is kept, `base`;
 -- where that is 0 the pointer is kept in no block and may lead anywhere
-abbrev pub Falls : ℕ → ℕ → Type 0
-Falls base at = (base ≡ 0) ⊎ (at < base)
+abbrev pub AddressFalls : ℕ → ℕ → Type 0
+AddressFalls base at = (base ≡ 0) ⊎ (at < base)
 
 -- each pointer part of a leaf that stands in a block leads to a block with a lower address
 abbrev pub PointersFall : Leaf → (ℕ → ℕ) → (ℕ → ℕ) → Type 0
 PointersFall leaf from ats =
-    (r : WordRef) (l align b : ℕ) → PointsTo leaf r l align b → Falls (base_in from ats r.block r.word) (ats b)
+    (r : WordRef) (l align b : ℕ) → PointsTo leaf r l align b → AddressFalls (base_in from ats r.block r.word) (ats b)
 
 -- the word at r of a leaf has a part that is word j of the subvalue at a path
 pub record HasWord (leaf : Leaf) (r : WordRef) (path : List ℕ) (j : ℕ) : Type 0 where

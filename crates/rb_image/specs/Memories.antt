@@ -29,10 +29,10 @@ image_memory blocks = memory_within most_region blocks
 
 -- block b of an image stands in memory m: a block of its very size begins at its address, and each of its bytes is
 -- written there
-pub record Stands (m : Memory) (b : ImageBlock) : Type 0 where
+pub record BlockStands (m : Memory) (b : ImageBlock) : Type 0 where
   pub size : size_at m.blocks b.at ≡ Some (length b.bytes)
   pub bytes : (i n : ℕ) → slice_get b.bytes i ≡ Some n → byte_at m.bytes (b.at + i) ≡ Some n
 
 -- each of the blocks of an image stands in the memory, at its own address, with its size and its bytes
 abbrev pub Stand : List ImageBlock → Memory → Type 0
-Stand blocks m = (k : ℕ) (b : ImageBlock) → slice_get blocks k ≡ Some b → Stands m b
+Stand blocks m = (k : ℕ) (b : ImageBlock) → slice_get blocks k ≡ Some b → BlockStands m b

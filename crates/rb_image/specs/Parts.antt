@@ -123,8 +123,8 @@ place_at layouts word path (Named t) =
     record { ty = t; words = field_words word path 0 (word_count layouts (Named t)) } ∷ []
 
 -- the places at those open positions of a leaf that are of a data type, from left to right
-abbrev pub places_of : List DataDecl → List Layout → List ImageBlock → Leaf → List Kept → List ℕ → List At
-places_of types layouts m leaf ws ats =
+abbrev pub places_of_leaf : List DataDecl → List Layout → List ImageBlock → Leaf → List Kept → List ℕ → List At
+places_of_leaf types layouts m leaf ws ats =
     flat_map (λ (o : Open). place_at layouts (field_word m ws ats (order_of leaf)) o.path o.ty)
     (open_positions types leaf.prov)
 
@@ -136,7 +136,7 @@ abbrev pub look_leaf : List DataDecl → List Layout → List ImageBlock → Lis
     → Result (List At) ImageFault
 look_leaf types layouts m ws None = Ok []
 look_leaf types layouts m ws (Some leaf) =
-    and_then (addresses_of m leaf ws) (λ ats. Ok (places_of types layouts m leaf ws ats))
+    and_then (addresses_of m leaf ws) (λ ats. Ok (places_of_leaf types layouts m leaf ws ats))
 
 -- the places below the leaf to which the splits of a layout lead on the words ws, or the first fault of the splits or
 -- of that leaf's parts; none where there is no layout

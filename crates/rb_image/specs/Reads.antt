@@ -9,12 +9,12 @@ use Rattle.rb_image_text.specs.declared.fault.ImageFault.{ImageFault}
 use Rattle.rb_image_text.specs.declared.fault.ImageFault.TheVariants.{ImageTooLarge, Memory}
 use Rattle.rb_image_text.specs.declared.image.Image.{Image}
 use Rattle.rb_image.specs.Falling.{RootDescends}
-use Rattle.rb_image.specs.Roots.{IsFirstFault}
+use Rattle.rb_image.specs.Roots.{IsFirstImageFault}
 
 -- what is read is this value, which has at most so many nodes, or it has more; or memory is wanting
-abbrev pub IsRead : Value → ℕ → Result Value ImageFault → Type 0
-IsRead v limit (Ok found) = (found ≡ v) × (node_count v ≤ limit)
-IsRead v limit (Err fault) = ((fault ≡ ImageTooLarge) × (limit < node_count v)) ⊎ (fault ≡ Memory)
+abbrev pub ImageIsRead : Value → ℕ → Result Value ImageFault → Type 0
+ImageIsRead v limit (Ok found) = (found ≡ v) × (node_count v ≤ limit)
+ImageIsRead v limit (Err fault) = ((fault ≡ ImageTooLarge) × (limit < node_count v)) ⊎ (fault ≡ Memory)
 
 -- the image holds a value of more nodes than the limit, and the fault says so
 abbrev pub IsOver : Program → Image → Ty → ℕ → ImageFault → Type 0
@@ -24,4 +24,4 @@ IsOver p image ty limit fault =
 -- why no value is read: the image's first fault, or that its value has more nodes; or memory is wanting
 abbrev pub IsReason : Program → List Layout → Image → Ty → ℕ → ImageFault → Type 0
 IsReason p layouts image ty limit fault =
-    IsFirstFault p.types layouts image ty fault ⊎ IsOver p image ty limit fault ⊎ (fault ≡ Memory)
+    IsFirstImageFault p.types layouts image ty fault ⊎ IsOver p image ty limit fault ⊎ (fault ≡ Memory)

@@ -47,7 +47,7 @@ module _ (p : Program) where
   module _ (m : Memory) (blocks : List ImageBlock) where
     -- a value stands at a position that has a pattern of a type: the pattern matches it, and what stands open below
     -- has words that represent the parts there
-    pub record Stands (x : Standing) (v : Value) (pat : Pat) (ty : Ty) : Type 0 where
+    pub record ValueStands (x : Standing) (v : Value) (pat : Pat) (ty : Ty) : Type 0 where
       pub is_pat : x.here.pat ≡ pat
       pub is_ty : x.here.ty ≡ ty
       pub inner : IsInner pat ty
@@ -67,5 +67,5 @@ module _ (p : Program) where
 -- wanting
 abbrev pub RebuiltWordsRepresent : Type 0
 RebuiltWordsRepresent = (p : Program) → IsTyped p → Agrees p → (m : Memory) → IsGood m → (blocks : List ImageBlock)
-    → (x : Standing) (v : Value) (pat : Pat) (ty : Ty) → Stands p m blocks x v pat ty
+    → (x : Standing) (v : Value) (pat : Pat) (ty : Ty) → ValueStands p m blocks x v pat ty
     → AreRight p m blocks ty v (words_of p.types (flat_layouts p) blocks x)

@@ -74,7 +74,7 @@ module _ (types : List DataDecl) (layouts : List Layout) (image : Image) (ty : T
     pub sound : RootIsSound (look types layouts image.blocks) ty image.root
 
   -- this is the image's first fault: of the first root word that does not fit, or else the first from the root on
-  abbrev pub IsFirstFault : ImageFault → Type 0
-  IsFirstFault fault =
+  abbrev pub IsFirstImageFault : ImageFault → Type 0
+  IsFirstImageFault fault =
       ((i : ℕ) × (fault ≡ BadRoot i) × IsFirstMisfit (widths_of layouts ty) image.root i)
       ⊎ (AllFit (widths_of layouts ty) image.root × RootHasFault (look types layouts image.blocks) ty image.root fault)

@@ -24,9 +24,9 @@ pub data HasFault (look : Looking) : At → ImageFault → Type 0 where
       → HasFault look p fault
 
 -- the image is sound from the place on, or this is its first fault; or memory is wanting
-abbrev pub IsFound : {A : Type 0} → Looking → At → Result A ImageFault → Type 0
-IsFound look p (Ok a) = IsSound look p
-IsFound look p (Err fault) = HasFault look p fault ⊎ (fault ≡ Memory)
+abbrev pub SoundnessIsFound : {A : Type 0} → Looking → At → Result A ImageFault → Type 0
+SoundnessIsFound look p (Ok a) = IsSound look p
+SoundnessIsFound look p (Err fault) = HasFault look p fault ⊎ (fault ≡ Memory)
 
 -- a result is the fault that is due, or want of memory
 abbrev pub IsFault : {A : Type 0} → ImageFault → Result A ImageFault → Type 0
@@ -34,6 +34,6 @@ IsFault due (Ok a) = ⊥
 IsFault due (Err fault) = (fault ≡ due) ⊎ (fault ≡ Memory)
 
 -- a result is no fault, or want of memory
-abbrev pub IsFine : {A : Type 0} → Result A ImageFault → Type 0
-IsFine (Ok a) = Unit {0}
-IsFine (Err fault) = fault ≡ Memory
+abbrev pub IsFineResult : {A : Type 0} → Result A ImageFault → Type 0
+IsFineResult (Ok a) = Unit {0}
+IsFineResult (Err fault) = fault ≡ Memory

@@ -18,7 +18,7 @@ use Rattle.rb_image.specs.Roots.{IsSoundImage}
 
 -- the memory keeps what the blocks of an image are: each is there, of its size, and each word in them is loaded; and
 -- what is written in the memory are bytes
-pub record Keeps (blocks : List ImageBlock) (m : Memory) : Type 0 where
+pub record KeepsImage (blocks : List ImageBlock) (m : Memory) : Type 0 where
   pub sizes : (at size : ℕ) → size_at blocks at ≡ Some size → M.size_at m.blocks at ≡ Some size
   pub words : (at byte width w : ℕ) → word_in blocks at byte width ≡ Some w → load_of m at byte width ≡ Ok w
   pub bytes : (a b : ℕ) → byte_at m.bytes a ≡ Some b → b < 256
@@ -31,5 +31,5 @@ IsDeclared types (Named t) = t < length types
 -- the root words of an image that is sound for a type represent a value of it, in each memory that keeps its blocks
 abbrev pub SoundImagesHaveValues : Type 0
 SoundImagesHaveValues = (p : Program) → IsTyped p → Agrees p → (image : Image) (ty : Ty) → IsDeclared p.types ty
-    → IsSoundImage p.types (flat_layouts p) image ty → (m : Memory) → Keeps image.blocks m
+    → IsSoundImage p.types (flat_layouts p) image ty → (m : Memory) → KeepsImage image.blocks m
     → (v : Value) × Represents p.types (flat_layouts p) m false ty v image.root

@@ -2,9 +2,9 @@
 
 ghost use Rattle.std.specs.Prelude.{◌≡◌, ◌++◌, OnOk, length};
 ghost use Rattle.rb_image.specs.Parts.{at_of, look};
-ghost use Rattle.rb_image.specs.Sound.{IsFound};
+ghost use Rattle.rb_image.specs.Sound.{SoundnessIsFound};
 ghost use Rattle.rb_image.specs.inner.Descending.{looks};
-ghost use Rattle.rb_image.specs.inner.Ending.{DescentsEnd, Ends, depth_bound};
+ghost use Rattle.rb_image.specs.inner.Ending.{DescentsEnd, DescentEnds, depth_bound};
 ghost use Rattle.rb_image_text.specs.Places.{AreInPlace};
 
 use crate::kept::Place;
@@ -52,9 +52,11 @@ pub(crate) fn descend(
     root: Place,
 ) -> Result<(), ImageFault>
     requires placed { AreInPlace memory.now }
-    requires ends { Ends (look agreed.now.covered.program.types agreed.now.layouts memory.now)
+    requires ends { DescentEnds
+        (look agreed.now.covered.program.types agreed.now.layouts memory.now)
         (depth_bound 18446744073709551616 (length agreed.now.layouts)) (at_of root) }
-    ensures { IsFound (look agreed.now.covered.program.types agreed.now.layouts memory.now) (at_of root) result }
+    ensures { SoundnessIsFound (look agreed.now.covered.program.types agreed.now.layouts memory.now)
+        (at_of root) result }
 {
     let mut known = Known::new(alloc);
     let mut todo = Vec::new(alloc);

@@ -4,8 +4,8 @@ ghost use Rattle.std.specs.Prelude.{◌≡◌, ◌⊎◌, IfErr, OnOk};
 ghost use Rattle.rb_image_text.specs.Places.{AreInPlace};
 ghost use Rattle.rb_image_text.specs.declared.fault.ImageFault.{ImageFault};
 ghost use Rattle.rb_image_text.specs.declared.fault.ImageFault.TheVariants.{Memory};
-ghost use Rattle.rb_image.specs.Roots.{IsFirstFault, IsSoundImage};
-ghost use Rattle.rb_image.specs.Sound.{IsFault, IsFine};
+ghost use Rattle.rb_image.specs.Roots.{IsFirstImageFault, IsSoundImage};
+ghost use Rattle.rb_image.specs.Sound.{IsFault, IsFineResult};
 
 use crate::descent::{descend, descents_end};
 use crate::roots::{first_misfit, root_place, widths_of};
@@ -33,10 +33,13 @@ pub fn examine_image(
     requires placed { AreInPlace image.now.blocks }
     ensures sound { OnOk result (IsSoundImage agreed.now.covered.program.types agreed.now.layouts image.now ty) }
     ensures fault { IfErr result (λ fault.
-        IsFirstFault agreed.now.covered.program.types agreed.now.layouts image.now ty fault ⊎ (fault ≡ Memory)) }
-    ensures fine { IsSoundImage agreed.now.covered.program.types agreed.now.layouts image.now ty → IsFine result }
+        IsFirstImageFault agreed.now.covered.program.types agreed.now.layouts image.now ty fault
+        ⊎ (fault ≡ Memory)) }
+    ensures fine { IsSoundImage agreed.now.covered.program.types agreed.now.layouts image.now ty
+        → IsFineResult result }
     ensures first { (fault : ImageFault)
-        → IsFirstFault agreed.now.covered.program.types agreed.now.layouts image.now ty fault → IsFault fault result }
+        → IsFirstImageFault agreed.now.covered.program.types agreed.now.layouts image.now ty fault
+        → IsFault fault result }
 {
     descents_end(agreed);
     let memory = image.blocks.as_slice();

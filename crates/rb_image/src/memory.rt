@@ -5,7 +5,7 @@ ghost use Rattle.rb_bytes.specs.Laws.{Extends};
 ghost use Rattle.rb_bytes.specs.Memory.{IsGood, IsSize, most_region, size_at};
 ghost use Rattle.rb_image_text.specs.Images.{AreBlocks};
 ghost use Rattle.rb_image_text.specs.Places.{AreInPlace};
-ghost use Rattle.rb_image.specs.Memories.{Stand, Stands};
+ghost use Rattle.rb_image.specs.Memories.{Stand, BlockStands};
 ghost use Rattle.rb_image.specs.inner.Filling.{AreStored, EndBy, with_next};
 
 use rb_bytes::checked::CheckedMemory;
@@ -95,7 +95,7 @@ fn place_block(memory: &mut CheckedMemory, block: &ImageBlock)
     requires room { block.now.at + length block.now.bytes ≤ memory.old.limit }
     ensures next { memory.new.next ≡ block.now.at + length block.now.bytes }
     ensures kept { Extends memory.old memory.new }
-    ensures stands { Stands memory.new block.now }
+    ensures stands { BlockStands memory.new block.now }
     ensures good { IsGood memory.new }
 {
     fill_to(memory, block.at);

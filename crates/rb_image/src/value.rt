@@ -6,8 +6,8 @@ ghost use Rattle.rb_core.specs.Values.{node_count};
 ghost use Rattle.rb_core.specs.declared.value.Value.{Value};
 ghost use Rattle.rb_image.specs.Falling.{RootDescends};
 ghost use Rattle.rb_image.specs.Memories.{image_memory};
-ghost use Rattle.rb_image.specs.Reads.{IsRead, IsReason};
-ghost use Rattle.rb_image.specs.Roots.{IsFirstFault, IsSoundImage};
+ghost use Rattle.rb_image.specs.Reads.{ImageIsRead, IsReason};
+ghost use Rattle.rb_image.specs.Roots.{IsFirstImageFault, IsSoundImage};
 ghost use Rattle.rb_image.specs.Sound.{IsFault};
 ghost use Rattle.rb_image.specs.Values.{IsDeclared};
 ghost use Rattle.rb_image.specs.inner.Having.{AreSoundWhereTheyDescend, HaveDescents, HaveValues};
@@ -61,7 +61,7 @@ fn value_of(
     requires declared { IsDeclared agreed.now.covered.program.types ty }
     requires sound { IsSoundImage agreed.now.covered.program.types agreed.now.layouts image.now ty }
     ensures { (v : Value) → AreOf agreed.now.covered.program (image_memory image.now.blocks) ty image.now.root v
-        → IsRead v limit result }
+        → ImageIsRead v limit result }
 {
     images_have_values(agreed);
     let memory = memory_of(alloc, image.blocks.as_slice())?;
@@ -93,11 +93,13 @@ pub fn read_image(
     requires declared { IsDeclared agreed.now.covered.program.types ty }
     ensures value { IfOk result (λ v.
         RootDescends agreed.now.covered.program image.now ty v × (node_count v ≤ limit)) }
-    ensures each { (v : Value) → RootDescends agreed.now.covered.program image.now ty v → IsRead v limit result }
+    ensures each { (v : Value) → RootDescends agreed.now.covered.program image.now ty v
+        → ImageIsRead v limit result }
     ensures fault { IfErr result (λ fault.
         IsReason agreed.now.covered.program agreed.now.layouts image.now ty limit fault) }
     ensures first { (fault : ImageFault)
-        → IsFirstFault agreed.now.covered.program.types agreed.now.layouts image.now ty fault → IsFault fault result }
+        → IsFirstImageFault agreed.now.covered.program.types agreed.now.layouts image.now ty fault
+        → IsFault fault result }
 {
     images_descend(agreed);
     examine_image(alloc, agreed, ty, image)?;

@@ -5,14 +5,14 @@ use Rattle.std.specs.Result.{IsErrAnd}
 use Rattle.std.proofs.lemmas.Bool.{false≢true}
 use Rattle.rb_image_text.specs.Stopping.{IsTextOf}
 use Rattle.rb_image_text.specs.Refusals.{IsThis}
-use Rattle.rb_image_text.specs.inner.Reading.{IsReading}
+use Rattle.rb_image_text.specs.inner.Reading.{IsImageReading}
 use Rattle.rb_image_text.specs.declared.image.Image.{Image}
 use Rattle.rb_image_text.specs.declared.fault.ImageFault.{ImageFault}
 use Rattle.rb_image_text.specs.declared.fault.ImageFault.TheVariants as fault
 use Rattle.rb_image_text.proofs.StopLemmas.{none_whole}
 
 -- bytes that aren't read
-pub unread_this : (bytes : List ℕ) (e : ImageFault) (i : Image) → IsReading bytes (Err e) → IsTextOf bytes i → IsThis i (Err e)
+pub unread_this : (bytes : List ℕ) (e : ImageFault) (i : Image) → IsImageReading bytes (Err e) → IsTextOf bytes i → IsThis i (Err e)
 unread_this bytes (fault.ImageSyntax at) i r text = none_whole bytes at i r text
 unread_this bytes (fault.ImageBlock n) i r text = r
 unread_this bytes (fault.BadRoot n) i r text = r

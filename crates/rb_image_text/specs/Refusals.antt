@@ -8,11 +8,11 @@ use Rattle.rb_image_text.specs.declared.fault.ImageFault.TheVariants.{ImageSynta
 
 -- the fault is why bytes are refused: where they stop being a text, or the first block out of its place in the image
 -- whose text they are. Want of memory may be answered for any bytes, no other fault for any
-abbrev pub IsRefusal : List ℕ → ImageFault → Type 0
-IsRefusal bytes (ImageSyntax at) = StopsAt bytes at
-IsRefusal bytes (ImageBlock n) = (i : Image) × IsTextOf bytes i × IsFirstMisplaced i.blocks n
-IsRefusal bytes Memory = Unit {0}
-IsRefusal bytes fault = ⊥
+abbrev pub IsImageRefusal : List ℕ → ImageFault → Type 0
+IsImageRefusal bytes (ImageSyntax at) = StopsAt bytes at
+IsImageRefusal bytes (ImageBlock n) = (i : Image) × IsTextOf bytes i × IsFirstMisplaced i.blocks n
+IsImageRefusal bytes Memory = Unit {0}
+IsImageRefusal bytes fault = ⊥
 
 -- the answer is this image, or want of memory, which says nothing of it; no other fault
 abbrev pub IsThis : Image → Result Image ImageFault → Type 0

@@ -5,8 +5,8 @@ ghost use Rattle.rb_image_text.specs.Images.{AreBlocks, IsImage};
 ghost use Rattle.rb_image_text.specs.Text.{image_text};
 ghost use Rattle.rb_image_text.specs.Stopping.{IsTextOf};
 ghost use Rattle.rb_image_text.specs.Places.{AreInPlace};
-ghost use Rattle.rb_image_text.specs.Refusals.{IsRefusal, IsThis};
-ghost use Rattle.rb_image_text.specs.inner.Reading.{IsRun, IsReading};
+ghost use Rattle.rb_image_text.specs.Refusals.{IsImageRefusal, IsThis};
+ghost use Rattle.rb_image_text.specs.inner.Reading.{IsRun, IsImageReading};
 ghost use Rattle.rb_image_text.specs.declared.image.Image.{Image as Image_};
 
 use crate::fault::ImageFault;
@@ -32,7 +32,7 @@ fn read_bytes(alloc: Global, bytes: &[u8]) -> Result<Reader, ImageFault>
 // The image whose text the bytes are, wherever its blocks lie; or the byte at which no text goes
 // on, their length where they only begin one.
 fn read_whole(alloc: Global, bytes: &[u8]) -> Result<Image, ImageFault>
-    ensures reading { IsReading bytes.now result }
+    ensures reading { IsImageReading bytes.now result }
     ensures only { (i : Image_) → IsTextOf bytes.now i → IfOk result (λ read. read ≡ i) }
 {
     let reader = read_bytes(alloc, bytes)?;
@@ -54,7 +54,7 @@ pub fn read_image_text(alloc: Global, bytes: &[u8]) -> Result<Image, ImageFault>
     ensures sized { IfOk result (λ i. AreBlocks i.blocks) }
     ensures placed { IfOk result (λ i. AreInPlace i.blocks) }
     ensures each { (i : Image_) → IsImage i → AreInPlace i.blocks → bytes.now ≡ image_text i → IsThis i result }
-    ensures refusal { IfErr result (λ fault. IsRefusal bytes.now fault) }
+    ensures refusal { IfErr result (λ fault. IsImageRefusal bytes.now fault) }
 {
     let image = read_whole(alloc, bytes)?;
     match first_misplaced(image.blocks.as_slice()) {

@@ -18,9 +18,9 @@ use Rattle.rb_layout.specs.declared.goals.Literal.{Literal}
 use Rattle.rb_layout.specs.declared.goals.Goal.{Goal}
 use Rattle.rb_layout.specs.Positions.{open_positions, layout_of}
 use Rattle.rb_layout.specs.Locations.{constant_bit}
-use Rattle.rb_layout.specs.Excluded.{Meets, Bars, differs, null, within}
+use Rattle.rb_layout.specs.Excluded.{MeetsRange, Bars, differs, null, within}
 use Rattle.rb_layout.specs.inner.Barring.{is_other, bit_differs, is_pointer, null_at, null_in, position_type, part_literal, goal_on, goal_at, goal_of, goal_in, is_known, part_barred, parts_barred, word_barred, root_barred, leaf_barred, leaves_barred, has_leaf, layout_barred, goal_barred}
-use Rattle.rb_layout.specs.inner.Settling.{Holds}
+use Rattle.rb_layout.specs.inner.Settling.{GoalHolds}
 use Rattle.rb_layout.proofs.OpenPositions.{position-typed, type-open}
 
 -- ---- tests
@@ -214,15 +214,15 @@ module _ (types : List DataDecl) (layouts : List Layout) where
   abbrev Barred : Leaf → FlatWord → Literal → Type 0
   Barred leaf f x = Bars types layouts leaf f x.o x.l x.bits
 
-  module _ (known : Goal → Bool) (sound : (g : Goal) → known g ≡ true → Holds types layouts g) where
+  module _ (known : Goal → Bool) (sound : (g : Goal) → known g ≡ true → GoalHolds types layouts g) where
     within_is : (leaf : Leaf) (f : FlatWord) (x : Literal) (k : ℕ) (p : Part) (g : Goal) → slice_get f.parts k ≡ Some p
-        → GoalPart (position_type types leaf.prov) x p g → Holds types layouts g → Barred leaf f x
+        → GoalPart (position_type types leaf.prov) x p g → GoalHolds types layouts g → Barred leaf f x
     within_is leaf f x k p g is_part part holds =
         let place = type-open (open_positions types leaf.prov) part.path (Named g.ty) part.is_type in
         let lit = literal-is x p g.literal part.is_literal in
         let lt = lit.0 in
         let same : shared x p ≡ g.literal = lit.1 in
-        let meets : Meets types leaf f x.o x.l g.ty g.word p.o (from_of x p) (end_of x p - from_of x p) =
+        let meets : MeetsRange types leaf f x.o x.l g.ty g.word p.o (from_of x p) (end_of x p - from_of x p) =
         record {
           number = k;
           part = p;
@@ -277,7 +277,7 @@ module _ (types : List DataDecl) (layouts : List Layout) where
     some_leaf [] e = absurd cc
     some_leaf (y ∷ ys) e = omega arith
 
-    layout_is : (g : Goal) (l : Option Layout) → layout_of layouts g.ty ≡ l → layout_barred known types g l ≡ true → Holds types layouts g
+    layout_is : (g : Goal) (l : Option Layout) → layout_of layouts g.ty ≡ l → layout_barred known types g l ≡ true → GoalHolds types layouts g
     layout_is g None is e = absurd cc
     layout_is g (Some l) is e =
         let h = both (has_leaf l.leaves) (leaves_barred known types g l.leaves) e in
@@ -293,7 +293,7 @@ module _ (types : List DataDecl) (layouts : List Layout) where
               subst (λ (u : FlatWord). Barred leaf u g.literal) same r.2);
         }
 
-    pub goal-holds : (g : Goal) → goal_barred known types layouts g ≡ true → Holds types layouts g
+    pub goal-holds : (g : Goal) → goal_barred known types layouts g ≡ true → GoalHolds types layouts g
     goal-holds g e = layout_is g (layout_of layouts g.ty) refl e
 
   -- the goals of the parts are among some goals
@@ -331,7 +331,7 @@ module _ (types : List DataDecl) (layouts : List Layout) where
         ap (layout_barred known types g) is ∙ and_of (has_leaf layout.leaves) (leaves_barred known types g layout.leaves) (leaf_of_some layout.leaves some) each
 
     -- the goal of a part that meets the range
-    meets_goal : (leaf : Leaf) (f : FlatWord) (o l c s j p a b : ℕ) (m : Meets types leaf f o l s j p a b)
+    meets_goal : (leaf : Leaf) (f : FlatWord) (o l c s j p a b : ℕ) (m : MeetsRange types leaf f o l s j p a b)
         → goal_in (position_type types leaf.prov) (record { o = o; l = l; bits = c }) m.part
         ≡ Some (record { ty = s; word = j; literal = record { o = a - p; l = b; bits = take_of c (a - o) b } })
     meets_goal leaf f o l c s j p a b m =

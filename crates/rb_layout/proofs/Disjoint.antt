@@ -24,11 +24,11 @@ use Rattle.rb_layout.specs.A3.{ItemFits, FailsItem, PartsFit, FailsParts, Fits, 
 use Rattle.rb_layout.specs.A4.{HasBlocks, FailsBlocks, IsBlockLength, IsBlockWidth}
 use Rattle.rb_layout.specs.A5.{IsComplete, FailsComplete, IsApart, FailsApart}
 use Rattle.rb_layout.specs.A6.{HoldsOnce, FailsHeld, held}
-use Rattle.rb_layout.specs.A7.{Meets, FailsTest, MeetsAll, FailsTests}
+use Rattle.rb_layout.specs.A7.{MeetsTest, FailsTest, MeetsAll, FailsTests}
 use Rattle.rb_layout.specs.A8.{AllSplitWell, FailsSplits, length_of}
 use Rattle.rb_layout.specs.A9.{FlattensNoPointer, FailsNoPointer, FailsFlattening, Flattens}
 use Rattle.rb_layout.specs.A10.{HoldsField, FailsHolding}
-use Rattle.rb_layout.specs.Spots.{Spot, Shape, Root, Parts, Complete, Apart, Held, Tests, Splits, Flattening, NoPointer, Holding, Holds, Fails, Checked}
+use Rattle.rb_layout.specs.Spots.{Spot, Shape, Root, Parts, Complete, Apart, Held, Tests, Splits, Flattening, NoPointer, Holding, SpotHolds, SpotFails, Checked}
 use Rattle.rb_layout.specs.Spots as spot
 
 not_shape : (d : Option LayoutDecl) (why : Why) → HasShape d → FailsShape d why → ⊥
@@ -104,7 +104,7 @@ module _ (types : List DataDecl) (layouts : List Layout) where
   not_apart t layout n leaf (Common m) h f = h m f.1 f.0 f.2 f.3
   not_apart t layout n leaf why h f = f
 
-  not_test : (leaf : Leaf) (test : Test) (why : Why) → Meets types layouts leaf test → FailsTest types layouts leaf test why → ⊥
+  not_test : (leaf : Leaf) (test : Test) (why : Why) → MeetsTest types layouts leaf test → FailsTest types layouts leaf test why → ⊥
   not_test leaf (Is at c) (Unresolved loc) h f = let e = sym f.1 ∙ h.0.1 in cc
   not_test leaf (Is at c) (NotKnown loc d) h f = f.2 h.1
   not_test leaf (IsNone at literals) (Unresolved loc) h f = let e = sym f.1 ∙ h.0.1 in cc
@@ -149,7 +149,7 @@ module _ (p : Program) (layouts : List Layout) where
   not_holding t why h f = f
 
   -- at one place
-  pub not_beside : (s : Spot) (why : Why) → Holds p layouts s → Fails p layouts s why → ⊥
+  pub not_beside : (s : Spot) (why : Why) → SpotHolds p layouts s → SpotFails p layouts s why → ⊥
   not_beside (Shape t decl) why h f = not_shape decl why h f
   not_beside (Root t n layout leaf) why h f = not_root layout.shape leaf why h f
   not_beside (Parts t n i leaf item) why h f = not_item p.layouts _ i item why h f

@@ -16,7 +16,7 @@ use Rattle.rb_layout.specs.inner.Barring.{position_type, goal_in, same_goal, kno
 use Rattle.std.proofs.lemmas.Option.{slice_get_within, slice_get-get_or}
 use Rattle.std.proofs.lemmas.Bool.{cases_lt}
 use Rattle.rb_layout.proofs.Derivations.{both, or_is, or_left, or_right, and_of, same_nat, eq_of, goal-part, literal-is}
-use Rattle.rb_layout.specs.inner.Finding.{has_goal, with_found, with_parts, with_root, with_leaf, with_leaves, with_layout, with_below, AreFresh, Keeps, IsIn, HasBelow}
+use Rattle.rb_layout.specs.inner.Finding.{has_goal, with_found, with_parts, with_root, with_leaf, with_leaves, with_layout, with_below, AreFresh, KeepsGoals, IsIn, HasBelow}
 
 pub parts-from : (type_of : List ℕ → Option Ty) (x : Literal) (es : List Entry) (ps : List Part) (k : ℕ) (d : Part) → k < length ps
     → with_parts type_of x es (drop k ps) ≡ with_parts type_of x (with_found es (goal_in type_of x (get_or ps k d))) (drop (k + 1) ps)
@@ -128,7 +128,7 @@ first-of (x ∷ es) g h = first_case x es g (same_goal x.goal g) refl h (first-o
 -- a list with all that another has, in the same places, and more
 pub record Grows (old new : List Entry) : Type 0 where
   pub same : (k : ℕ) (e : Entry) → slice_get old k ≡ Some e → slice_get new k ≡ Some e
-  pub keeps : Keeps old new
+  pub keeps : KeepsGoals old new
 
 grows_alone : (es : List Entry) → Grows es es
 grows_alone es = record { same = λ k e is. is; keeps = λ g h. h }

@@ -13,7 +13,7 @@ use Rattle.rb_layout.specs.Each.{EachLayout, EachLeaf}
 use Rattle.rb_layout.specs.A1.{HasShape}
 use Rattle.rb_layout.specs.A3.{ItemFits}
 use Rattle.rb_layout.specs.Agreement.{Obeys}
-use Rattle.rb_layout.specs.Spots.{Spot, Root, Parts, Complete, Apart, Held, Tests, Splits, Flattening, NoPointer, Holding, Holds, Checked, HoldAtAll, PlacesAreAll, by_leaves, by_types, shape_spots, part_spots, leaf_spots, a3_spots, a5_spots, a9_spots}
+use Rattle.rb_layout.specs.Spots.{Spot, Root, Parts, Complete, Apart, Held, Tests, Splits, Flattening, NoPointer, Holding, SpotHolds, Checked, HoldAtAll, PlacesAreAll, by_leaves, by_types, shape_spots, part_spots, leaf_spots, a3_spots, a5_spots, a9_spots}
 use Rattle.rb_layout.specs.Spots as spot
 
 from_none : (k : ℕ) → 0 + k ≡ k
@@ -75,17 +75,17 @@ module _ (p : Program) (layouts : List Layout) where
   all_types : (spots : ℕ → Layout → List Spot) → EachLayout layouts (λ t layout. All (spots t layout)) → All (by_types spots 0 layouts)
   all_types spots h = at_types spots 0 layouts (λ t layout e. subst (λ m. All (spots m layout)) (sym (from_none t)) (h t layout e))
 
-  each_leaf : (spot : ℕ → ℕ → Layout → Leaf → Spot) (t : ℕ) (layout : Layout) → All (leaf_spots spot t layout) → (n : ℕ) (leaf : Leaf) → slice_get layout.leaves n ≡ Some leaf → Holds p layouts (spot t n layout leaf)
-  each_leaf spot t layout h n leaf e = subst (λ m. Holds p layouts (spot t m layout leaf)) (from_none n) (at_leaf (λ n leaf. spot t n layout leaf ∷ []) 0 layout.leaves h n leaf e).0
+  each_leaf : (spot : ℕ → ℕ → Layout → Leaf → Spot) (t : ℕ) (layout : Layout) → All (leaf_spots spot t layout) → (n : ℕ) (leaf : Leaf) → slice_get layout.leaves n ≡ Some leaf → SpotHolds p layouts (spot t n layout leaf)
+  each_leaf spot t layout h n leaf e = subst (λ m. SpotHolds p layouts (spot t m layout leaf)) (from_none n) (at_leaf (λ n leaf. spot t n layout leaf ∷ []) 0 layout.leaves h n leaf e).0
 
-  all_leaf : (spot : ℕ → ℕ → Layout → Leaf → Spot) (t : ℕ) (layout : Layout) → ((n : ℕ) (leaf : Leaf) → slice_get layout.leaves n ≡ Some leaf → Holds p layouts (spot t n layout leaf)) → All (leaf_spots spot t layout)
-  all_leaf spot t layout h = at_leaves (λ n leaf. spot t n layout leaf ∷ []) 0 layout.leaves (λ n leaf e. (subst (λ m. Holds p layouts (spot t m layout leaf)) (sym (from_none n)) (h n leaf e), tt))
+  all_leaf : (spot : ℕ → ℕ → Layout → Leaf → Spot) (t : ℕ) (layout : Layout) → ((n : ℕ) (leaf : Leaf) → slice_get layout.leaves n ≡ Some leaf → SpotHolds p layouts (spot t n layout leaf)) → All (leaf_spots spot t layout)
+  all_leaf spot t layout h = at_leaves (λ n leaf. spot t n layout leaf ∷ []) 0 layout.leaves (λ n leaf e. (subst (λ m. SpotHolds p layouts (spot t m layout leaf)) (sym (from_none n)) (h n leaf e), tt))
 
   -- a rule that goes by leaves
-  by_leaf : (spot : ℕ → ℕ → Layout → Leaf → Spot) → All (by_types (leaf_spots spot) 0 layouts) → EachLeaf layouts (λ t layout n leaf. Holds p layouts (spot t n layout leaf))
+  by_leaf : (spot : ℕ → ℕ → Layout → Leaf → Spot) → All (by_types (leaf_spots spot) 0 layouts) → EachLeaf layouts (λ t layout n leaf. SpotHolds p layouts (spot t n layout leaf))
   by_leaf spot h t layout n leaf is_layout is_leaf = each_leaf spot t layout (each_type (leaf_spots spot) h t layout is_layout) n leaf is_leaf
 
-  from_leaf : (spot : ℕ → ℕ → Layout → Leaf → Spot) → EachLeaf layouts (λ t layout n leaf. Holds p layouts (spot t n layout leaf)) → All (by_types (leaf_spots spot) 0 layouts)
+  from_leaf : (spot : ℕ → ℕ → Layout → Leaf → Spot) → EachLeaf layouts (λ t layout n leaf. SpotHolds p layouts (spot t n layout leaf)) → All (by_types (leaf_spots spot) 0 layouts)
   from_leaf spot h = all_types (leaf_spots spot) (λ t layout is_layout. all_leaf spot t layout (λ n leaf is_leaf. h t layout n leaf is_layout is_leaf))
 
   -- Items and types ---------------------------------------------------------------------------------

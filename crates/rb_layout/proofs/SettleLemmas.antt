@@ -8,8 +8,8 @@ use Rattle.rb_layout.specs.declared.layout.Layout.{Layout}
 use Rattle.rb_layout.specs.declared.goals.Goal.{Goal}
 use Rattle.rb_layout.specs.declared.goals.Entry.{Entry}
 use Rattle.rb_layout.specs.inner.Barring.{same_goal, knows, goal_barred, IsAsked, AreAsked}
-use Rattle.rb_layout.specs.inner.Finding.{has_goal, Keeps}
-use Rattle.rb_layout.specs.inner.Settling.{turns, marked, looked, passed, changes, pending, Holds, AreTrue, AreSettled}
+use Rattle.rb_layout.specs.inner.Finding.{has_goal, KeepsGoals}
+use Rattle.rb_layout.specs.inner.Settling.{turns, marked, looked, passed, changes, pending, GoalHolds, AreTrue, AreSettled}
 use Rattle.rb_layout.proofs.Derivations.{both, or_is, or_left, or_right, goal-holds}
 use Rattle.rb_layout.proofs.FindLemmas.{same-goal}
 
@@ -108,7 +108,7 @@ module _ (types : List DataDecl) (layouts : List Layout) where
 
   -- ---- what each look keeps
   pub record Goes (old new : List Entry) : Type 0 where
-    pub keeps : Keeps old new
+    pub keeps : KeepsGoals old new
     pub asked : AreAsked old → AreAsked new
     pub true_ones : AreTrue types layouts old → AreTrue types layouts new
     pub fewer : pending new ≤ pending old
@@ -133,7 +133,7 @@ module _ (types : List DataDecl) (layouts : List Layout) where
     ];
     true_ones = λ all g h. elim (knows_set es i t.entry g t.is_entry h) [
       | inl s ↦ all g s
-      | inr s ↦ subst (λ (x : Goal). Holds types layouts x) s (goal-holds types layouts (knows es) all t.entry.goal t.holds)
+      | inr s ↦ subst (λ (x : Goal). GoalHolds types layouts x) s (goal-holds types layouts (knows es) all t.entry.goal t.holds)
     ];
     fewer = (let less = pending_set es i t.entry t.is_entry t.not_yet in omega arith);
   }
@@ -175,7 +175,7 @@ module _ (types : List DataDecl) (layouts : List Layout) where
       let rest = pass-still n es (subst (λ fs. changes types layouts n fs ≡ false) same h.1) in
       (ap (passed types layouts n) same ∙ rest.0, λ k lt. last_or (λ j. turns types layouts es (slice_get es j) ≡ false) n k lt h.0 rest.1)
 
-  pub settled-pass : (old es : List Entry) → changes types layouts (length es) es ≡ false → Keeps old es → (AreTrue types layouts old → AreTrue types layouts es)
+  pub settled-pass : (old es : List Entry) → changes types layouts (length es) es ≡ false → KeepsGoals old es → (AreTrue types layouts old → AreTrue types layouts es)
       → AreSettled types layouts old (passed types layouts (length es) es)
   settled-pass old es e keeps true_ones =
       let r = pass-still (length es) es e in

@@ -23,12 +23,12 @@ abbrev pub Matches : Pat → Value → Type 0
 Matches prov v = matches_of prov v ≡ true
 
 -- some leaf of the layout has a provenance that matches the value
-abbrev pub HasLeaf : Layout → Value → Type 0
-HasLeaf layout v = (n : ℕ) × (leaf : Leaf) × (slice_get layout.leaves n ≡ Some leaf) × Matches leaf.prov v
+abbrev pub HasMatchingLeaf : Layout → Value → Type 0
+HasMatchingLeaf layout v = (n : ℕ) × (leaf : Leaf) × (slice_get layout.leaves n ≡ Some leaf) × Matches leaf.prov v
 
 -- every value of data type t has a leaf in its layout
 abbrev pub IsComplete : List DataDecl → ℕ → Layout → Type 0
-IsComplete types t layout = (v : Value) → IsOf types t v → HasLeaf layout v
+IsComplete types t layout = (v : Value) → IsOf types t v → HasMatchingLeaf layout v
 
 -- two provenances have a value of data type t in common, which both match
 abbrev pub HaveCommon : List DataDecl → ℕ → Pat → Pat → Type 0
@@ -53,7 +53,7 @@ pub record IsWithoutLeaf (types : List DataDecl) (t : ℕ) (layout : Layout) (q 
   pub value : Value
   pub typed : IsOf types t value
   pub matched : Matches q value
-  pub none : (v : Value) → IsOf types t v → Matches q v → HasLeaf layout v → ⊥
+  pub none : (v : Value) → IsOf types t v → Matches q v → HasMatchingLeaf layout v → ⊥
 
 -- how a layout fails to have a leaf for each value of its type, by the evidence: a pattern whose values have none; no
 -- other evidence fails this half of the rule

@@ -26,13 +26,13 @@ IsLiteral literals c = (k : ℕ) × (slice_get literals k ≡ Some c)
 
 -- A leaf passes a test: the split's location resolves in it; below a literal, that number is known there; below
 -- `else`, each literal is excluded there, and without literals nothing but the resolving is asked.
-abbrev pub Meets : List DataDecl → List Layout → Leaf → Test → Type 0
-Meets types layouts leaf (Is loc c) = Resolves leaf loc × (known leaf loc ≡ Some c)
-Meets types layouts leaf (IsNone loc literals) =
+abbrev pub MeetsTest : List DataDecl → List Layout → Leaf → Test → Type 0
+MeetsTest types layouts leaf (Is loc c) = Resolves leaf loc × (known leaf loc ≡ Some c)
+MeetsTest types layouts leaf (IsNone loc literals) =
     Resolves leaf loc × ((c : ℕ) → IsLiteral literals c → Excludes types layouts leaf loc c)
 
 -- the test is one of those on a way to leaf n in the tree of splits
-pub record IsAbove (tree : FlatTree) (n : ℕ) (test : Test) : Type 0 where
+pub record IsTestAbove (tree : FlatTree) (n : ℕ) (test : Test) : Type 0 where
   pub route_number : ℕ
   pub route : Route
   pub number : ℕ
@@ -43,7 +43,7 @@ pub record IsAbove (tree : FlatTree) (n : ℕ) (test : Test) : Type 0 where
 -- a leaf, which has number n, passes each test on a way to it in the tree of splits; where the tree is the leaf
 -- alone, there are none
 abbrev pub MeetsAll : List DataDecl → List Layout → FlatTree → ℕ → Leaf → Type 0
-MeetsAll types layouts tree n leaf = (test : Test) → IsAbove tree n test → Meets types layouts leaf test
+MeetsAll types layouts tree n leaf = (test : Test) → IsTestAbove tree n test → MeetsTest types layouts leaf test
 
 -- the rule: each leaf of each layout passes all tests above it
 abbrev pub A7 : List DataDecl → List Layout → Type 0
@@ -62,4 +62,5 @@ FailsTest types layouts leaf test why = ⊥
 
 -- how leaf n of a layout with this tree of splits fails the rule: the evidence fails a test on a way to it
 abbrev pub FailsTests : List DataDecl → List Layout → FlatTree → ℕ → Leaf → Why → Type 0
-FailsTests types layouts tree n leaf why = (test : Test) × IsAbove tree n test × FailsTest types layouts leaf test why
+FailsTests types layouts tree n leaf why =
+    (test : Test) × IsTestAbove tree n test × FailsTest types layouts leaf test why

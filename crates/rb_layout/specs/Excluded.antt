@@ -37,7 +37,7 @@ pub record HasNull (f : FlatWord) (o l c : ℕ) : Type 0 where
 
 -- A part of a flat word has word j of a field of data type s, which is at an open position of the leaf's provenance.
 -- The part begins at bit p of the flat word, and has the bits [a:b] in common with the range [o:l], at least one.
-pub record Meets (types : List DataDecl) (leaf : Leaf) (f : FlatWord) (o l s j p a b : ℕ) : Type 0 where
+pub record MeetsRange (types : List DataDecl) (leaf : Leaf) (f : FlatWord) (o l s j p a b : ℕ) : Type 0 where
   pub number : ℕ
   pub part : Part
   pub is_part : slice_get f.parts number ≡ Some part
@@ -59,7 +59,7 @@ pub data Bars (types : List DataDecl) (layouts : List Layout) : Leaf → FlatWor
   differs : (leaf : Leaf) (f : FlatWord) (o l c : ℕ) → HasOtherBit f o l c → Bars types layouts leaf f o l c
   null : (leaf : Leaf) (f : FlatWord) (o l c : ℕ) → HasNull f o l c → Bars types layouts leaf f o l c
   -- type s has a leaf, and in each of its leaves root word j bars c's bits of [a:b] on the range [a - p:b]
-  within : (leaf : Leaf) (f : FlatWord) (o l c s j p a b : ℕ) → Meets types leaf f o l s j p a b
+  within : (leaf : Leaf) (f : FlatWord) (o l c s j p a b : ℕ) → MeetsRange types leaf f o l s j p a b
       → (layout : Layout) → layout_of layouts s ≡ Some layout → 0 < length layout.leaves
       → ((n : ℕ) (under : Leaf) → slice_get layout.leaves n ≡ Some under → (g : FlatWord)
       × (slice_get under.root j ≡ Some g))

@@ -49,64 +49,64 @@ pub data Spot : Type 0 where
 
 -- what a refusal says of a place: the rule's number from 1 to 10, the type's number, and the leaf's where the place
 -- has a leaf
-pub record Place : Type 0 where
+pub record RefusalPlace : Type 0 where
   pub rule : ℕ
   pub ty : ℕ
   pub leaf : Option ℕ
 
 -- a place of this rule at type t as a whole, without a leaf
-abbrev pub of_type : ℕ → ℕ → Place
+abbrev pub of_type : ℕ → ℕ → RefusalPlace
 of_type rule t = record { rule = rule; ty = t; leaf = None }
 
 -- a place of this rule at leaf n of type t
-abbrev pub of_leaf : ℕ → ℕ → ℕ → Place
+abbrev pub of_leaf : ℕ → ℕ → ℕ → RefusalPlace
 of_leaf rule t n = record { rule = rule; ty = t; leaf = Some n }
 
 -- what a refusal says of a place: its rule, its type and its leaf; an item's number is said by the evidence
-abbrev pub place_of : Spot → Place
-place_of (Shape t decl) = of_type 1 t
-place_of (Root t n layout leaf) = of_leaf 2 t n
-place_of (Parts t n i leaf item) = of_leaf 3 t n
-place_of (Blocks t n leaf) = of_leaf 4 t n
-place_of (Complete t layout) = of_type 5 t
-place_of (Apart t n layout leaf) = of_leaf 5 t n
-place_of (Held t n leaf) = of_leaf 6 t n
-place_of (Tests t n layout leaf) = of_leaf 7 t n
-place_of (Splits t layout) = of_type 8 t
-place_of (Flattening t) = of_type 9 t
-place_of (NoPointer t n leaf) = of_leaf 9 t n
-place_of (Holding t) = of_type 10 t
+abbrev pub place_of_spot : Spot → RefusalPlace
+place_of_spot (Shape t decl) = of_type 1 t
+place_of_spot (Root t n layout leaf) = of_leaf 2 t n
+place_of_spot (Parts t n i leaf item) = of_leaf 3 t n
+place_of_spot (Blocks t n leaf) = of_leaf 4 t n
+place_of_spot (Complete t layout) = of_type 5 t
+place_of_spot (Apart t n layout leaf) = of_leaf 5 t n
+place_of_spot (Held t n leaf) = of_leaf 6 t n
+place_of_spot (Tests t n layout leaf) = of_leaf 7 t n
+place_of_spot (Splits t layout) = of_type 8 t
+place_of_spot (Flattening t) = of_type 9 t
+place_of_spot (NoPointer t n leaf) = of_leaf 9 t n
+place_of_spot (Holding t) = of_type 10 t
 
 module _ (p : Program) (layouts : List Layout) where
   -- the rule holds at this place, given the program and its flat layouts
-  abbrev pub Holds : Spot → Type 0
-  Holds (Shape t decl) = HasShape decl
-  Holds (Root t n layout leaf) = HasRoot layout.shape leaf
-  Holds (Parts t n i leaf item) = ItemFits p.layouts (open_positions p.types leaf.prov) item
-  Holds (Blocks t n leaf) = HasBlocks leaf
-  Holds (Complete t layout) = IsComplete p.types t layout
-  Holds (Apart t n layout leaf) = IsApart p.types t layout n leaf
-  Holds (Held t n leaf) = HoldsOnce p leaf (items_of p.layouts t n)
-  Holds (Tests t n layout leaf) = MeetsAll p.types layouts layout.tree n leaf
-  Holds (Splits t layout) = AllSplitWell layout
-  Holds (Flattening t) = HasNoCycle (Flattens layouts) t
-  Holds (NoPointer t n leaf) = FlattensNoPointer layouts leaf
-  Holds (Holding t) = HasNoCycle (HoldsField p.types layouts) t
+  abbrev pub SpotHolds : Spot → Type 0
+  SpotHolds (Shape t decl) = HasShape decl
+  SpotHolds (Root t n layout leaf) = HasRoot layout.shape leaf
+  SpotHolds (Parts t n i leaf item) = ItemFits p.layouts (open_positions p.types leaf.prov) item
+  SpotHolds (Blocks t n leaf) = HasBlocks leaf
+  SpotHolds (Complete t layout) = IsComplete p.types t layout
+  SpotHolds (Apart t n layout leaf) = IsApart p.types t layout n leaf
+  SpotHolds (Held t n leaf) = HoldsOnce p leaf (items_of p.layouts t n)
+  SpotHolds (Tests t n layout leaf) = MeetsAll p.types layouts layout.tree n leaf
+  SpotHolds (Splits t layout) = AllSplitWell layout
+  SpotHolds (Flattening t) = HasNoCycle (Flattens layouts) t
+  SpotHolds (NoPointer t n leaf) = FlattensNoPointer layouts leaf
+  SpotHolds (Holding t) = HasNoCycle (HoldsField p.types layouts) t
 
   -- the evidence shows that the rule fails at this place, given the program and its flat layouts
-  abbrev pub Fails : Spot → Why → Type 0
-  Fails (Shape t decl) why = FailsShape decl why
-  Fails (Root t n layout leaf) why = FailsRoot layout.shape leaf why
-  Fails (Parts t n i leaf item) why = FailsItem p.layouts (open_positions p.types leaf.prov) i item why
-  Fails (Blocks t n leaf) why = FailsBlocks leaf why
-  Fails (Complete t layout) why = FailsComplete p.types t layout why
-  Fails (Apart t n layout leaf) why = FailsApart p.types t layout n leaf why
-  Fails (Held t n leaf) why = FailsHeld p leaf (items_of p.layouts t n) why
-  Fails (Tests t n layout leaf) why = FailsTests p.types layouts layout.tree n leaf why
-  Fails (Splits t layout) why = FailsSplits layout why
-  Fails (Flattening t) why = FailsFlattening layouts t why
-  Fails (NoPointer t n leaf) why = FailsNoPointer layouts leaf why
-  Fails (Holding t) why = FailsHolding p.types layouts t why
+  abbrev pub SpotFails : Spot → Why → Type 0
+  SpotFails (Shape t decl) why = FailsShape decl why
+  SpotFails (Root t n layout leaf) why = FailsRoot layout.shape leaf why
+  SpotFails (Parts t n i leaf item) why = FailsItem p.layouts (open_positions p.types leaf.prov) i item why
+  SpotFails (Blocks t n leaf) why = FailsBlocks leaf why
+  SpotFails (Complete t layout) why = FailsComplete p.types t layout why
+  SpotFails (Apart t n layout leaf) why = FailsApart p.types t layout n leaf why
+  SpotFails (Held t n leaf) why = FailsHeld p leaf (items_of p.layouts t n) why
+  SpotFails (Tests t n layout leaf) why = FailsTests p.types layouts layout.tree n leaf why
+  SpotFails (Splits t layout) why = FailsSplits layout why
+  SpotFails (Flattening t) why = FailsFlattening layouts t why
+  SpotFails (NoPointer t n leaf) why = FailsNoPointer layouts leaf why
+  SpotFails (Holding t) why = FailsHolding p.types layouts t why
 
 -- one after another ---------------------------------------------------------------------------
 
@@ -175,28 +175,28 @@ all_spots p layouts =
 abbrev pub Checked : Program → List Layout → List Spot → Option (Spot × Why) → Type 0
 Checked p layouts [] None = Unit {0}
 Checked p layouts [] (Some found) = ⊥
-Checked p layouts (s ∷ ss) None = Holds p layouts s × Checked p layouts ss None
+Checked p layouts (s ∷ ss) None = SpotHolds p layouts s × Checked p layouts ss None
 Checked p layouts (s ∷ ss) (Some found) =
-    ((found.0 ≡ s) × Fails p layouts s found.1) ⊎ (Holds p layouts s × Checked p layouts ss (Some found))
+    ((found.0 ≡ s) × SpotFails p layouts s found.1) ⊎ (SpotHolds p layouts s × Checked p layouts ss (Some found))
 
 -- the rules hold at all places of a program with these flat layouts
 abbrev pub HoldAtAll : Program → List Layout → Type 0
 HoldAtAll p layouts = Checked p layouts (all_spots p layouts) None
 
 -- a refusal names this place, by its rule, type and leaf, and gives this evidence
-abbrev pub IsRefusal : Refused → Spot → Why → Type 0
-IsRefusal r spot why = (record { rule = r.rule; ty = r.ty; leaf = r.leaf } ≡ place_of spot) × (r.why ≡ why)
+abbrev pub IsRefusalAt : Refused → Spot → Why → Type 0
+IsRefusalAt r spot why = (record { rule = r.rule; ty = r.ty; leaf = r.leaf } ≡ place_of_spot spot) × (r.why ≡ why)
 
 -- a program with these flat layouts is refused: the refusal names the first place at which a rule fails, with
 -- evidence that shows it
 abbrev pub IsRefusedBy : Program → List Layout → Refused → Type 0
 IsRefusedBy p layouts r =
-    (spot : Spot) × Checked p layouts (all_spots p layouts) (Some (spot, r.why)) × IsRefusal r spot r.why
+    (spot : Spot) × Checked p layouts (all_spots p layouts) (Some (spot, r.why)) × IsRefusalAt r spot r.why
 
 -- the law: at no place does a rule hold while some evidence shows that it fails there
 abbrev pub NeverBeside : Type 0
-NeverBeside = (p : Program) (layouts : List Layout) (spot : Spot) (why : Why) → Holds p layouts spot
-    → Fails p layouts spot why → ⊥
+NeverBeside = (p : Program) (layouts : List Layout) (spot : Spot) (why : Why) → SpotHolds p layouts spot
+    → SpotFails p layouts spot why → ⊥
 
 -- the law: where types flatten each other in a cycle, or hold each other in root words, there is a cycle to list from
 -- each of its types on, with each type once

@@ -19,9 +19,9 @@ status_of (printed text steps) = 0
 status_of (refused status line steps) = status_number status
 
 -- the text that an answer prints, or the line by which it refuses
-abbrev pub text_of : Due → List ℕ
-text_of (printed text steps) = text
-text_of (refused status line steps) = line
+abbrev pub text_of_due : Due → List ℕ
+text_of_due (printed text steps) = text
+text_of_due (refused status line steps) = line
 
 -- how many instructions the command of an answer began
 abbrev pub steps_of : Due → ℕ

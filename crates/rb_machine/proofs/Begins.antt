@@ -9,7 +9,7 @@ use Rattle.rb_target.specs.Meaning.{World, from, enter, body_in, body_of, run_of
 use Rattle.rb_target.specs.Validity.{IsValid}
 use Rattle.rb_target.specs.declared.code.CodeFun.{CodeFun}
 use Rattle.rb_machine.proofs.Rest.{valid_begins, enter_some}
-use Rattle.rb_machine.specs.Turns.{unwind, waiting_slots, current_slots, world_of, rest_of, room_in, held_in, outermost, results_in, IsFrame, IsSound}
+use Rattle.rb_machine.specs.Turns.{unwind, waiting_slots, current_slots, world_of, rest_of, room_in, held_in, outermost, results_in, IsFrame, StateIsSound}
 use Rattle.rb_machine.specs.declared.state.Frame.{Frame}
 use Rattle.rb_machine.specs.declared.state.State.{State}
 
@@ -18,7 +18,7 @@ module _ (funs : List CodeFun) (depth : ℕ) (s : State) (f : CodeFun) (words : 
   current : current_slots s ≡ words ++ replicate (f.slots - length words) 0
   current = ap (λ n. drop n s.stack.items) base ∙ stack
 
-  pub first_sound : IsValid funs → length words ≡ f.params → depth < 1000000000 → s.results.items ≡ [] ++ replicate f.results 0 → IsSound funs depth s
+  pub first_sound : IsValid funs → length words ≡ f.params → depth < 1000000000 → s.results.items ≡ [] ++ replicate f.results 0 → StateIsSound funs depth s
   first_sound valid params small results =
       let v = valid.each s.fun f known in
       let body : body_of funs s.fun ≡ f.body = ap body_in known in

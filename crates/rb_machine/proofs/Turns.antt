@@ -14,7 +14,7 @@ use Rattle.rb_target.specs.declared.code.CodeFun.{CodeFun}
 use Rattle.rb_target.specs.declared.instr.Instr.{Instr}
 use Rattle.rb_target.specs.declared.instr.Instr.TheVariants.{Call, Return}
 use Rattle.rb_machine.proofs.Rest.{known_at, callee_from, valid_begins, valid_goes_on, IsNoReturn, room_in-push, held_in-push, unwind_push, unwind_final, enter_some, enter_none}
-use Rattle.rb_machine.specs.Turns.{dests_in, width_of, unwind, waiting_slots, current_slots, world_of, rest_of, room_at, room_in, work, held_in, outermost, results_in, IsPlace, IsFrame, IsSound, Turned, Ended}
+use Rattle.rb_machine.specs.Turns.{dests_in, width_of, unwind, waiting_slots, current_slots, world_of, rest_of, room_at, room_in, work, held_in, outermost, results_in, IsPlace, IsFrame, StateIsSound, Turned, Ended}
 use Rattle.rb_machine.specs.declared.state.Frame.{Frame}
 use Rattle.rb_machine.specs.declared.state.State.{State}
 
@@ -116,7 +116,7 @@ module _ (funs : List CodeFun) (depth : ℕ) (valid : IsValid funs) where
   results_is n lt = ap results_in (known_at funs n valid lt).is
 
   -- there is room for what the outermost function returns
-  pub results_fit : (s : State) (froms : List ℕ) → IsSound funs depth s → slice_get (body_of funs s.fun) s.pc ≡ Some (Return froms) → s.frames.items ≡ [] → length s.results.items ≡ length froms
+  pub results_fit : (s : State) (froms : List ℕ) → StateIsSound funs depth s → slice_get (body_of funs s.fun) s.pc ≡ Some (Return froms) → s.frames.items ≡ [] → length s.results.items ≡ length froms
   results_fit s froms sound is none =
       let fits = (fine_at s.fun s.pc _ sound.place.known is).calls in
       sound.results ∙ ap (λ (fs : List Frame). results_in (slice_get funs (outermost fs s.fun))) none ∙ results_is s.fun sound.place.known ∙ sym fits
@@ -125,25 +125,25 @@ module _ (funs : List CodeFun) (depth : ℕ) (valid : IsValid funs) where
   last_frame frames frame all = All-pop (λ (x : Frame). IsFrame funs x) (frames ++ frame ∷ []) frames (Some frame) refl all
 
   -- the stack holds the slots of those that wait and of the current call
-  pub stack_length : (s : State) → IsSound funs depth s → length s.stack.items ≡ s.base + width_of funs s.fun
+  pub stack_length : (s : State) → StateIsSound funs depth s → length s.stack.items ≡ s.base + width_of funs s.fun
   stack_length s sound = omega (arith, length-drop s.base s.stack.items, sound.fits, sound.place.slots)
 
-  pub waiting_length : (s : State) → IsSound funs depth s → length (waiting_slots s) ≡ held_in funs s.frames.items
+  pub waiting_length : (s : State) → StateIsSound funs depth s → length (waiting_slots s) ≡ held_in funs s.frames.items
   waiting_length s sound = length-take-le s.base s.stack.items sound.fits ∙ sound.base
 
   -- the last call that waits
-  pub frame_of : (s : State) (frames : List Frame) (frame : Frame) → IsSound funs depth s → s.frames.items ≡ frames ++ frame ∷ [] → IsFrame funs frame
+  pub frame_of : (s : State) (frames : List Frame) (frame : Frame) → StateIsSound funs depth s → s.frames.items ≡ frames ++ frame ∷ [] → IsFrame funs frame
   frame_of s frames frame sound is = (last_frame frames frame (rw is at sound.frames)).1
 
   -- the slots of a call that nothing waits for are the whole stack
-  pub alone : (s : State) → IsSound funs depth s → s.frames.items ≡ [] → current_slots s ≡ s.stack.items
+  pub alone : (s : State) → StateIsSound funs depth s → s.frames.items ≡ [] → current_slots s ≡ s.stack.items
   alone s sound none = ap (λ n. drop n s.stack.items) (sound.base ∙ ap (held_in funs) none)
 
   -- the slots of the last call that waits end where those of the current one begin
-  pub frame_fits : (s : State) (frames : List Frame) (frame : Frame) (f : CodeFun) → IsSound funs depth s → s.frames.items ≡ frames ++ frame ∷ [] → slice_get funs frame.fun ≡ Some f → held_in funs frames + f.slots ≡ s.base
+  pub frame_fits : (s : State) (frames : List Frame) (frame : Frame) (f : CodeFun) → StateIsSound funs depth s → s.frames.items ≡ frames ++ frame ∷ [] → slice_get funs frame.fun ≡ Some f → held_in funs frames + f.slots ≡ s.base
   frame_fits s frames frame f sound is known = sym (sound.base ∙ ap (held_in funs) is ∙ held_in-push funs frames frame ∙ ap (λ k. held_in funs frames + k) (ap slots_in known))
 
-  pub frame_place : (s : State) (frames : List Frame) (frame : Frame) (f : CodeFun) (stack : List ℕ) → IsSound funs depth s → s.frames.items ≡ frames ++ frame ∷ [] → slice_get funs frame.fun ≡ Some f → stack ≡ s.stack.items
+  pub frame_place : (s : State) (frames : List Frame) (frame : Frame) (f : CodeFun) (stack : List ℕ) → StateIsSound funs depth s → s.frames.items ≡ frames ++ frame ∷ [] → slice_get funs frame.fun ≡ Some f → stack ≡ s.stack.items
       → IsPlace funs frame.fun frame.pc (drop (s.base - f.slots) (take s.base stack))
   frame_place s frames frame f stack sound is known same =
       let fr = frame_of s frames frame sound is in
@@ -163,7 +163,7 @@ module _ (funs : List CodeFun) (depth : ℕ) (valid : IsValid funs) where
     from_at : (callee : Callee) (n pc : ℕ) (slots : List ℕ) (w : World) (i : Instr) → slice_get (body_of funs n) pc ≡ Some i → from (body_of funs n) callee pc slots w ≡ act i (from (body_of funs n) callee) callee pc slots (taken w)
     from_at callee n pc slots w i is = (laws.unrolls n callee).step pc i slots w is
 
-    call_same : (s s' : State) (left f : ℕ) (ds froms : List ℕ) → IsSound funs depth s → slice_get (body_of funs s.fun) s.pc ≡ Some (Call f ds froms) → s.left ≡ suc left
+    call_same : (s s' : State) (left f : ℕ) (ds froms : List ℕ) → StateIsSound funs depth s → slice_get (body_of funs s.fun) s.pc ≡ Some (Call f ds froms) → s.left ≡ suc left
         → s'.fun ≡ f → s'.pc ≡ 0 → s'.left ≡ left → s'.switches ≡ s.switches → waiting_slots s' ≡ s.stack.items → current_slots s' ≡ first_slots funs f (slots_at (current_slots s) froms) → s'.frames.items ≡ s.frames.items ++ waiting s ∷ []
         → (m : Memory) (t : ℕ) → rest_of funs depth s m t ≡ rest_of funs depth s' m (t + 1)
     call_same s s' left f ds froms sound instr l fun' pc' left' switches' below' slots' frames' m t =
@@ -185,7 +185,7 @@ module _ (funs : List CodeFun) (depth : ℕ) (valid : IsValid funs) where
         let sixth : unwind funs depth (s.frames.items ++ waiting s ∷ []) s.stack.items (from (body_of funs f) (enter funs (depth - n - 1)) 0 (first_slots funs f (slots_at slots froms)) (with_left w left)) ≡ rest_of funs depth s' m (t + 1) = cc in
         first ∙ second ∙ third ∙ fourth ∙ fifth ∙ sixth
 
-    pub call_turned : (s s' : State) (left f : ℕ) (ds froms : List ℕ) → IsSound funs depth s → slice_get (body_of funs s.fun) s.pc ≡ Some (Call f ds froms) → s.left ≡ suc left
+    pub call_turned : (s s' : State) (left f : ℕ) (ds froms : List ℕ) → StateIsSound funs depth s → slice_get (body_of funs s.fun) s.pc ≡ Some (Call f ds froms) → s.left ≡ suc left
         → s'.fun ≡ f → s'.pc ≡ 0 → s'.left ≡ left → s'.switches ≡ s.switches → s'.results.items ≡ s.results.items → s'.base ≡ length s.stack.items
         → s'.stack.items ≡ s.stack.items ++ first_slots funs f (slots_at (current_slots s) froms) → s'.frames.items ≡ s.frames.items ++ waiting s ∷ []
         → (m : Memory) → Turned funs depth s m s' m 1
@@ -223,7 +223,7 @@ module _ (funs : List CodeFun) (depth : ℕ) (valid : IsValid funs) where
           same = λ t. call_same s s' left f ds froms sound instr l fun' pc' left' switches' more.0 more.1 frames' m t;
         }
 
-    pub return_turned : (s s' : State) (frames : List Frame) (frame : Frame) (froms : List ℕ) → IsSound funs depth s → slice_get (body_of funs s.fun) s.pc ≡ Some (Return froms)
+    pub return_turned : (s s' : State) (frames : List Frame) (frame : Frame) (froms : List ℕ) → StateIsSound funs depth s → slice_get (body_of funs s.fun) s.pc ≡ Some (Return froms)
         → s.frames.items ≡ frames ++ frame ∷ [] → s'.frames.items ≡ frames → s'.fun ≡ frame.fun → s'.pc ≡ frame.pc + 1 → s'.left ≡ s.left → s'.switches ≡ s.switches → s'.results.items ≡ s.results.items
         → s'.base + width_of funs frame.fun ≡ s.base
         → s'.stack.items ≡ take s'.base s.stack.items ++ put_slots (drop s'.base (waiting_slots s)) (dests_in (slice_get (body_of funs frame.fun) frame.pc)) (slots_at (current_slots s) froms)
@@ -280,7 +280,7 @@ module _ (funs : List CodeFun) (depth : ℕ) (valid : IsValid funs) where
               first ∙ second ∙ third ∙ fourth ∙ fifth;
         }
 
-    pub return_ended : (s s' : State) (froms : List ℕ) → IsSound funs depth s → slice_get (body_of funs s.fun) s.pc ≡ Some (Return froms) → s.frames.items ≡ []
+    pub return_ended : (s s' : State) (froms : List ℕ) → StateIsSound funs depth s → slice_get (body_of funs s.fun) s.pc ≡ Some (Return froms) → s.frames.items ≡ []
         → s'.left ≡ s.left → s'.switches ≡ s.switches → (words : List ℕ) → words ≡ slots_at s.stack.items froms → (left : ℕ) → left ≡ s.left
         → (m : Memory) → Ended funs depth s m (Returned words left) s' m 1
     return_ended s s' froms sound instr none left' switches' words words' left l m t =
@@ -294,7 +294,7 @@ module _ (funs : List CodeFun) (depth : ℕ) (valid : IsValid funs) where
         let third : over (Returned (slots_at (current_slots s) froms) s.left) w ≡ over (Returned words left) (world_of s' m (t + 1)) = cc in
         first ∙ second ∙ third
 
-    pub spent_ended : (s : State) (f : ℕ) (ds froms : List ℕ) → IsSound funs depth s → slice_get (body_of funs s.fun) s.pc ≡ Some (Call f ds froms) → s.left ≡ 0
+    pub spent_ended : (s : State) (f : ℕ) (ds froms : List ℕ) → StateIsSound funs depth s → slice_get (body_of funs s.fun) s.pc ≡ Some (Call f ds froms) → s.left ≡ 0
         → (m : Memory) → Ended funs depth s m Spent s m 1
     spent_ended s f ds froms sound instr l m t =
         let n = length s.frames.items in
@@ -308,7 +308,7 @@ module _ (funs : List CodeFun) (depth : ℕ) (valid : IsValid funs) where
         first ∙ second ∙ unwind_final funs laws depth s.frames.items below Spent w tt
 
     -- a stretch of the current call
-    pub stretch_turned : (s s' : State) (m m' : Memory) (pc count : ℕ) (slots slots' : List ℕ) (f : CodeFun) → slice_get funs s.fun ≡ Some f → IsSound funs depth s → pc < length f.body → s.pc + count ≤ pc → s.pc + (s'.switches - s.switches) ≤ pc
+    pub stretch_turned : (s s' : State) (m m' : Memory) (pc count : ℕ) (slots slots' : List ℕ) (f : CodeFun) → slice_get funs s.fun ≡ Some f → StateIsSound funs depth s → pc < length f.body → s.pc + count ≤ pc → s.pc + (s'.switches - s.switches) ≤ pc
         → slots ≡ current_slots s → s'.stack.items ≡ waiting_slots s ++ slots' → length slots' ≡ length slots
         → s'.fun ≡ s.fun → s'.pc ≡ pc → s'.base ≡ s.base → s'.left ≡ s.left → s'.frames.items ≡ s.frames.items → s'.results.items ≡ s.results.items
         → ((callee : Callee) (left taken : ℕ) → from f.body callee s.pc slots (record { left = left; memory = m; switches = s.switches; taken = taken })

@@ -106,7 +106,7 @@ results_in (Some f) = f.results
 
 -- a state that fits the code: each call stands at an instruction and has its slots on the stack, and there is room
 -- for the results and for the count of switches
-pub record IsSound (funs : List CodeFun) (depth : ℕ) (s : State) : Type 0 where
+pub record StateIsSound (funs : List CodeFun) (depth : ℕ) (s : State) : Type 0 where
   pub place : IsPlace funs s.fun s.pc (current_slots s)
   pub frames : All (λ (frame : Frame). IsFrame funs frame) s.frames.items
   pub base : s.base ≡ held_in funs s.frames.items
@@ -156,7 +156,7 @@ IsLeft i (Ends e) old new = Unit {0}
 -- from the state s over the memory m so many instructions lead to s' over m'
 pub record Turned (funs : List CodeFun) (depth : ℕ) (s : State) (m : Memory) (s' : State) (m' : Memory)
     (count : ℕ) : Type 0 where
-  pub sound : IsSound funs depth s'
+  pub sound : StateIsSound funs depth s'
   pub less : work funs s' + count ≤ work funs s
   pub same : (taken : ℕ) → rest_of funs depth s m taken ≡ rest_of funs depth s' m' (taken + count)
 

@@ -5,7 +5,7 @@ ghost use Rattle.rb_bytes.specs.Memory.{Memory};
 ghost use Rattle.rb_target.specs.Meaning.{body_of, slots_at, put_slots};
 ghost use Rattle.rb_target.specs.Validity.{IsValid, AreSlots};
 ghost use Rattle.rb_target.specs.Laws.{IsLawful};
-ghost use Rattle.rb_machine.specs.Turns.{IsSound, IsCallAt, Turned, TurnGives, IsPlace, current_slots, dests_in};
+ghost use Rattle.rb_machine.specs.Turns.{StateIsSound, IsCallAt, Turned, TurnGives, IsPlace, current_slots, dests_in};
 
 use crate::state::{Frame, State};
 use rb_core::seq::Seq;
@@ -95,7 +95,7 @@ pub fn call_turn(
 ) -> Result<(), AllocError>
     requires valid { IsValid funs.now }
     requires laws { IsLawful funs.now }
-    requires sound { IsSound funs.now depth state.old }
+    requires sound { StateIsSound funs.now depth state.old }
     requires instr { IsCallAt funs.now state.old.fun state.old.pc callee froms.now }
     requires known { callee < length funs.now }
     requires froms { AreSlots (length (current_slots state.old)) froms.now }
@@ -197,7 +197,7 @@ pub fn return_turn(
 ) -> Option<End>
     requires valid { IsValid funs.now }
     requires laws { IsLawful funs.now }
-    requires sound { IsSound funs.now depth state.old }
+    requires sound { StateIsSound funs.now depth state.old }
     requires instr { slice_get (body_of funs.now state.old.fun) state.old.pc ≡ Some (Instr.Return froms.now) }
     requires froms { AreSlots (length (current_slots state.old)) froms.now }
     ensures { (m : Memory) → TurnGives funs.now depth state.old m result state.new m 1 }

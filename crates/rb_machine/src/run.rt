@@ -6,7 +6,7 @@ ghost use Rattle.rb_core.specs.Limits.{most_calls};
 ghost use Rattle.rb_target.specs.Meaning.{run_of};
 ghost use Rattle.rb_target.specs.Validity.{IsValid};
 ghost use Rattle.rb_machine.specs.Runs.{IsNotTrapped, RanAs, params_in};
-ghost use Rattle.rb_machine.specs.Turns.{IsSound, rest_of};
+ghost use Rattle.rb_machine.specs.Turns.{StateIsSound, rest_of};
 
 use crate::calls::push_zeros;
 use crate::state::State;
@@ -82,7 +82,7 @@ fn first_state(
     requires known { fun < length funs.now }
     requires words { length words.now ≡ params_in (slice_get funs.now fun) }
     requires left { left < most_calls }
-    ensures sound { IfOk result (λ s. IsSound funs.now left s) }
+    ensures sound { IfOk result (λ s. StateIsSound funs.now left s) }
     ensures whole { IfOk result (λ s. (m : Memory)
         → run_of funs.now (left + 1) fun words.now m ≡ rest_of funs.now left s m 0) }
 {

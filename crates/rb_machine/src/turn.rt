@@ -5,7 +5,7 @@ ghost use Rattle.rb_bytes.specs.Memory.{Memory};
 ghost use Rattle.rb_target.specs.Meaning.{body_of};
 ghost use Rattle.rb_target.specs.Validity.{IsValid};
 ghost use Rattle.rb_target.specs.Laws.{IsLawful};
-ghost use Rattle.rb_machine.specs.Turns.{IsSound, TurnGives, StretchGives, IsQuiet, IsLeave};
+ghost use Rattle.rb_machine.specs.Turns.{StateIsSound, TurnGives, StretchGives, IsQuiet, IsLeave};
 
 use crate::calls::{call_turn, return_turn};
 use crate::state::{Leave, State, Stop};
@@ -30,7 +30,7 @@ pub fn stretch_turn<'a, M: ByteMemory, L: Ledger>(
 ) -> Result<Leave<'a>, End>
     requires valid { IsValid funs.now }
     requires laws { IsLawful funs.now }
-    requires sound { IsSound funs.now depth state.old }
+    requires sound { StateIsSound funs.now depth state.old }
     requires checks { M.CHECKS ≡ false → IsQuiet funs.now depth state.old (M.memory memory.old) }
     ensures gives { StretchGives funs.now depth state.old (M.memory memory.old) result state.new
         (M.memory memory.new) (steps.new.taken - steps.old.taken) }
@@ -70,7 +70,7 @@ pub fn turn(
 ) -> Result<Option<End>, AllocError>
     requires valid { IsValid funs.now }
     requires laws { IsLawful funs.now }
-    requires sound { IsSound funs.now depth state.old }
+    requires sound { StateIsSound funs.now depth state.old }
     requires leaves { IsLeave (slice_get (body_of funs.now state.old.fun) state.old.pc) leave }
     ensures { IfOk result (λ r. (m : Memory) → TurnGives funs.now depth state.old m r state.new m 1) }
 {

@@ -40,7 +40,7 @@ use Rattle.rb_match.specs.inner.Saving.{GivesSpots}
 use Rattle.rb_match.proofs.Edges.{hole_at}
 use Rattle.rb_fragment.specs.WordReads.{AreMeant, AllFit}
 use Rattle.rb_fragment.proofs.ReadForms.{mean-Slot, fits-Slot}
-use Rattle.rb_match.specs.Bounding.{Place, choosing_look, looks_with, places_of, rounds}
+use Rattle.rb_match.specs.Bounding.{Place, choosing_look, looks_with, places_of_patterns, rounds}
 use Rattle.rb_match.specs.Choosing.{Chooses}
 use Rattle.rb_match.specs.inner.Flowing.{tree_at, looks, path_of, HasWay, TakesGraph}
 use Rattle.rb_match.specs.inner.Places.{IsPlaceIn, IsLookedAt}
@@ -110,10 +110,10 @@ slots_fit n k (x ∷ words) all le =
 
 -- looks on one way of the match's tree are within the sum
 pub way_within : (plan : Plan) (ty : Ty) (pats : List Pat) (path : List Place) → HasWay (ways (match_tree plan.program.types ty pats)) (map path_of path)
-    → ((p : Place) → IsPlaceIn p path → IsLookedAt plan.program.types ty pats p.path p.ty) → looks plan path ≤ looks_with (choosing_look plan.layouts) (places_of plan.program.types ty pats)
+    → ((p : Place) → IsPlaceIn p path → IsLookedAt plan.program.types ty pats p.path p.ty) → looks plan path ≤ looks_with (choosing_look plan.layouts) (places_of_patterns plan.program.types ty pats)
 way_within plan ty pats path way looked =
     let once = all_at AreDistinct (ways (match_tree plan.program.types ty pats)) (match-once plan.program.types ty pats) way.0 (map path_of path) way.1 in
-    within_sum (choosing_look plan.layouts) path (places_of plan.program.types ty pats) once (λ p i. in_distinct p _ (looked p i))
+    within_sum (choosing_look plan.layouts) path (places_of_patterns plan.program.types ty pats) once (λ p i. in_distinct p _ (looked p i))
 
 pub one_round : (plan : Plan) (ty : Ty) (pats : List Pat) → size (match_tree plan.program.types ty pats) ≤ 512 → rounds plan.program.types ty pats ≡ 1
 one_round plan ty pats le =
@@ -154,7 +154,7 @@ chooses_tree agreed ty pats words tree old new holes typed agrees flat is small 
             world = r.world;
             runs = r.runs;
             keeps = r.keeps;
-            later = record { memory = r.later.memory; left = r.later.left; switches = (let b = within (rounds plan.program.types ty pats) (looks_with (choosing_look plan.layouts) (places_of plan.program.types ty pats)) one in omega (arith, r.later.switches, sum, b)) };
+            later = record { memory = r.later.memory; left = r.later.left; switches = (let b = within (rounds plan.program.types ty pats) (looks_with (choosing_look plan.layouts) (places_of_patterns plan.program.types ty pats)) one in omega (arith, r.later.switches, sum, b)) };
             exit = tt;
           };
     }

@@ -33,7 +33,7 @@ use Rattle.rb_fragment.specs.WordReads.{AreMeant}
 use Rattle.rb_fragment.proofs.Adding.{Adds-refl, Adds-trans}
 use Rattle.rb_fragment.proofs.Patching.{AreAllHoles, adds_closed, closed_hole, closed_length, closed_slots, hole_within}
 use Rattle.rb_fragment.proofs.Pieces.{later-trans}
-use Rattle.rb_match.specs.Bounding.{choosing_look, Place, places_in, places_of, places_step, rounds}
+use Rattle.rb_match.specs.Bounding.{choosing_look, Place, places_in, places_of_patterns, places_step, rounds}
 use Rattle.rb_match.specs.Choosing.{Chooses}
 use Rattle.rb_target.specs.Meaning.{slots_at}
 use Rattle.std.proofs.lemmas.List.{length-map}
@@ -208,7 +208,7 @@ module _ (agreed : LaidOut) (ty : Ty) (words : List Read) (pat : Pat) (number : 
           let flat1 : plan.layouts ≡ flat_layouts plan.program = fine.of.layouts ∙ flat ∙ ap flat_layouts (sym fine.of.program) in
           let slots = closed_slots mid others targets in
           let once : (path : List Place) → HasWay (ways (match_tree agreed.covered.program.types ty pair)) (map path_of path) → ((p : Place) → IsPlaceIn p path → IsLookedAt plan.program.types ty pair p.path p.ty) → looks plan path ≤ round_of plan ty pats =
-          λ path way looked. within_sum (choosing_look plan.layouts) path (places_of plan.program.types ty pats)
+          λ path way looked. within_sum (choosing_look plan.layouts) path (places_of_patterns plan.program.types ty pats)
           (all_at AreDistinct (ways (match_tree agreed.covered.program.types ty pair)) (Rattle.rb_decide.proofs.Positions.match-once agreed.covered.program.types ty pair) way.0 (map path_of path) way.1)
           (λ p i. in_distinct p _ (looked_all plan.program.types ty pats pat k p.path p.ty at (looked p i))) in
           record {

@@ -34,7 +34,7 @@ use Rattle.rb_fragment.proofs.Holds.{AllBelow-more}
 use Rattle.rb_match.specs.inner.Knowing.{IsEdge, IsCommon}
 use Rattle.rb_match.specs.inner.Places.{FindsPlace, IsLookedAt}
 use Rattle.rb_match.specs.inner.Asking.{AreSpots, holes_of, AreOpen, StandOpen, AskedAt, AskedThere, edge_at}
-use Rattle.rb_match.specs.inner.Flowing.{landing_of, others_of, job_of, Flows, Stands, StepsNode, Begins, IsFineJob, IsClauseHole, AreClauseHoles, TakesGraph}
+use Rattle.rb_match.specs.inner.Flowing.{landing_of, others_of, job_of, Flows, JobStands, StepsNode, Begins, IsFineJob, IsClauseHole, AreClauseHoles, TakesGraph}
 use Rattle.rb_match.proofs.Edges.{edge_append, edge_open, other_from, holes_from, patchable_from}
 use Rattle.rb_match.proofs.Landing.{landing_hole, landing_target, land_flows}
 use Rattle.rb_match.proofs.Passing.{begins_on, ends_on}
@@ -139,7 +139,7 @@ module _ (agreed : LaidOut) (graph : Whole) (words : List Read) (spots : List Sp
       stand : StandOpen b new onward
       stand = threads.stand b new asked_stand
 
-      module _ (first : Sheet) (st : Stands first old edges) where
+      module _ (first : Sheet) (st : JobStands first old edges) where
         from_low : Grows first.code b.code
         from_low = closed_grows first old (landing_of n edges) (length old.code ∷ []) st.grows (λ h i. (landing_hole old edges n (length first.code) st.stand.are_open h i).0)
 
@@ -155,7 +155,7 @@ module _ (agreed : LaidOut) (graph : Whole) (words : List Read) (spots : List Sp
         keeps_hole : (e : Edge) → IsEdge e rest → IsHole new.code e.hole
         keeps_hole e i = subst (λ o. IsHoleIn o e.hole.arm) (sym (grows.same e.hole.pc (below e i))) (before e i).1
 
-        all_stand : Stands first new (rest ++ onward)
+        all_stand : JobStands first new (rest ++ onward)
         all_stand = record {
           grows = Grows-trans _ _ _ from_low grows;
           stand = record {
@@ -252,13 +252,13 @@ module _ (nodes : List GraphNode) (count : ℕ) (edges : List Edge) (holes : Lis
       let h = got holes k (omega (arith, lt, are.long)) in
       (h.0, (k, h.1), are.each k e h.0 at h.1)
 
-  pub graph_holes : (first new : Sheet) → Stands first new edges → AreHoles (length first.code) count new.code holes
+  pub graph_holes : (first new : Sheet) → JobStands first new edges → AreHoles (length first.code) count new.code holes
   graph_holes first new st = holes_from (length first.code) count new.code holes (λ h i.
       let r = edge_at_hole h i in
       let s = st.stand.are_open r.0 r.1 in
       (omega (arith, s.0, r.2.pc), r.2.few, subst (λ a. IsHoleIn (slice_get new.code h.pc) a) (sym r.2.arm) (subst (λ q. IsHoleIn (slice_get new.code q) r.0.hole.arm) (sym r.2.pc) s.1)))
 
-  pub graph_ways : (first new : Sheet) → Stands first new edges → AreOfOneWay holes
+  pub graph_ways : (first new : Sheet) → JobStands first new edges → AreOfOneWay holes
   graph_ways first new st = λ h k i j p s.
       let a = edge_at_hole h i in
       let c = edge_at_hole k j in

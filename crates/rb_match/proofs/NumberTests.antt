@@ -33,7 +33,7 @@ use Rattle.rb_fragment.proofs.Adding.{Adds-trans, push_adds}
 use Rattle.rb_match.specs.declared.knowledge.Known.{Known}
 use Rattle.rb_match.specs.declared.knowledge.Edge.{Edge}
 use Rattle.rb_match.specs.inner.Knowing.{IsEdge, seen}
-use Rattle.rb_match.specs.inner.Asking.{take_link, number_of, is_number, are_numbers, number_arm, number_arms, edge_in, arm_edges, else_edges, StandOpen, AsksNumber}
+use Rattle.rb_match.specs.inner.Asking.{take_link, number_of_head, is_number, are_numbers, number_arm, number_arms, edge_in, arm_edges, else_edges, StandOpen, AsksNumber}
 use Rattle.rb_match.proofs.Edges.{edge_append, edge_left, edge_right, open_edge}
 use Rattle.rb_match.proofs.Following.{carried_known, known-kept}
 
@@ -44,7 +44,7 @@ both false b e = absurd cc
 
 -- the arm that is picked leads where the value goes
 head_step : (h : Head) (under : ℕ) (rest p : Option ℕ) (x node : ℕ) → is_number h ≡ true → (if layer_begins h (V.Num x) then Some under else rest) ≡ Some node
-    → ((under ≡ node) × ((if nat_eq (number_of h) x then Some 0 else next_arm p) ≡ Some 0)) ⊎ ((rest ≡ Some node) × ((if nat_eq (number_of h) x then Some 0 else next_arm p) ≡ next_arm p))
+    → ((under ≡ node) × ((if nat_eq (number_of_head h) x then Some 0 else next_arm p) ≡ Some 0)) ⊎ ((rest ≡ Some node) × ((if nat_eq (number_of_head h) x then Some 0 else next_arm p) ≡ next_arm p))
 head_step (H.Con c) under rest p x node num e = absurd (false≢true num)
 head_step (H.Num m) under rest p x node num e = go (nat_eq m x) e
   where
@@ -171,7 +171,7 @@ module _ (nodes : List GraphNode) (read : Read) (known : List Known) (arms : Lis
       let n = both (is_number y.head) (are_numbers ys) nums in
       All-cons (λ (x : SwitchArm). x.number < 18446744073709551616) (number_arm (pc + 1) y.head) (number_arms (pc + 1) ys) (small y.head n.0) (arms_small ys n.1)
     where
-      small : (h : Head) → is_number h ≡ true → number_of h < 18446744073709551616
+      small : (h : Head) → is_number h ≡ true → number_of_head h < 18446744073709551616
       small (H.Num n) e = ltb-true n 18446744073709551616 e
       small (H.Con c) e = absurd (false≢true e)
 

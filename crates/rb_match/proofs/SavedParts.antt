@@ -10,7 +10,7 @@ use Rattle.rb_target.proofs.Growing.{Grows-refl, Grows-trans, Grows-append}
 use Rattle.rb_layout.specs.declared.agreed.LaidOut.{LaidOut}
 use Rattle.rb_fragment.specs.Plan.{Plan, words_of}
 use Rattle.rb_fragment.specs.Pieces.{AtEnd, Straight}
-use Rattle.rb_fragment.specs.Slots.{AllBelow, AllFrom, AreApart, IsDistinct, IsOneOf, slots_from}
+use Rattle.rb_fragment.specs.Slots.{AllBelow, AllFrom, SlotsAreApart, IsDistinct, IsOneOf, slots_from}
 use Rattle.rb_fragment.proofs.Holds.{AllBelow-more}
 use Rattle.rb_fragment.proofs.Moves.{one-below, slots_from-above, slots_from-below, slots_from-distinct, slots_from-from, slots_from-length}
 use Rattle.rb_fragment.proofs.Pieces.{piece_none, piece_weaken, straight_seq}
@@ -136,10 +136,10 @@ given-more agreed a b c spots spot count gives z is words = λ plan of.
         apart = λ j k x y at at1 ne. elim (snoc-place spots spot x j at) [
           | inl h ↦ elim (snoc-place spots spot y k at1) [
             | inl h1 ↦ g.are.apart j k x y h h1 ne
-            | inr e ↦ subst (λ (q : Spot). AreApart x.slots q.slots) e.0 (λ u i i1. old j x h u i i1)
+            | inr e ↦ subst (λ (q : Spot). SlotsAreApart x.slots q.slots) e.0 (λ u i i1. old j x h u i i1)
           ]
           | inr e ↦ elim (snoc-place spots spot y k at1) [
-            | inl h1 ↦ subst (λ (q : Spot). AreApart q.slots y.slots) e.0 (λ u i i1. old k y h1 u i1 i)
+            | inl h1 ↦ subst (λ (q : Spot). SlotsAreApart q.slots y.slots) e.0 (λ u i i1. old k y h1 u i1 i)
             | inr e1 ↦ absurd (ne (e.1 ∙ sym e1.1))
           ]
         ];
@@ -175,7 +175,7 @@ copies_straight plan n P (d ∷ ds) (f ∷ fs) b le from below reads =
     (straight_seq plan n b (pushed b (Copy d f)) (with_copies (pushed b (Copy d f)) ds fs) (λ s m. P (copied (slice_set s d (slice_index s f)) ds fs) m) (λ s m. P (copied s ds fs) m) P one more)
 
 -- slots apart from those that are written
-pub slots_at-apart : (n : ℕ) (ds xs s s' : List ℕ) → KeepsOthers n ds s s' → AllBelow n xs → AreApart ds xs → slots_at s' xs ≡ slots_at s xs
+pub slots_at-apart : (n : ℕ) (ds xs s s' : List ℕ) → KeepsOthers n ds s s' → AllBelow n xs → SlotsAreApart ds xs → slots_at s' xs ≡ slots_at s xs
 slots_at-apart n ds [] s s' keeps below apart = refl
 slots_at-apart n ds (x ∷ xs) s s' keeps below apart =
     let here : slice_index s' x ≡ slice_index s x = keeps x below.0 (λ i. apart x i (inl refl)) in
@@ -236,13 +236,13 @@ fetches_part agreed t leaf path at words old new slots (layout, found, is, is_le
           subst (λ k. Piece plan old.slots old new Nowhere k (λ s m. IsThere plan clean t v words s m) (AtEnd new (λ s m. Rep plan m clean at part (slots_at s slots)))) (sym most) r;
     }
 
-below-origin : (n : ℕ) (xs words : List ℕ) → ((x : ℕ) → IsOneOf x xs → (n ≤ x) ⊎ IsOneOf x words) → (ds : List ℕ) → AllBelow n ds → AreApart ds words → AreApart ds xs
+below-origin : (n : ℕ) (xs words : List ℕ) → ((x : ℕ) → IsOneOf x xs → (n ≤ x) ⊎ IsOneOf x words) → (ds : List ℕ) → AllBelow n ds → SlotsAreApart ds words → SlotsAreApart ds xs
 below-origin n xs words origin ds below apart = λ x i j. elim (origin x j) [
   | inl le ↦ (let lt = one-below n x ds below i in omega (arith, lt, le))
   | inr w ↦ apart x i w
 ]
 
-pub saves_part : (agreed : LaidOut) (t leaf : ℕ) (path words : List ℕ) (spot : Spot) (old mid : Sheet) (slots : List ℕ) → AreApart spot.slots words → FetchesPart agreed t leaf path spot.ty words old mid slots
+pub saves_part : (agreed : LaidOut) (t leaf : ℕ) (path words : List ℕ) (spot : Spot) (old mid : Sheet) (slots : List ℕ) → SlotsAreApart spot.slots words → FetchesPart agreed t leaf path spot.ty words old mid slots
     → SavesPart agreed t leaf path words spot old (with_copies mid spot.slots slots)
 saves_part agreed t leaf path words spot old mid slots apart fetches = λ plan n of le from below distinct count low long.
     let f = fetches plan of low long in
@@ -382,7 +382,7 @@ none_of xs i x y at none ne h = elim (one-append (take i xs) (x ∷ []) y (subst
   | inr j ↦ elim j [ inl e ↦ ne (sym e) | inr z ↦ z ]
 ]
 
-pub apart_more : (xs others : List ℕ) (i x : ℕ) → slice_get xs i ≡ Some x → AreApart (take i xs) others → (IsOneOf x others → ⊥) → AreApart (take (i + 1) xs) others
+pub apart_more : (xs others : List ℕ) (i x : ℕ) → slice_get xs i ≡ Some x → SlotsAreApart (take i xs) others → (IsOneOf x others → ⊥) → SlotsAreApart (take (i + 1) xs) others
 apart_more xs others i x at apart none = λ y h j. elim (one-append (take i xs) (x ∷ []) y (subst (IsOneOf y) (take_more xs i x at) h)) [
   | inl k ↦ apart y k j
   | inr k ↦ elim k [ inl e ↦ none (subst (λ z. IsOneOf z others) e j) | inr z ↦ z ]

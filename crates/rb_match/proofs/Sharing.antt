@@ -12,7 +12,7 @@ use Rattle.rb_decide.specs.Decisions.{AreDistinct}
 use Rattle.rb_decide.specs.Trees.{match_tree, size}
 use Rattle.rb_layout.specs.declared.layout.Layout.{Layout}
 use Rattle.rb_rel.specs.Switches.{depth_of, look_of, mend_of}
-use Rattle.rb_match.specs.Bounding.{BoundIsShared, Place, binding_bound, binding_look, choosing_bound, choosing_look, is_plain, looks_of, looks_with, place_below, places_below, places_in, places_of, places_step, rounds}
+use Rattle.rb_match.specs.Bounding.{BoundIsShared, Place, binding_bound, binding_look, choosing_bound, choosing_look, is_plain, looks_of, looks_with, place_below, places_below, places_in, places_of_patterns, places_step, rounds}
 use Rattle.rb_match.specs.inner.Flowing.{path_of}
 use Rattle.rb_match.proofs.Bounds.{in_distinct, within_sum}
 use Rattle.rb_match.proofs.Placing.{in-flat}
@@ -144,7 +144,7 @@ times (suc (suc r)) a b c le lt = let h = times (suc r) a b c (omega arith) lt i
 
 pub bound_shared : BoundIsShared
 bound_shared types layouts t pats k pat at =
-    let D = places_of types t pats in
+    let D = places_of_patterns types t pats in
     let sum = looks_sum layouts D in
     let within = within_sum (binding_look layouts) (places_in types pat t) D (pattern-once types pat t) (λ p i. in_distinct p _ (in-flat (λ q. places_in types q t) pats k pat p at i.0 i.1)) in
     let r = rounds types t pats in

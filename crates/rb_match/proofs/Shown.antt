@@ -19,7 +19,7 @@ use Rattle.rb_target.proofs.Growing.{below_or}
 use Rattle.rb_match.specs.declared.knowledge.Known.{Known}
 use Rattle.rb_match.specs.declared.knowledge.Known.TheVariants as K
 use Rattle.rb_match.specs.inner.Knowing.{IsKnown}
-use Rattle.rb_matrix.specs.Apart.{AreApart}
+use Rattle.rb_matrix.specs.Apart.{PatternsAreApart}
 use Rattle.rb_match.specs.inner.Threading.{AllFollow, AreWild, BeginsWith, Covers, HasSub, IsAtLeaf, IsFirst, IsLeafOfAll, IsWild, ShowTogether, Tells, TellTogether}
 use Rattle.rb_matrix.proofs.Differing.{pass-at}
 use Rattle.rb_match.proofs.Bindings.{begins_with}
@@ -89,13 +89,13 @@ covers p q at bt c d ps qs is iq same n wild = λ v m.
 
 -- the first so many leaves have no values that the pattern matches
 abbrev pub NoneBelow : List Leaf → Pat → ℕ → Type 0
-NoneBelow leaves pat i = (n : ℕ) (leaf : Leaf) → n < i → slice_get leaves n ≡ Some leaf → AreApart leaf.prov pat
+NoneBelow leaves pat i = (n : ℕ) (leaf : Leaf) → n < i → slice_get leaves n ≡ Some leaf → PatternsAreApart leaf.prov pat
 
-pub none_next : (leaves : List Leaf) (pat : Pat) (i : ℕ) (leaf : Leaf) → slice_get leaves i ≡ Some leaf → AreApart leaf.prov pat → NoneBelow leaves pat i → NoneBelow leaves pat (i + 1)
+pub none_next : (leaves : List Leaf) (pat : Pat) (i : ℕ) (leaf : Leaf) → slice_get leaves i ≡ Some leaf → PatternsAreApart leaf.prov pat → NoneBelow leaves pat i → NoneBelow leaves pat (i + 1)
 none_next leaves pat i leaf at apart none n x lt is = elim (below_or n i) [
   | inl less ↦ none n x less is
   | inr more ↦ (let e : i ≡ n = omega (arith, lt, more) in
-      let same : leaf ≡ x = same_Some leaf x (sym at ∙ ap (slice_get leaves) e ∙ is) in subst (λ (l : Leaf). AreApart l.prov pat) same apart)
+      let same : leaf ≡ x = same_Some leaf x (sym at ∙ ap (slice_get leaves) e ∙ is) in subst (λ (l : Leaf). PatternsAreApart l.prov pat) same apart)
 ]
 
 first_case : (l : Leaf) (ls : List Leaf) (v : Value) (from k : ℕ) (b : Bool) → matches_of l.prov v ≡ b → (matches_of l.prov v ≡ true → ⊥) → leaf_from ls v (from + 1) ≡ Some (from + 1 + k)

@@ -52,8 +52,8 @@ distinct_places [] = []
 distinct_places (p ∷ ps) = p ∷ filter (λ other. not (same_place p other)) (distinct_places ps)
 
 -- the places at which some pattern of a match on values of type t has a number or a constructor, each of them once
-abbrev pub places_of : List DataDecl → Ty → List Pat → List Place
-places_of types t pats = distinct_places (flat_map (λ pat. places_in types pat t) pats)
+abbrev pub places_of_patterns : List DataDecl → Ty → List Pat → List Place
+places_of_patterns types t pats = distinct_places (flat_map (λ pat. places_in types pat t) pats)
 
 -- how often places are looked at: once, or once a clause where the decision tree is too large to be made
 abbrev pub rounds : List DataDecl → Ty → List Pat → ℕ
@@ -70,7 +70,7 @@ looks_of layouts = looks_with (look_of layouts)
 
 -- the switches that a match on a value of type t with these patterns may cost
 abbrev pub bound_of : List DataDecl → List Layout → Ty → List Pat → ℕ
-bound_of types layouts t pats = rounds types t pats * looks_of layouts (places_of types t pats)
+bound_of types layouts t pats = rounds types t pats * looks_of layouts (places_of_patterns types t pats)
 
 -- Choosing and binding ---------------------------------------------------------------------------
 
@@ -91,7 +91,8 @@ choosing_look layouts t = depth_of layouts t + rebuilding layouts t
 
 -- the switches that choose the clause of a match on a value of type t, at most
 abbrev pub choosing_bound : List DataDecl → List Layout → Ty → List Pat → ℕ
-choosing_bound types layouts t pats = rounds types t pats * looks_with (choosing_look layouts) (places_of types t pats)
+choosing_bound types layouts t pats =
+    rounds types t pats * looks_with (choosing_look layouts) (places_of_patterns types t pats)
 
 -- the switches that bind what stands below a constructor of this type: those that find the leaf and rebuild what it
 -- took apart; none where no leaf of the type takes a subvalue apart, and none at a number

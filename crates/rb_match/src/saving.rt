@@ -2,7 +2,7 @@
 
 ghost use Rattle.std.specs.Prelude.{◌≡◌, ◌++◌, IfOk, IfSome, OnOk, true, false};
 ghost use Rattle.rb_target.specs.Growth.{Grows};
-ghost use Rattle.rb_fragment.specs.Slots.{AreApart, IsOneOf};
+ghost use Rattle.rb_fragment.specs.Slots.{SlotsAreApart, IsOneOf};
 ghost use Rattle.rb_match.specs.inner.Saving.{FetchesPart, HasBelow, IsPositionOf, IsSpotAt, SavesAt, SavesBelow, SavesFields, SavesPart};
 
 use crate::asking::prov_of;
@@ -103,7 +103,7 @@ fn is_in(slots: &[usize], slot: usize) -> bool
 
 // Whether two lists have no slot in common.
 fn are_apart(slots: &[usize], others: &[usize]) -> bool
-    ensures { result ≡ true → AreApart slots.now others.now }
+    ensures { result ≡ true → SlotsAreApart slots.now others.now }
 {
     for slot in slots {
         if is_in(others, *slot) {

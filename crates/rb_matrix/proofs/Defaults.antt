@@ -12,7 +12,7 @@ use Rattle.rb_matrix.specs.declared.matrix.Head.{Head}
 use Rattle.rb_matrix.specs.Rows.{row_matches, any_row, all_rows, vector_of}
 use Rattle.rb_matrix.specs.Heads.{begins, any_begins, column_begins, first_head}
 use Rattle.rb_matrix.specs.Specialize.{defaults}
-use Rattle.rb_matrix.specs.Search.{row_plain, sought, IsFound, IsNowhere}
+use Rattle.rb_matrix.specs.Search.{row_plain, sought, RowIsFound, IsNowhere}
 use Rattle.rb_matrix.specs.Beside.{IsBeside}
 use Rattle.rb_matrix.proofs.Laws.{default-any, default-all, default-lost, default-less, first-lost, no-head}
 use Rattle.rb_matrix.proofs.Vectors.{and-left, and-right}
@@ -49,7 +49,7 @@ module _ (types : List DataDecl) (ty : Ty) (ts : List Ty) (wanted unwanted : Lis
             ∙ still-false (is_of_type types v ty) (vector_of types ts vs) (all_rows (defaults wanted) vs && not (any_row (defaults unwanted) vs)) (none vs)
 
     module _ (q : Pat) (beside : IsBeside types ty (column_begins unwanted) q)
-        (row : List Pat) (r : IsFound types ts (defaults wanted) (defaults unwanted) row) where
+        (row : List Pat) (r : RowIsFound types ts (defaults wanted) (defaults unwanted) row) where
       exact : (v : Value) (vs : List Value) → is_of_type types v ty ≡ true → matches_of q v ≡ true
           → sought types (ty ∷ ts) wanted unwanted (v ∷ vs) ≡ sought types ts (defaults wanted) (defaults unwanted) vs
       exact v vs of matched = three _ _ _ _ _ _ (ap (λ b. b && vector_of types ts vs) of) (all-same v vs)
@@ -61,7 +61,7 @@ module _ (types : List DataDecl) (ty : Ty) (ts : List Ty) (wanted unwanted : Lis
           exact z zs (and-left _ (vector_of types ts zs) of) (and-left _ (row_matches row zs) matched)
           ∙ r.all zs (and-right (is_of_type types z ty) (vector_of types ts zs) of) (and-right (matches_of q z) (row_matches row zs) matched)
 
-      pub rest-found : IsFound types (ty ∷ ts) wanted unwanted (q ∷ row)
+      pub rest-found : RowIsFound types (ty ∷ ts) wanted unwanted (q ∷ row)
       rest-found = record {
         plain = ap (λ b. b && row_plain types ts row) beside.plain ∙ r.plain;
         value = beside.value ∷ r.value;

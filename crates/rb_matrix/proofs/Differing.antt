@@ -14,7 +14,7 @@ use Rattle.rb_core.specs.declared.pattern.Pat as Pats
 use Rattle.rb_core.specs.Matching.{all_pass, is_con, matches_of, option_matches, clause_matches}
 use Rattle.rb_matrix.specs.inner.OneColumn.{any_matches}
 use Rattle.rb_matrix.specs.Rows.{row_matches, any_row}
-use Rattle.rb_matrix.specs.Apart.{AreApart}
+use Rattle.rb_matrix.specs.Apart.{PatternsAreApart}
 use Rattle.rb_matrix.specs.inner.Against.{HaveApart, AreRowsNear, StandFor}
 use Rattle.rb_matrix.proofs.Vectors.{and-left, and-right, con-matches}
 
@@ -46,10 +46,10 @@ module _ (at bt : ℕ) (c d : ConRef) (ps qs : List Pat) where
       let same : c.con ≡ d.con = eqb-true c.con k (and-left (c.con == k) (all_pass (map matches_of ps) vs) e) ∙ sym (eqb-true d.con k (and-left (d.con == k) (all_pass (map matches_of qs) vs) f)) in
       fields_apart ps qs vs (rest same) (and-right (c.con == k) (all_pass (map matches_of ps) vs) e) (and-right (d.con == k) (all_pass (map matches_of qs) vs) f)
 
-  pub cons-apart : (p q : Pat) → p ≡ Pats.Con at c ps → q ≡ Pats.Con bt d qs → (c.con ≡ d.con → HaveApart ps qs) → AreApart p q
+  pub cons-apart : (p q : Pat) → p ≡ Pats.Con at c ps → q ≡ Pats.Con bt d qs → (c.con ≡ d.con → HaveApart ps qs) → PatternsAreApart p q
   cons-apart p q is iq rest = λ v m w. of_layer (out-Value v) (at-con p at c ps v is m) (at-con q bt d qs v iq w) rest
 
-  pub apart-where : (p q : Pat) → p ≡ Pats.Con at c ps → q ≡ Pats.Con bt d qs → (xs ys : List Pat) → xs ≡ ps → ys ≡ qs → (b : Bool) → OnTrue b (HaveApart xs ys) → OnTrue b (AreApart p q)
+  pub apart-where : (p q : Pat) → p ≡ Pats.Con at c ps → q ≡ Pats.Con bt d qs → (xs ys : List Pat) → xs ≡ ps → ys ≡ qs → (b : Bool) → OnTrue b (HaveApart xs ys) → OnTrue b (PatternsAreApart p q)
   apart-where p q is iq xs ys is_xs is_ys true h =
       cons-apart p q is iq (λ e. subst (λ (zs : List Pat). HaveApart ps zs) is_ys (subst (λ (zs : List Pat). HaveApart zs ys) is_xs h))
   apart-where p q is iq xs ys is_xs is_ys false h = tt
@@ -135,7 +135,7 @@ same-bool false true f g = g refl
 same-bool false false f g = refl
 
 pub rows-stand : (p : Pat) (ps : List Pat) (js : List ℕ) (rows : List (List Pat)) → AreRowsNear p ps js rows
-    → ((j : ℕ) (q : Pat) → slice_get ps j ≡ Some q → Contains js j ⊎ AreApart q p) → StandFor p ps rows
+    → ((j : ℕ) (q : Pat) → slice_get ps j ≡ Some q → Contains js j ⊎ PatternsAreApart q p) → StandFor p ps rows
 rows-stand p ps js rows h near = λ v m. same-bool (any_row rows (v ∷ [])) (any_matches ps v) (h.among v) (λ e.
     let a = some-at ps v e in
     elim (near a.0 a.1 a.2) [

@@ -12,7 +12,7 @@ use Rattle.rb_core.specs.declared.pattern.Pat.{Pat}
 use Rattle.rb_core.specs.Matching.{matches_of, next_clause, chosen_clause, IsExhaustive, IsUnreached}
 use Rattle.rb_core.specs.Values.{is_of_type}
 use Rattle.rb_matrix.specs.Rows.{row_matches, any_row, all_rows}
-use Rattle.rb_matrix.specs.Search.{is_plain, sought, IsFound, IsNowhere, IsAnswer}
+use Rattle.rb_matrix.specs.Search.{is_plain, sought, RowIsFound, IsNowhere, IsSearchAnswer}
 use Rattle.rb_matrix.specs.inner.Against.{IsCovered, StandFor}
 use Rattle.rb_matrix.specs.inner.OneColumn.{one_each, any_matches, IsReachAnswer, IsOneAnswer}
 use Rattle.rb_matrix.specs.Exhaust.{IsMissing, IsReached, both_match, IsCommon}
@@ -101,21 +101,21 @@ no-init (p ∷ ps) q e = absurd (omega (arith, e, length-append (p ∷ ps) (q �
 
 module _ (types : List DataDecl) (ty : Ty) where
   -- the one pattern of a row that was found
-  pub found-one : (wanted unwanted : List (List Pat)) (found : Option (List Pat)) → IsAnswer types (ty ∷ []) wanted unwanted found
-      → (row init : List Pat) (q : Pat) → found ≡ Some row → row ≡ init ++ q ∷ [] → IsFound types (ty ∷ []) wanted unwanted (q ∷ [])
+  pub found-one : (wanted unwanted : List (List Pat)) (found : Option (List Pat)) → IsSearchAnswer types (ty ∷ []) wanted unwanted found
+      → (row init : List Pat) (q : Pat) → found ≡ Some row → row ≡ init ++ q ∷ [] → RowIsFound types (ty ∷ []) wanted unwanted (q ∷ [])
   found-one wanted unwanted found h row init q e f =
-      let r : IsFound types (ty ∷ []) wanted unwanted (init ++ q ∷ []) = subst (IsFound types (ty ∷ []) wanted unwanted) f (subst (IsAnswer types (ty ∷ []) wanted unwanted) e h) in
-      subst (λ l. IsFound types (ty ∷ []) wanted unwanted (l ++ q ∷ [])) (no-init init q (plain-length types (ty ∷ []) (init ++ q ∷ []) r.plain)) r
+      let r : RowIsFound types (ty ∷ []) wanted unwanted (init ++ q ∷ []) = subst (RowIsFound types (ty ∷ []) wanted unwanted) f (subst (IsSearchAnswer types (ty ∷ []) wanted unwanted) e h) in
+      subst (λ l. RowIsFound types (ty ∷ []) wanted unwanted (l ++ q ∷ [])) (no-init init q (plain-length types (ty ∷ []) (init ++ q ∷ []) r.plain)) r
 
   -- there is one
-  pub found-some : (wanted unwanted : List (List Pat)) (found : Option (List Pat)) → IsAnswer types (ty ∷ []) wanted unwanted found
+  pub found-some : (wanted unwanted : List (List Pat)) (found : Option (List Pat)) → IsSearchAnswer types (ty ∷ []) wanted unwanted found
       → (row : List Pat) → found ≡ Some row → row ≡ [] → ⊥
   found-some wanted unwanted found h row e f =
-      let r : IsFound types (ty ∷ []) wanted unwanted [] = subst (IsFound types (ty ∷ []) wanted unwanted) f (subst (IsAnswer types (ty ∷ []) wanted unwanted) e h) in
+      let r : RowIsFound types (ty ∷ []) wanted unwanted [] = subst (RowIsFound types (ty ∷ []) wanted unwanted) f (subst (IsSearchAnswer types (ty ∷ []) wanted unwanted) e h) in
       let l = plain-length types (ty ∷ []) [] r.plain in absurd (omega (arith, l))
 
   -- The value of a row of one pattern
-  module _ (wanted unwanted : List (List Pat)) (q : Pat) (r : IsFound types (ty ∷ []) wanted unwanted (q ∷ [])) where
+  module _ (wanted unwanted : List (List Pat)) (q : Pat) (r : RowIsFound types (ty ∷ []) wanted unwanted (q ∷ [])) where
     value-of : (vs : List Value) → row_matches (q ∷ []) vs ≡ true → sought types (ty ∷ []) wanted unwanted vs ≡ true
         → (v : Value) × (is_of_type types v ty ≡ true) × (matches_of q v ≡ true) × ((all_rows wanted (v ∷ []) && not (any_row unwanted (v ∷ []))) ≡ true)
     value-of [] m f = absurd (false≢true m)
@@ -140,7 +140,7 @@ module _ (types : List DataDecl) (ty : Ty) where
   pub all-chosen : (ps : List Pat) → IsNowhere types (ty ∷ []) [] (one_each ps) → IsExhaustive types ty ps
   all-chosen ps h v of = chosen-some ps v (sym (one_each-any ps v) ∙ must (is_of_type types v ty) (any_row (one_each ps) (v ∷ [])) (h (v ∷ [])) of)
 
-  pub is-missing : (ps : List Pat) (q : Pat) → IsFound types (ty ∷ []) [] (one_each ps) (q ∷ []) → IsMissing types ty ps q
+  pub is-missing : (ps : List Pat) (q : Pat) → RowIsFound types (ty ∷ []) [] (one_each ps) (q ∷ []) → IsMissing types ty ps q
   is-missing ps q r = let v = value [] (one_each ps) q r in record {
     plain = one-plain [] (one_each ps) q r;
     value = v.0;
@@ -177,7 +177,7 @@ module _ (types : List DataDecl) (ty : Ty) where
     pub never-first : IsNowhere types (ty ∷ []) W U → IsUnreached types ty ps i
     never-first h v of e = not-both (is_of_type types v ty) (all_rows W (v ∷ []) && not (any_row U (v ∷ []))) (h (v ∷ [])) of (as-first v ∙ chosen-first ps i p v at e)
 
-    pub is-reached : (q : Pat) → IsFound types (ty ∷ []) W U (q ∷ []) → IsReached types ty ps i
+    pub is-reached : (q : Pat) → RowIsFound types (ty ∷ []) W U (q ∷ []) → IsReached types ty ps i
     is-reached q r = let v = value W U q r in let h = sym (as-first v.0) ∙ v.3 in record {
       value = v.0;
       typed = v.1;
@@ -205,7 +205,7 @@ module _ (types : List DataDecl) (ty : Ty) where
     pub none-common : IsNowhere types (ty ∷ []) P [] → (v : Value) → is_of_type types v ty ≡ true → both_match p q v ≡ false
     none-common h v of = sym (as-both v) ∙ no-both (is_of_type types v ty) (all_rows P (v ∷ []) && true) (h (v ∷ [])) of
 
-    pub is-common : (r : Pat) → IsFound types (ty ∷ []) P [] (r ∷ []) → IsCommon types ty p q r
+    pub is-common : (r : Pat) → RowIsFound types (ty ∷ []) P [] (r ∷ []) → IsCommon types ty p q r
     is-common r f = let v = value P [] r f in record {
       plain = one-plain P [] r f;
       value = v.0;

@@ -15,8 +15,8 @@ use Rattle.rb_core.specs.declared.pattern.Pat as Pats
 use Rattle.rb_core.specs.Matching.{all_pass, is_con, matches_of}
 use Rattle.rb_core.specs.Values.{subs, subs_in}
 use Rattle.rb_matrix.specs.declared.index.Index.{Index}
-use Rattle.rb_matrix.specs.Apart.{AreApart}
-use Rattle.rb_matrix.specs.inner.Index.{key_of, HasKey, IsIn, IsGrouped, Extends, AreNear}
+use Rattle.rb_matrix.specs.Apart.{PatternsAreApart}
+use Rattle.rb_matrix.specs.inner.Index.{key_of, HasKey, IsIn, IsGrouped, ExtendsIndex, AreNear}
 use Rattle.rb_matrix.proofs.Differing.{at-con, pass-at}
 use Rattle.rb_matrix.proofs.Vectors.{and-right}
 
@@ -58,7 +58,7 @@ leads-end p path here rest None is h k = tt
 leads-end p path here rest (Some n) is h k = λ v m. let a = h v m in a.key ∙ ap (key_of a.part) is ∙ k a.part a.matched
 
 -- patterns with different keys
-pub keys-apart : (p q : Pat) (path : List ℕ) (a b : ℕ) → HasKey p path a → HasKey q path b → (a ≡ b → ⊥) → AreApart p q
+pub keys-apart : (p q : Pat) (path : List ℕ) (a b : ℕ) → HasKey p path a → HasKey q path b → (a ≡ b → ⊥) → PatternsAreApart p q
 keys-apart p q path a b h k ne = λ v m w. ne (sym (h v m) ∙ k v w)
 
 -- Indexes ----------------------------------------------------------------------------------------
@@ -74,7 +74,7 @@ on-ok (Ok u) P Q h f = f h
 on-ok (Err e) P Q h f = tt
 
 pub extends-keyless : (i : ℕ) (p : Pat) (old : Index) (more : List ℕ) → more ≡ old.keyless ++ i ∷ []
-    → Extends i p old (record { path = old.path; keyless = more; groups = old.groups })
+    → ExtendsIndex i p old (record { path = old.path; keyless = more; groups = old.groups })
 extends-keyless i p old more is = λ ps len h j q at. elim (get-push ps p j q at) [
   | inl l ↦ elim (h j q l) [
     | inl c ↦ inl (subst (λ (l : List ℕ). Contains l j) (sym is) (Contains-append_left old.keyless (i ∷ []) j c))
@@ -83,7 +83,7 @@ extends-keyless i p old more is = λ ps len h j q at. elim (get-push ps p j q at
   | inr s ↦ inl (subst (λ (l : List ℕ). Contains l j) (sym is) (subst (Contains (old.keyless ++ i ∷ [])) (sym (s.0 ∙ len)) (Contains-push old.keyless i)))
 ]
 
-pub extends-grouped : (i : ℕ) (p : Pat) (old new : Index) (k : ℕ) → HasKey p old.path k → IsGrouped k i old new → Extends i p old new
+pub extends-grouped : (i : ℕ) (p : Pat) (old new : Index) (k : ℕ) → HasKey p old.path k → IsGrouped k i old new → ExtendsIndex i p old new
 extends-grouped i p old new k has g = λ ps len h j q at. elim (get-push ps p j q at) [
   | inl l ↦ elim (h j q l) [
     | inl c ↦ inl (subst (λ (l : List ℕ). Contains l j) (sym g.keyless) c)

@@ -20,7 +20,7 @@ use Rattle.rb_matrix.specs.declared.matrix.Head.TheVariants as H
 use Rattle.rb_matrix.specs.Rows.{row_matches, any_row, all_rows, vector_of}
 use Rattle.rb_matrix.specs.Heads.{layer_begins, begins, fields_at}
 use Rattle.rb_matrix.specs.Specialize.{special}
-use Rattle.rb_matrix.specs.Search.{AreTypesIn, AreInhabited, is_plain, row_plain, sought, IsFound, IsNowhere}
+use Rattle.rb_matrix.specs.Search.{AreTypesIn, AreInhabited, is_plain, row_plain, sought, RowIsFound, IsNowhere}
 use Rattle.rb_matrix.specs.inner.Problems.{closed, step_of, fields_bound}
 use Rattle.rb_matrix.proofs.Laws.{special-any, special-all, special-lost}
 use Rattle.rb_matrix.proofs.Vectors.{and-left, and-right, row-length, split-row, vector-append, vector-length, plain-append, plain-length, con-of, con-of_int, num-of, num-of_int, num-matches, con-matches, num-plain, con-plain}
@@ -179,7 +179,7 @@ module _ (types : List DataDecl) (ty : Ty) (ts : List Ty) (wanted unwanted : Lis
       (special-lost h v vs is wanted (subst (λ n. length (special h n wanted) < length wanted) (sym e) lt))
       ∙ and-false (is_of_type types v ty && vector_of types ts vs))
 
-  module _ (row : List Pat) (kept : length (S wanted) ≡ length wanted) (r : IsFound types (fs ++ ts) (S wanted) (S unwanted) row) where
+  module _ (row : List Pat) (kept : length (S wanted) ≡ length wanted) (r : RowIsFound types (fs ++ ts) (S wanted) (S unwanted) row) where
     abbrev n : ℕ
     n = length fs
 
@@ -222,7 +222,7 @@ module _ (types : List DataDecl) (ty : Ty) (ts : List Ty) (wanted unwanted : Lis
       found-all [] of matched = absurd (false≢true of)
       found-all (z ∷ zs) of matched = found-each z zs of matched
 
-      found-front : IsFound types (ty ∷ ts) wanted unwanted (p ∷ drop n row)
+      found-front : RowIsFound types (ty ∷ ts) wanted unwanted (p ∷ drop n row)
       found-front = let z = f.value (take n xs) us-of in record {
         plain = ap (λ b. b && row_plain types ts (drop n row)) f.plain ∙ sym (plain-append types fs ts (take n row) (drop n row) front-length)
             ∙ ap (row_plain types (fs ++ ts)) (take-append-drop n row) ∙ r.plain;
@@ -237,14 +237,14 @@ module _ (types : List DataDecl) (ty : Ty) (ts : List Ty) (wanted unwanted : Lis
 
 -- by the forms of heads and types
 pub part-found : (types : List DataDecl) (ty : Ty) (ts : List Ty) (wanted unwanted : List (List Pat)) (h : Head) (fs : List Ty) (at : fields_at types ty h ≡ Some fs)
-    (row : List Pat) (kept : length (special h (length fs) wanted) ≡ length wanted) (r : IsFound types (fs ++ ts) (special h (length fs) wanted) (special h (length fs) unwanted) row)
-    → IsFound types (ty ∷ ts) wanted unwanted (closed (step_of ty h (length fs)) row)
+    (row : List Pat) (kept : length (special h (length fs) wanted) ≡ length wanted) (r : RowIsFound types (fs ++ ts) (special h (length fs) wanted) (special h (length fs) unwanted) row)
+    → RowIsFound types (ty ∷ ts) wanted unwanted (closed (step_of ty h (length fs)) row)
 part-found types (Int bits) ts wanted unwanted (H.Num m) fs at row kept r =
     let f = fits-num (nat_lt m (2 ^ bits)) fs at in
     let none : length fs ≡ 0 = ap (λ l. length l) f.1 in
     let front : IsFront types (Int bits) (H.Num m) fs (take (length fs) row) (Pats.Num 0 m) =
     subst (λ l. IsFront types (Int bits) (H.Num m) l (take (length l) row) (Pats.Num 0 m)) (sym f.1) (number-front types bits m f.0) in
-    subst (λ k. IsFound types (Int bits ∷ ts) wanted unwanted (Pats.Num 0 m ∷ drop k row)) none
+    subst (λ k. RowIsFound types (Int bits ∷ ts) wanted unwanted (Pats.Num 0 m ∷ drop k row)) none
     (found-front types (Int bits) ts wanted unwanted (H.Num m) fs at row kept r (Pats.Num 0 m) front)
 part-found types (Int bits) ts wanted unwanted (H.Con c) fs at row kept r = none≢some fs at
 part-found types (Named t) ts wanted unwanted (H.Num m) fs at row kept r = none≢some fs at

@@ -14,7 +14,7 @@ use Rattle.rb_matrix.specs.declared.problem.Problem.{Problem}
 use Rattle.rb_matrix.specs.declared.problem.Left.TheVariants.{Whole}
 use Rattle.rb_matrix.specs.Heads.{any_begins, column_begins, first_head, some_head, fields_at}
 use Rattle.rb_matrix.specs.Specialize.{special, defaults}
-use Rattle.rb_matrix.specs.Search.{IsTypeIn, AreTypesIn, AreInhabited, IsFound, IsNowhere}
+use Rattle.rb_matrix.specs.Search.{IsTypeIn, AreTypesIn, AreInhabited, RowIsFound, IsNowhere}
 use Rattle.rb_matrix.specs.inner.Problems.{closed, step_of, FoundIn, NoneIn, NoneBy, IsPart, IsPartAt}
 use Rattle.rb_matrix.specs.Beside.{IsBeside}
 use Rattle.rb_matrix.specs.inner.Left.{IsSplit}
@@ -29,8 +29,8 @@ module _ (types : List DataDecl) where
   -- One part -------------------------------------------------------------------------------------
 
   module _ (ty : Ty) (ts : List Ty) (p : Problem) (columns : p.tys ≡ ty ∷ ts) where
-    at-root : (row : List Pat) → IsFound types (ty ∷ ts) p.wanted p.unwanted row → FoundIn types p row
-    at-root row r = subst (λ l. IsFound types l p.wanted p.unwanted row) (sym columns) r
+    at-root : (row : List Pat) → RowIsFound types (ty ∷ ts) p.wanted p.unwanted row → FoundIn types p row
+    at-root row r = subst (λ l. RowIsFound types l p.wanted p.unwanted row) (sym columns) r
 
     none-root : IsNowhere types (ty ∷ ts) p.wanted p.unwanted → NoneIn types p
     none-root h = subst (λ l. IsNowhere types l p.wanted p.unwanted) (sym columns) h
@@ -43,9 +43,9 @@ module _ (types : List DataDecl) where
       kept : length (special h (length fs) p.wanted) ≡ length p.wanted
       kept = let a = special-length h (length fs) p.wanted in let b = ap (λ l. length l) w in omega (arith, a, b, long)
 
-      found-here : (row : List Pat) → FoundIn types c row → IsFound types (fs ++ ts) (special h (length fs) p.wanted) (special h (length fs) p.unwanted) row
-      found-here row r = subst (λ l. IsFound types (fs ++ ts) (special h (length fs) p.wanted) l row) u
-          (subst (λ l. IsFound types (fs ++ ts) l c.unwanted row) w (subst (λ l. IsFound types l c.wanted c.unwanted row) tys r))
+      found-here : (row : List Pat) → FoundIn types c row → RowIsFound types (fs ++ ts) (special h (length fs) p.wanted) (special h (length fs) p.unwanted) row
+      found-here row r = subst (λ l. RowIsFound types (fs ++ ts) (special h (length fs) p.wanted) l row) u
+          (subst (λ l. RowIsFound types (fs ++ ts) l c.unwanted row) w (subst (λ l. RowIsFound types l c.wanted c.unwanted row) tys r))
 
       none-here : NoneIn types c → IsNowhere types (fs ++ ts) (special h (length fs) p.wanted) (special h (length fs) p.unwanted)
       none-here r = subst (λ l. IsNowhere types (fs ++ ts) (special h (length fs) p.wanted) l) u
@@ -80,7 +80,7 @@ module _ (types : List DataDecl) where
           step = Front q;
           steps = steps;
           sound = λ row r. at-root (q ∷ row) (rest-found types ty ts p.wanted p.unwanted none kept q beside row
-              (subst (λ l. IsFound types ts (defaults p.wanted) l row) u (subst (λ l. IsFound types ts l c.unwanted row) w (subst (λ l. IsFound types l c.wanted c.unwanted row) tys r))));
+              (subst (λ l. RowIsFound types ts (defaults p.wanted) l row) u (subst (λ l. RowIsFound types ts l c.unwanted row) w (subst (λ l. RowIsFound types l c.wanted c.unwanted row) tys r))));
           cheap = cheap types p c (defaults-fall types p c w u (omega (arith, l, columns)));
         } in
         let falls = part-fewer types p c part.cheap (omega (arith, columns)) in

@@ -10,7 +10,7 @@ use Rattle.rb_matrix.specs.declared.problem.Problem.{Problem}
 use Rattle.rb_matrix.specs.declared.problem.Left.{Left}
 use Rattle.rb_matrix.specs.declared.problem.Left.TheVariants.{Whole, ByHead}
 use Rattle.rb_matrix.specs.Rows.{row_matches, any_row, all_rows, vector_of}
-use Rattle.rb_matrix.specs.Search.{AreTypesIn, sought, IsFound, IsNowhere}
+use Rattle.rb_matrix.specs.Search.{AreTypesIn, sought, RowIsFound, IsNowhere}
 use Rattle.rb_matrix.specs.inner.Problems.{with_column, closed, closed_all, FoundIn, IsPart}
 use Rattle.rb_matrix.specs.inner.Left.{NoneOf, AllNone, left_cost, costs, LeadsTo, IsWithin, AreWithin, IsWorking, IsSplit}
 use Rattle.rb_matrix.proofs.Weights.{some-cost}
@@ -61,8 +61,8 @@ pub lost-unwanted : (types : List DataDecl) (p : Problem) (ls : List Left) → l
 lost-unwanted types p ls e lt on = no-split types (Whole p) ls e (empty-unwanted types p.tys p.wanted p.unwanted lt on)
 
 -- a problem without columns that its rows solve
-pub solved : (types : List DataDecl) (tys : List Ty) (wanted unwanted : List (List Pat)) → tys ≡ [] → all_rows wanted [] ≡ true → any_row unwanted [] ≡ false → IsFound types tys wanted unwanted []
-solved types tys wanted unwanted e all none = subst (λ l. IsFound types l wanted unwanted []) (sym e) (record {
+pub solved : (types : List DataDecl) (tys : List Ty) (wanted unwanted : List (List Pat)) → tys ≡ [] → all_rows wanted [] ≡ true → any_row unwanted [] ≡ false → RowIsFound types tys wanted unwanted []
+solved types tys wanted unwanted e all none = subst (λ l. RowIsFound types l wanted unwanted []) (sym e) (record {
   plain = refl;
   value = [];
   matched = refl;

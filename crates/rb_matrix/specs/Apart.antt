@@ -5,5 +5,5 @@ use Rattle.rb_core.specs.declared.pattern.Pat.{Pat}
 use Rattle.rb_core.specs.Matching.{matches_of}
 
 -- no value matches both patterns, of whatever type it is, and even where it is of none
-abbrev pub AreApart : Pat → Pat → Type 0
-AreApart p q = (v : Value) → matches_of p v ≡ true → matches_of q v ≡ true → ⊥
+abbrev pub PatternsAreApart : Pat → Pat → Type 0
+PatternsAreApart p q = (v : Value) → matches_of p v ≡ true → matches_of q v ≡ true → ⊥

@@ -64,7 +64,7 @@ sought types tys wanted unwanted vs = vector_of types tys vs && (all_rows wanted
 
 -- a row of plain patterns of these types, such that all vectors of these types that it matches are sought, and it
 -- matches one
-pub record IsFound (types : List DataDecl) (tys : List Ty) (wanted unwanted : List (List Pat))
+pub record RowIsFound (types : List DataDecl) (tys : List Ty) (wanted unwanted : List (List Pat))
     (row : List Pat) : Type 0 where
   pub plain : row_plain types tys row ≡ true
   pub value : List Value
@@ -79,6 +79,6 @@ IsNowhere types tys wanted unwanted = (vs : List Value) → sought types tys wan
 
 -- what a search answers: None where no vector is sought, and else a row of plain patterns that matches sought
 -- vectors alone, and one at least
-abbrev pub IsAnswer : List DataDecl → List Ty → List (List Pat) → List (List Pat) → Option (List Pat) → Type 0
-IsAnswer types tys wanted unwanted None = IsNowhere types tys wanted unwanted
-IsAnswer types tys wanted unwanted (Some row) = IsFound types tys wanted unwanted row
+abbrev pub IsSearchAnswer : List DataDecl → List Ty → List (List Pat) → List (List Pat) → Option (List Pat) → Type 0
+IsSearchAnswer types tys wanted unwanted None = IsNowhere types tys wanted unwanted
+IsSearchAnswer types tys wanted unwanted (Some row) = RowIsFound types tys wanted unwanted row

@@ -3,7 +3,7 @@
 //! finds all such pairs.
 
 ghost use Rattle.std.specs.Bool.{OnTrue};
-ghost use Rattle.rb_matrix.specs.Apart.{AreApart};
+ghost use Rattle.rb_matrix.specs.Apart.{PatternsAreApart};
 ghost use Rattle.rb_matrix.specs.inner.Against.{HaveApart, Covers, CoverEach};
 
 use rb_core::pattern::Pat;
@@ -14,7 +14,7 @@ use rb_core::pattern::Pat;
 /// different counts of subpatterns, are not told apart.
 #[cycle(comparing)]
 pub fn are_apart(one: &Pat, other: &Pat) -> bool
-    ensures { OnTrue result (AreApart one.now other.now) }
+    ensures { OnTrue result (PatternsAreApart one.now other.now) }
 {
     match one {
         Pat::Wild(_) | Pat::Var(_, _) => false,

@@ -9,7 +9,7 @@ ghost use Rattle.rb_core.specs.Matching.{matches_of};
 ghost use Rattle.rb_core.specs.Values.{subs};
 ghost use Rattle.std.specs.Bool.{OnTrue};
 ghost use Rattle.rb_matrix.specs.inner.Against.{IsCovered};
-ghost use Rattle.rb_matrix.specs.inner.Index.{HasKey, IsIndex, IsGrouped, Extends, AreNear};
+ghost use Rattle.rb_matrix.specs.inner.Index.{HasKey, IsIndex, IsGrouped, ExtendsIndex, AreNear};
 
 use crate::apart::covers;
 use rb_core::pattern::Pat;
@@ -136,7 +136,7 @@ impl Index {
     ///
     /// Want of memory.
     pub fn add(&mut self, alloc: Global, number: usize, pat: &Pat) -> Result<(), AllocError>
-        ensures { OnOk result (Extends number pat.now self.old self.new) }
+        ensures { OnOk result (ExtendsIndex number pat.now self.old self.new) }
     {
         match key_at(pat, self.path.as_slice()) {
             None => self.keyless.push(number),

@@ -66,6 +66,6 @@ mod witness;
 pub use apart::are_apart;
 pub use beside::pattern_beside;
 pub use coverage::{MatrixFault, common, exhaust, unreached};
-pub use specialization::{default_of_row, default_rows, specialize, specialize_row};
 pub use matrix::{Head, Matrix};
 pub use search::find;
+pub use specialization::{default_of_row, default_rows, specialize, specialize_row};

@@ -12,10 +12,10 @@ ghost use Rattle.rb_matrix.specs.Beside.{IsBeside};
 ghost use Rattle.rb_matrix.specs.inner.Left.{IsReady, IsSplit, wholes};
 
 use crate::beside::pattern_beside;
-use crate::specialization::head_fields;
 use crate::matrix::Head;
 use crate::problem::{Branches, Left, Problem, Step};
-use crate::rows::{into_default, first_head_in, heads_in, special_copies, into_specialized};
+use crate::rows::{first_head_in, heads_in, into_default, into_specialized, special_copies};
+use crate::specialization::head_fields;
 use crate::stack::Stack;
 use rb_core::pattern::Pat;
 use rb_core::seq::Seq;

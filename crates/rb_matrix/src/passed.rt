@@ -10,11 +10,11 @@ ghost use Rattle.rb_matrix.specs.Known.{has};
 ghost use Rattle.rb_matrix.specs.inner.Indexes.{BothExtend};
 ghost use Rattle.rb_matrix.specs.inner.Passed.{layer_number, ArePassed};
 
-use crate::specialization::head_fields;
 use crate::indexes::Indexes;
 use crate::matrix::Head;
 use crate::numbers::Numbers;
 use crate::positions::Paths;
+use crate::specialization::head_fields;
 use rb_core::pattern::Pat;
 use rb_core::types::{DataDecl, Ty};
 use std::alloc::{AllocError, Global};

@@ -15,7 +15,7 @@ ghost use Rattle.std.specs.Prelude.{◌≡◌, List, IfOk, []};
 ghost use Rattle.rb_core.specs.declared.types.DataDecl as DataDecls;
 ghost use Rattle.rb_matrix.specs.declared.problem.Left.TheVariants.{Whole};
 ghost use Rattle.rb_matrix.specs.Rows.{any_row, all_rows};
-ghost use Rattle.rb_matrix.specs.Search.{AreInhabited, AreTypesIn, IsAnswer};
+ghost use Rattle.rb_matrix.specs.Search.{AreInhabited, AreTypesIn, IsSearchAnswer};
 ghost use Rattle.rb_matrix.specs.inner.Problems.{root_of};
 ghost use Rattle.rb_matrix.specs.inner.Left.{IsOutcome, IsReady};
 
@@ -158,7 +158,7 @@ pub fn find_in(
     requires inhabited { AreInhabited types.now }
     requires live { AreTypesIn types.now root.tys }
     requires root { root.steps ≡ [] }
-    ensures { IfOk result (λ r. IsAnswer types.now root.tys root.wanted root.unwanted r) }
+    ensures { IfOk result (λ r. IsSearchAnswer types.now root.tys root.wanted root.unwanted r) }
 {
     let mut work = Vec::new(alloc);
     work.push(Left::Whole(root))?;
@@ -192,7 +192,7 @@ pub fn find(
 ) -> Result<Option<Seq<Pat>>, AllocError>
     requires inhabited { AreInhabited types.now }
     requires live { AreTypesIn types.now tys.now }
-    ensures { IfOk result (λ r. IsAnswer types.now tys.now wanted.now unwanted.now r) }
+    ensures { IfOk result (λ r. IsSearchAnswer types.now tys.now wanted.now unwanted.now r) }
 {
     let root = root(alloc, tys, wanted, unwanted)?;
     find_in(alloc, types, root)

@@ -7,22 +7,22 @@ use Rattle.std.proofs.lemmas.List.{append_assoc}
 use Rattle.rb_names.specs.Scopes.{Scope}
 use Rattle.rb_names.specs.Numbering.{Resolved, Numbered, Numbering, numbered_as, and_then, in_turn}
 use Rattle.rb_names.proofs.ListLemmas.{drop-here}
-use Rattle.rb_names.specs.Answers.{Answers, AnswersFrom}
+use Rattle.rb_names.specs.Answers.{AnswersNumbering, AnswersFrom}
 use Rattle.rb_names.specs.Joining.{behind_in_turn}
 
 through : {A B : Type 0} (fault : NameFault) (here : Resolved A) (gives : Resolved B)
-    → Answers (Err fault) here → ((f : NameFault) → here ≡ Err f → gives ≡ Err f) → Answers (Err fault) gives
+    → AnswersNumbering (Err fault) here → ((f : NameFault) → here ≡ Err f → gives ≡ Err f) → AnswersNumbering (Err fault) gives
 through Memory here gives h k = tt
 through (Twice name at) here gives h k = k _ h
 through (Unknown name at) here gives h k = k _ h
 through NoMain here gives h k = k _ h
 
 pub Answers-fails : {A B : Type 0} (r : Resolved B) (fault : NameFault) (here : Resolved A) (gives : Resolved B)
-    → IsErrAnd r (λ e. e ≡ fault) → Answers (Err fault) here → ((f : NameFault) → here ≡ Err f → gives ≡ Err f) → Answers r gives
-Answers-fails (Err e) fault here gives is h k = subst (λ x. Answers (Err x) gives) (sym is) (through fault here gives h k)
+    → IsErrAnd r (λ e. e ≡ fault) → AnswersNumbering (Err fault) here → ((f : NameFault) → here ≡ Err f → gives ≡ Err f) → AnswersNumbering r gives
+Answers-fails (Err e) fault here gives is h k = subst (λ x. AnswersNumbering (Err x) gives) (sym is) (through fault here gives h k)
 Answers-fails (Ok done) fault here gives is h k = absurd is
 
-pub Answers-from : {A : Type 0} (fault : NameFault) (next : ℕ) (gives : Resolved (Numbered A)) → AnswersFrom (Err fault) next gives → Answers (Err fault) gives
+pub Answers-from : {A : Type 0} (fault : NameFault) (next : ℕ) (gives : Resolved (Numbered A)) → AnswersFrom (Err fault) next gives → AnswersNumbering (Err fault) gives
 Answers-from Memory next gives h = h
 Answers-from (Twice name at) next gives h = h
 Answers-from (Unknown name at) next gives h = h

@@ -13,7 +13,7 @@ use Rattle.rb_core.specs.declared.layout_decl.LayoutDecl.{LayoutDecl}
 use Rattle.rb_core.specs.WellNumbered.{IsWellNumbered, is_distinct, layout_is_numbered}
 use Rattle.rb_layout.specs.Flattening.{decl_of}
 use Rattle.rb_syntax.specs.declared.tree.FileTree.{FileTree}
-use Rattle.rb_auto.specs.Answers.{Derives, IsAnswer}
+use Rattle.rb_auto.specs.Answers.{Derives, IsDerivedAnswer}
 use Rattle.rb_auto.specs.Completed.{Completes, completed}
 use Rattle.rb_auto.specs.Rooms.{kind_in, kind_of}
 use Rattle.rb_auto.proofs.Tagging.{answer-form}
@@ -37,15 +37,15 @@ use Rattle.rb_names.proofs.WellProgram.{once-ok}
 -- Answers ----------------------------------------------------------------------------------------
 
 module _ (p : Program) (kinds : List (Option Auto)) where
-  derived-type : (t : ℕ) (d : LayoutDecl) → IsAnswer p kinds t (Ok d) → d.ty ≡ t
+  derived-type : (t : ℕ) (d : LayoutDecl) → IsDerivedAnswer p kinds t (Ok d) → d.ty ≡ t
   derived-type t d is = ap (λ (x : LayoutDecl). x.ty) (answer-form p kinds is.0 t d is.2).1
 
-  each-answer : (ts : List ℕ) (rs : List Derives) → AreDerived p kinds ts rs → (k : ℕ) (d : LayoutDecl) → slice_get (layouts_in rs) k ≡ Some d → IsAnswer p kinds d.ty (Ok d)
+  each-answer : (ts : List ℕ) (rs : List Derives) → AreDerived p kinds ts rs → (k : ℕ) (d : LayoutDecl) → slice_get (layouts_in rs) k ≡ Some d → IsDerivedAnswer p kinds d.ty (Ok d)
   each-answer [] [] are k d e = absurd cc
   each-answer [] (r ∷ rs) are k d e = absurd are
   each-answer (t ∷ ts) [] are k d e = absurd are
   each-answer (t ∷ ts) (Ok x ∷ rs) are zero d e =
-      subst (λ (y : LayoutDecl). IsAnswer p kinds y.ty (Ok y)) (same_Some x d e) (subst (λ s. IsAnswer p kinds s (Ok x)) (sym (derived-type t x are.0)) are.0)
+      subst (λ (y : LayoutDecl). IsDerivedAnswer p kinds y.ty (Ok y)) (same_Some x d e) (subst (λ s. IsDerivedAnswer p kinds s (Ok x)) (sym (derived-type t x are.0)) are.0)
   each-answer (t ∷ ts) (Ok x ∷ rs) are (suc k) d e = each-answer ts rs are.1 k d e
   each-answer (t ∷ ts) (Err f ∷ rs) are k d e = each-answer ts rs are.1 k d e
 
@@ -71,7 +71,7 @@ module _ (p : Program) (kinds : List (Option Auto)) where
   still-distinct written (t ∷ ts) (Err f ∷ rs) are h = still-distinct written ts rs are.1 (without-distinct t written ts h)
 
   module _ (well : IsWellNumbered p) where
-    derived-numbered : (t : ℕ) (d : LayoutDecl) → t < length p.types → IsAnswer p kinds t (Ok d) → layout_is_numbered p.types d ≡ true
+    derived-numbered : (t : ℕ) (d : LayoutDecl) → t < length p.types → IsDerivedAnswer p kinds t (Ok d) → layout_is_numbered p.types d ≡ true
     derived-numbered t d lt is =
         let form = answer-form p kinds is.0 t d is.2 in ap (layout_is_numbered p.types) form.1 ∙ derived-well p well is.0 t lt form.0
 

@@ -11,7 +11,7 @@ use Rattle.rb_names.specs.declared.tables.Defining.{Defining}
 use Rattle.rb_names.specs.Tables.{Name, Table, meaning}
 use Rattle.rb_names.specs.Definitions.{Kind, OfType, OfConstructor, OfFunction, OfLayout, Definition, same_kind, first_again}
 use Rattle.rb_names.specs.Programs.{no_twice}
-use Rattle.rb_names.specs.Answers.{Answers}
+use Rattle.rb_names.specs.Answers.{AnswersNumbering}
 use Rattle.rb_names.specs.Defining.{is_defined, Knows, AreKnown, AreAdded, IsAgain, made_again}
 
 pub any-append : {A : Type 0} (p : A → Bool) (xs ys : List A) → list_any p (xs ++ ys) ≡ (list_any p xs || list_any p ys)
@@ -116,7 +116,7 @@ pub none-added : (before : List Definition) (known : Defining) → AreKnown befo
 none-added before known a = record { all = before; are_known = a; are_new = λ rest. refl }
 
 -- nothing is refused but for memory
-not-refused : (fault : NameFault) (gives : Resolved (Unit {0})) → Answers {A = Unit {0}} (Err fault) (Ok tt) → Answers {A = Unit {0}} (Err fault) gives
+not-refused : (fault : NameFault) (gives : Resolved (Unit {0})) → AnswersNumbering {A = Unit {0}} (Err fault) (Ok tt) → AnswersNumbering {A = Unit {0}} (Err fault) gives
 not-refused Memory gives h = tt
 not-refused (Twice name at) gives h = cc
 not-refused (Unknown name at) gives h = cc
@@ -124,10 +124,10 @@ not-refused NoMain gives h = cc
 
 -- a definition that is made again
 module _ {A : Type 0} (k : Kind) (before : List Definition) (table : Table A) (a : Knows k before table) (name : NameTree) (fault : NameFault) where
-  pub made-again : Answers {A = Unit {0}} (Err fault) (no_twice (made_again (is_some (meaning table name.text)) name)) → IsAgain before (record { kind = k; name = name } ∷ []) fault
+  pub made-again : AnswersNumbering {A = Unit {0}} (Err fault) (no_twice (made_again (is_some (meaning table name.text)) name)) → IsAgain before (record { kind = k; name = name } ∷ []) fault
   made-again h rest = by (is_some (meaning table name.text)) refl h
     where
-      by : (b : Bool) → is_some (meaning table name.text) ≡ b → Answers {A = Unit {0}} (Err fault) (no_twice (made_again b name))
-          → Answers {A = Unit {0}} (Err fault) (no_twice (first_again before (record { kind = k; name = name } ∷ rest)))
-      by true e h = subst (λ (o : Option NameTree). Answers {A = Unit {0}} (Err fault) (no_twice o)) (sym (again-first before (record { kind = k; name = name }) rest (sym (a name.text) ∙ e))) h
+      by : (b : Bool) → is_some (meaning table name.text) ≡ b → AnswersNumbering {A = Unit {0}} (Err fault) (no_twice (made_again b name))
+          → AnswersNumbering {A = Unit {0}} (Err fault) (no_twice (first_again before (record { kind = k; name = name } ∷ rest)))
+      by true e h = subst (λ (o : Option NameTree). AnswersNumbering {A = Unit {0}} (Err fault) (no_twice o)) (sym (again-first before (record { kind = k; name = name }) rest (sym (a name.text) ∙ e))) h
       by false e h = not-refused fault _ h

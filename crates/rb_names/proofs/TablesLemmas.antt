@@ -20,7 +20,7 @@ use Rattle.rb_names.proofs.DefiningLemmas.{any-append, is_some-append, or-false,
 use Rattle.rb_names.proofs.ListLemmas.{drop-here}
 use Rattle.rb_names.specs.Numbering.{Resolved, and_then}
 use Rattle.rb_names.specs.Programs.{no_twice}
-use Rattle.rb_names.specs.Answers.{Answers}
+use Rattle.rb_names.specs.Answers.{AnswersNumbering}
 use Rattle.rb_names.specs.Defining.{AreKnown, AreAdded, IsAgain, made_again, with_rest}
 
 pub with_rest-end : (t : Tables) → with_rest t [] ≡ t
@@ -122,10 +122,10 @@ module _ (cons : List ConTree) (i : ℕ) (con : ConTree) (lt : i < length cons) 
       })
 
   pub constructor-again : (before all : List Definition) (known : Defining) (fault : NameFault)
-      → Answers {A = Unit {0}} (Err fault) (no_twice (made_again (is_some (meaning known.tables.constructors con.name.text)) con.name))
+      → AnswersNumbering {A = Unit {0}} (Err fault) (no_twice (made_again (is_some (meaning known.tables.constructors con.name.text)) con.name))
       → Passed before all (map constructor_definition (drop i cons)) known → IsAgain before all fault
   constructor-again before all known fault h p rest =
-      subst (λ (o : Option NameTree). Answers {A = Unit {0}} (Err fault) (no_twice o))
+      subst (λ (o : Option NameTree). AnswersNumbering {A = Unit {0}} (Err fault) (no_twice o))
       (sym (p.same rest ∙ ap (λ ds. first_again p.gone (ds ++ rest)) constructors-here))
       (made-again OfConstructor p.gone known.tables.constructors p.are_known.constructors con.name fault h (map constructor_definition (drop (suc i) cons) ++ rest))
 
@@ -173,9 +173,9 @@ module _ (items : List ItemTree) (i : ℕ) (item : ItemTree) (lt : i < length it
       (a.all, a.are_known, rw (add-one i) (sym (a.are_new (flat_map (definitions names) (drop (suc i) items))) ∙ ap (first_again gone) (sym (definitions-here names)) ∙ h))
 
   pub twice-here : (names : List Name) (gone : List Definition) (fault : NameFault) (twice : Option NameTree) → IsAgain gone (definitions names item) fault
-      → first_again gone (flat_map (definitions names) (drop i items)) ≡ twice → Answers {A = Unit {0}} (Err fault) (no_twice twice)
+      → first_again gone (flat_map (definitions names) (drop i items)) ≡ twice → AnswersNumbering {A = Unit {0}} (Err fault) (no_twice twice)
   twice-here names gone fault twice a h =
-      subst (λ (o : Option NameTree). Answers {A = Unit {0}} (Err fault) (no_twice o)) (ap (first_again gone) (sym (definitions-here names)) ∙ h)
+      subst (λ (o : Option NameTree). AnswersNumbering {A = Unit {0}} (Err fault) (no_twice o)) (ap (first_again gone) (sym (definitions-here names)) ∙ h)
       (a (flat_map (definitions names) (drop (suc i) items)))
 
 pub twice-refused : {A : Type 0} (twice : Option NameTree) (go : Unit {0} → Resolved A) (f : NameFault) → no_twice twice ≡ Err f → and_then (no_twice twice) go ≡ Err f
@@ -184,7 +184,7 @@ twice-refused twice go f h = ap (λ r. and_then r go) h
 -- a type's own name may be made again, or one of its constructors'
 pub later-again : (before more rest : List Definition) (known : Defining) (fault : NameFault) (a : AreAdded before more known) → IsAgain a.all rest fault → IsAgain before (more ++ rest) fault
 later-again before more rest known fault a h after =
-    subst (λ (o : Option NameTree). Answers {A = Unit {0}} (Err fault) (no_twice o)) (sym (ap (first_again before) (append_assoc more rest after) ∙ a.are_new (rest ++ after))) (h after)
+    subst (λ (o : Option NameTree). AnswersNumbering {A = Unit {0}} (Err fault) (no_twice o)) (sym (ap (first_again before) (append_assoc more rest after) ∙ a.are_new (rest ++ after))) (h after)
 
 pub first-again-of : (before : List Definition) (d : Definition) (rest : List Definition) (fault : NameFault) → IsAgain before (d ∷ []) fault → IsAgain before (d ∷ rest) fault
 first-again-of before d rest fault h after = h (rest ++ after)

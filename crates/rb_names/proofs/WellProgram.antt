@@ -16,7 +16,7 @@ use Rattle.rb_syntax.specs.Written.{Written, tokens_in, each}
 use Rattle.rb_syntax.specs.Spelling.{item_written}
 use Rattle.rb_names.specs.declared.tables.Tables.{Tables}
 use Rattle.rb_names.specs.declared.items.Items.{Items}
-use Rattle.rb_names.specs.Answers.{Answers}
+use Rattle.rb_names.specs.Answers.{AnswersNumbering}
 use Rattle.rb_names.specs.Tables.{Name, meaning}
 use Rattle.rb_names.specs.Definitions.{tables_of, defined_twice}
 use Rattle.rb_names.specs.Numbering.{Resolved, known, numbered_data, numbered_layout, numbered_function}
@@ -100,6 +100,6 @@ well-numbered ts file p w e =
     })
 
 -- so is the program that a call answers
-pub answer-well : (result : Resolved Program) (file : FileTree) → Answers result (numbered file) → (ts : List Token) → IsWritten ts file → IfOk result IsWellNumbered
+pub answer-well : (result : Resolved Program) (file : FileTree) → AnswersNumbering result (numbered file) → (ts : List Token) → IsWritten ts file → IfOk result IsWellNumbered
 answer-well (Ok p) file a ts w = well-numbered ts file p w a
 answer-well (Err fault) file a ts w = tt

@@ -4,10 +4,10 @@ use Rattle.rb_names.specs.declared.fault.NameFault.TheVariants.{Memory}
 use Rattle.rb_names.specs.Numbering.{Resolved, Numbered}
 
 -- a call's answer, first, is what numbering gives, second: the same part or fault; want of memory says nothing of it
-abbrev pub Answers : {A : Type 0} → Resolved A → Resolved A → Type 0
-Answers (Ok a) gives = gives ≡ Ok a
-Answers (Err Memory) gives = Unit {0}
-Answers (Err fault) gives = gives ≡ Err fault
+abbrev pub AnswersNumbering : {A : Type 0} → Resolved A → Resolved A → Type 0
+AnswersNumbering (Ok a) gives = gives ≡ Ok a
+AnswersNumbering (Err Memory) gives = Unit {0}
+AnswersNumbering (Err fault) gives = gives ≡ Err fault
 
 -- a call's answer and the next binder's number are what numbering gives, or the answer is the fault that it gives;
 -- want of memory says nothing of it

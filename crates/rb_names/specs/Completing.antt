@@ -9,7 +9,7 @@ use Rattle.rb_syntax.specs.declared.tree.ItemTree.TheVariants as top
 use Rattle.rb_syntax.specs.declared.tree.FileTree.{FileTree}
 use Rattle.rb_auto.specs.declared.fault.AutoFault.{AutoFault}
 use Rattle.rb_auto.specs.declared.fault.AutoFault.TheVariants.{Memory}
-use Rattle.rb_auto.specs.Answers.{Derives, IsAnswer}
+use Rattle.rb_auto.specs.Answers.{Derives, IsDerivedAnswer}
 use Rattle.rb_auto.specs.Completed.{Completes, completed}
 use Rattle.rb_names.specs.declared.complete.Completed.{Completed}
 use Rattle.rb_names.specs.Tables.{Table, meaning}
@@ -45,7 +45,7 @@ left_types file = numbers_of (tables_of file.items).types (left_in file.items)
 -- of memory is no answer here
 abbrev pub IsDerived : Program → List (Option Auto) → ℕ → Derives → Type 0
 IsDerived p kinds t (Err Memory) = ⊥
-IsDerived p kinds t r = IsAnswer p kinds t r
+IsDerived p kinds t r = IsDerivedAnswer p kinds t r
 
 -- the answers are, one for each of these types and in their order, what is derived for them
 abbrev pub AreDerived : Program → List (Option Auto) → List ℕ → List Derives → Type 0

@@ -9,7 +9,7 @@ use Rattle.rb_names.specs.declared.tables.Tables.{Tables}
 use Rattle.rb_names.specs.declared.tables.Defining.{Defining}
 use Rattle.rb_names.specs.Tables.{Name, Table, meaning}
 use Rattle.rb_names.specs.Definitions.{Kind, OfType, OfConstructor, OfFunction, OfLayout, Definition, same_kind, first_again, numbered_from, constructors_of, type_names, types_in, function_names}
-use Rattle.rb_names.specs.Answers.{Answers}
+use Rattle.rb_names.specs.Answers.{AnswersNumbering}
 use Rattle.rb_names.specs.Programs.{no_twice}
 
 -- whether this name is among these definitions as one of kind k, that is, in the table of that kind
@@ -37,7 +37,8 @@ pub record AreAdded (before more : List Definition) (known : Defining) : Type 0 
 -- nothing
 abbrev pub IsAgain : (before more : List Definition) → NameFault → Type 0
 IsAgain before more fault =
-    (rest : List Definition) → Answers {A = Unit {0}} (Err fault) (no_twice (first_again before (more ++ rest)))
+    (rest : List Definition)
+    → AnswersNumbering {A = Unit {0}} (Err fault) (no_twice (first_again before (more ++ rest)))
 
 -- the name, where it is there already, that is, defined in its table before; none where it is new
 abbrev pub made_again : Bool → NameTree → Option NameTree

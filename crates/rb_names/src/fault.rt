@@ -2,7 +2,7 @@
 
 ghost use Rattle.std.specs.Prelude.{◌≡◌, Ok, Err};
 ghost use Rattle.rb_names.specs.declared.fault.NameFault.TheVariants as fault;
-ghost use Rattle.rb_names.specs.Answers.{Answers};
+ghost use Rattle.rb_names.specs.Answers.{AnswersNumbering};
 ghost use Rattle.rb_names.specs.Numbering as numbering;
 
 use rb_core::types::Name;
@@ -51,7 +51,7 @@ pub(crate) fn known<T: Copy>(
     name: &NameTree,
     found: Option<T>,
 ) -> Result<T, NameFault>
-    ensures { Answers result (numbering.known name.now found) }
+    ensures { AnswersNumbering result (numbering.known name.now found) }
 {
     match found {
         Some(meaning) => Ok(meaning),
@@ -64,7 +64,7 @@ pub(crate) fn known<T: Copy>(
 
 /// The number of what stands behind so many others; there is no memory for 2^32 of them.
 pub(crate) fn number_behind(len: usize) -> Result<u32, NameFault>
-    ensures { Answers result (Ok len) }
+    ensures { AnswersNumbering result (Ok len) }
 {
     match u32::try_from(len) {
         Ok(number) => Ok(number),

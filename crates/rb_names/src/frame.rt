@@ -2,7 +2,7 @@
 
 ghost use Rattle.std.specs.Prelude.{◌≡◌, ◌+◌, [], OnOk, IfOk, IfErr, Ok};
 ghost use Rattle.rb_names.specs.declared.fault.NameFault.TheVariants.{Memory};
-ghost use Rattle.rb_names.specs.Answers.{Answers};
+ghost use Rattle.rb_names.specs.Answers.{AnswersNumbering};
 ghost use Rattle.rb_names.specs.inner.Frames.{with_binder};
 
 use crate::fault::NameFault;
@@ -55,7 +55,7 @@ impl<'a> Frame<'a> {
 /// Want of memory, where 2^32 binders would stand.
 pub fn fresh(next: &mut u32) -> Result<u32, NameFault>
     ensures next { IfOk result (λ n. (n ≡ next.old) × (next.new ≡ next.old + 1)) }
-    ensures answers { Answers result (Ok next.old) }
+    ensures answers { AnswersNumbering result (Ok next.old) }
 {
     let number = *next;
     match number.checked_add(1) {

@@ -2,7 +2,7 @@
 
 ghost use Rattle.std.specs.Prelude.{◌≡◌, ◌+◌, length, map, OnOk, IfErr};
 ghost use Rattle.rb_names.specs.declared.fault.NameFault.TheVariants.{Memory};
-ghost use Rattle.rb_names.specs.Answers.{Answers};
+ghost use Rattle.rb_names.specs.Answers.{AnswersNumbering};
 ghost use Rattle.rb_names.specs.Numbering.{all_of, numbered_function, numbered_param};
 ghost use Rattle.rb_names.specs.Scopes.{inside, param_binders};
 ghost use Rattle.rb_names.specs.inner.Frames.{scope_of, with_binders};
@@ -24,7 +24,7 @@ use std::alloc::Global;
 ///
 /// `Unknown` for the first name, from left to right, that stands for nothing; or want of memory.
 pub fn number_function(alloc: Global, tables: &Tables, tree: &FunTree) -> Result<Fun, NameFault>
-    ensures { Answers result (numbered_function tables.now tree.now) }
+    ensures { AnswersNumbering result (numbered_function tables.now tree.now) }
 {
     let mut scope = Scope::new(alloc);
     let mut next = 0;
@@ -77,7 +77,7 @@ fn number_param(
     scope: &Scope,
     tree: &ParamTree,
 ) -> Result<Param, NameFault>
-    ensures { Answers result (numbered_param tables.now (scope_of scope.now) tree.now) }
+    ensures { AnswersNumbering result (numbered_param tables.now (scope_of scope.now) tree.now) }
 {
     let ty = number_type(alloc, tables, &tree.ty)?;
     let var = known(alloc, &tree.var, scope.get(tree.var.text.as_slice()))?;
@@ -95,7 +95,8 @@ fn number_params(
     scope: &Scope,
     trees: &[ParamTree],
 ) -> Result<Seq<Param>, NameFault>
-    ensures { Answers result (all_of (map (numbered_param tables.now (scope_of scope.now)) trees.now)) }
+    ensures { AnswersNumbering result
+        (all_of (map (numbered_param tables.now (scope_of scope.now)) trees.now)) }
 {
     let mut params = Seq::new(alloc);
     for tree in trees {

@@ -3,7 +3,7 @@
 ghost use Rattle.std.specs.Prelude.{◌≡◌, ◌∷◌, List, Err, OnOk, IfErr};
 ghost use Rattle.rb_syntax.specs.declared.tree.ItemTree.{ItemTree as Tree};
 ghost use Rattle.rb_names.specs.declared.items.Items.{Items as Parts};
-ghost use Rattle.rb_names.specs.Answers.{Answers};
+ghost use Rattle.rb_names.specs.Answers.{AnswersNumbering};
 ghost use Rattle.rb_names.specs.Joining.{behind_items};
 ghost use Rattle.rb_names.specs.Programs.{numbered_items};
 
@@ -33,7 +33,7 @@ pub struct Items {
 ///
 /// `Unknown` for the first name, from left to right, that stands for nothing; or want of memory.
 pub fn number_items(alloc: Global, tables: &Tables, trees: &[ItemTree]) -> Result<Items, NameFault>
-    ensures { Answers result (numbered_items tables.now trees.now) }
+    ensures { AnswersNumbering result (numbered_items tables.now trees.now) }
 {
     let mut items = Items {
         types: Seq::new(alloc),
@@ -58,7 +58,7 @@ fn number_item(
         → behind_items items.new (numbered_items tables.now rest)
         ≡ behind_items items.old (numbered_items tables.now (tree.now ∷ rest))) }
     ensures err { IfErr result (λ e. (rest : List Tree)
-        → Answers {A = Parts} (Err e) (numbered_items tables.now (tree.now ∷ rest))) }
+        → AnswersNumbering {A = Parts} (Err e) (numbered_items tables.now (tree.now ∷ rest))) }
 {
     match tree {
         ItemTree::Types(tree) => {

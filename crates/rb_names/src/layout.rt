@@ -1,7 +1,7 @@
 //! Layouts.
 
 ghost use Rattle.std.specs.Prelude.{[], map};
-ghost use Rattle.rb_names.specs.Answers.{Answers};
+ghost use Rattle.rb_names.specs.Answers.{AnswersNumbering};
 ghost use Rattle.rb_names.specs.Numbering.{all_of, numbered_arm, numbered_layout, numbered_split};
 
 use crate::fault::{NameFault, known};
@@ -25,7 +25,7 @@ pub fn number_layout(
     tables: &Tables,
     tree: &LayoutTree,
 ) -> Result<LayoutDecl, NameFault>
-    ensures { Answers result (numbered_layout tables.now tree.now) }
+    ensures { AnswersNumbering result (numbered_layout tables.now tree.now) }
 {
     let ty = known(alloc, &tree.ty, tables.types.get(tree.ty.text.as_slice()))?;
     let under = number_split(alloc, tables, &tree.tree)?;
@@ -41,7 +41,7 @@ pub fn number_layout(
 // The tree of a layout, with numbers in the provenances of its leaves.
 #[cycle(splitting)]
 fn number_split(alloc: Global, tables: &Tables, tree: &SplitTree) -> Result<LayTree, NameFault>
-    ensures { Answers result (numbered_split tables.now tree.now) }
+    ensures { AnswersNumbering result (numbered_split tables.now tree.now) }
 {
     match tree {
         SplitTree::Leaf(at, provenance, items) => {
@@ -67,7 +67,7 @@ fn number_split(alloc: Global, tables: &Tables, tree: &SplitTree) -> Result<LayT
 // The arms of a split, in their order.
 #[cycle(splitting)]
 fn number_arms(alloc: Global, tables: &Tables, trees: &[ArmTree]) -> Result<Seq<Arm>, NameFault>
-    ensures { Answers result (all_of (map (numbered_arm tables.now) trees.now)) }
+    ensures { AnswersNumbering result (all_of (map (numbered_arm tables.now) trees.now)) }
 {
     let mut arms = Seq::new(alloc);
     for tree in trees {
@@ -80,7 +80,7 @@ fn number_arms(alloc: Global, tables: &Tables, trees: &[ArmTree]) -> Result<Seq<
 // An arm of a split: its literal stays.
 #[cycle(splitting)]
 fn number_arm(alloc: Global, tables: &Tables, tree: &ArmTree) -> Result<Arm, NameFault>
-    ensures { Answers result (numbered_arm tables.now tree.now) }
+    ensures { AnswersNumbering result (numbered_arm tables.now tree.now) }
 {
     let under = number_split(alloc, tables, &tree.under)?;
     Ok(Arm {

@@ -23,7 +23,7 @@
 ghost use Rattle.std.specs.Prelude.{List, IfOk};
 ghost use Rattle.rb_core.specs.WellNumbered.{IsWellNumbered};
 ghost use Rattle.rb_syntax.specs.declared.token.Token.{Token};
-ghost use Rattle.rb_names.specs.Answers.{Answers};
+ghost use Rattle.rb_names.specs.Answers.{AnswersNumbering};
 ghost use Rattle.rb_names.specs.Programs.{numbered};
 ghost use Rattle.rb_names.specs.Written.{IsWritten};
 
@@ -59,7 +59,7 @@ use std::alloc::Global;
 /// already; else `Unknown` for the first name that stands for nothing; else `NoMain`. `Memory` where
 /// memory is wanting, which says nothing of the tree.
 pub fn resolve(alloc: Global, tree: &FileTree) -> Result<Program, NameFault>
-    ensures answers { Answers result (numbered tree.now) }
+    ensures answers { AnswersNumbering result (numbered tree.now) }
     // the program of a file that was read is well numbered
     ensures well { (ts : List Token) → IsWritten ts tree.now → IfOk result IsWellNumbered }
 {
@@ -68,7 +68,7 @@ pub fn resolve(alloc: Global, tree: &FileTree) -> Result<Program, NameFault>
 
 // The program of a tree, or the first fault of its names.
 fn number_file(alloc: Global, tree: &FileTree) -> Result<Program, NameFault>
-    ensures { Answers result (numbered tree.now) }
+    ensures { AnswersNumbering result (numbered tree.now) }
 {
     let items = tree.items.as_slice();
     let tables = define_all(alloc, items)?;

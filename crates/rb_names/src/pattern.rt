@@ -3,7 +3,7 @@
 ghost use Rattle.std.specs.Prelude.{◌≡◌, ◌+◌, drop, length, map, OnOk, IfErr};
 ghost use Rattle.std.specs.List.{flat_map};
 ghost use Rattle.rb_names.specs.declared.fault.NameFault.TheVariants.{Memory};
-ghost use Rattle.rb_names.specs.Answers.{Answers};
+ghost use Rattle.rb_names.specs.Answers.{AnswersNumbering};
 ghost use Rattle.rb_names.specs.Numbering.{all_of, numbered_pattern};
 ghost use Rattle.rb_names.specs.Scopes.{binders_of, inside, names_in};
 ghost use Rattle.rb_names.specs.inner.Frames.{scope_of, with_binders};
@@ -84,7 +84,7 @@ pub fn number_pattern(
     scope: &Scope,
     tree: &PatTree,
 ) -> Result<Pat, NameFault>
-    ensures { Answers result (numbered_pattern tables.now (scope_of scope.now) tree.now) }
+    ensures { AnswersNumbering result (numbered_pattern tables.now (scope_of scope.now) tree.now) }
 {
     match tree {
         PatTree::Wild(at) => Ok(Pat::Wild(*at)),
@@ -109,7 +109,8 @@ fn number_patterns(
     scope: &Scope,
     trees: &[PatTree],
 ) -> Result<Seq<Pat>, NameFault>
-    ensures { Answers result (all_of (map (numbered_pattern tables.now (scope_of scope.now)) trees.now)) }
+    ensures { AnswersNumbering result
+        (all_of (map (numbered_pattern tables.now (scope_of scope.now)) trees.now)) }
 {
     let mut pats = Seq::new(alloc);
     for tree in trees {

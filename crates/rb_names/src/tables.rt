@@ -6,7 +6,7 @@ ghost use Rattle.std.specs.Str.{bytes_eq};
 ghost use Rattle.rb_syntax.specs.declared.tree.ItemTree.{ItemTree as Tree};
 ghost use Rattle.rb_syntax.specs.declared.tree.ItemTree.TheVariants.{Types};
 ghost use Rattle.rb_names.specs.declared.fault.NameFault.TheVariants.{Memory};
-ghost use Rattle.rb_names.specs.Answers.{Answers};
+ghost use Rattle.rb_names.specs.Answers.{AnswersNumbering};
 ghost use Rattle.rb_names.specs.Defining.{AreAdded, AreKnown, HasNames, IsAgain, made_again, with_rest};
 ghost use Rattle.rb_names.specs.Definitions as spec;
 ghost use Rattle.rb_names.specs.Definitions.{Definition, OfFunction, constructor_definition, constructors_from, defined_twice, definitions, layout_definition, tables_of};
@@ -41,7 +41,8 @@ pub struct Defining<'a> {
 ///
 /// `Twice` for that name; or want of memory.
 pub fn define_all<'a>(alloc: Global, items: &'a [ItemTree]) -> Result<Tables<'a>, NameFault>
-    ensures { Answers result (and_then (no_twice (defined_twice items.now)) (λ done. Ok (tables_of items.now))) }
+    ensures { AnswersNumbering result
+        (and_then (no_twice (defined_twice items.now)) (λ done. Ok (tables_of items.now))) }
 {
     let types = type_names(alloc, items)?;
     let mut known = Defining {
@@ -211,7 +212,7 @@ fn define<'a, T: Copy>(
 ) -> Result<(), NameFault>
     ensures table { OnOk result (table.new ≡ table.old ++ (name.now.text, stands_for) ∷ []) }
     ensures new { OnOk result (is_some (meaning table.old name.now.text) ≡ false) }
-    ensures again { IfErr result (λ e. Answers {A = Unit {0}} (Err e)
+    ensures again { IfErr result (λ e. AnswersNumbering {A = Unit {0}} (Err e)
         (no_twice (made_again (is_some (meaning table.old name.now.text)) name.now))) }
 {
     if table.define(name.text.as_slice(), stands_for)? {

@@ -1,7 +1,7 @@
 //! Types and their declarations.
 
 ghost use Rattle.std.specs.Prelude.{map};
-ghost use Rattle.rb_names.specs.Answers.{Answers};
+ghost use Rattle.rb_names.specs.Answers.{AnswersNumbering};
 ghost use Rattle.rb_names.specs.Numbering.{all_of, numbered_type, numbered_constructor, numbered_data};
 
 use crate::fault::{NameFault, known};
@@ -17,7 +17,7 @@ use std::alloc::Global;
 ///
 /// `Unknown` where no type has its name; or want of memory.
 pub fn number_type(alloc: Global, tables: &Tables, tree: &TyTree) -> Result<Ty, NameFault>
-    ensures { Answers result (numbered_type tables.now tree.now) }
+    ensures { AnswersNumbering result (numbered_type tables.now tree.now) }
 {
     match tree {
         TyTree::Int(bits) => Ok(Ty::Int(*bits)),
@@ -32,7 +32,7 @@ pub fn number_type(alloc: Global, tables: &Tables, tree: &TyTree) -> Result<Ty, 
 // are no fields. A data type is given by its number in `tables`. The first name, from left to
 // right, that stands for no type there is `Unknown`.
 fn number_fields(alloc: Global, tables: &Tables, trees: &[TyTree]) -> Result<Seq<Ty>, NameFault>
-    ensures { Answers result (all_of (map (numbered_type tables.now) trees.now)) }
+    ensures { AnswersNumbering result (all_of (map (numbered_type tables.now) trees.now)) }
 {
     let mut fields = Seq::new(alloc);
     for tree in trees {
@@ -44,7 +44,7 @@ fn number_fields(alloc: Global, tables: &Tables, trees: &[TyTree]) -> Result<Seq
 
 // A constructor with its name and the numbered types of its fields.
 fn number_constructor(alloc: Global, tables: &Tables, tree: &ConTree) -> Result<Con, NameFault>
-    ensures { Answers result (numbered_constructor tables.now tree.now) }
+    ensures { AnswersNumbering result (numbered_constructor tables.now tree.now) }
 {
     let fields = number_fields(alloc, tables, tree.fields.as_slice())?;
     let name = tree.name.text.copy(alloc)?;
@@ -57,7 +57,7 @@ fn number_constructors(
     tables: &Tables,
     trees: &[ConTree],
 ) -> Result<Seq<Con>, NameFault>
-    ensures { Answers result (all_of (map (numbered_constructor tables.now) trees.now)) }
+    ensures { AnswersNumbering result (all_of (map (numbered_constructor tables.now) trees.now)) }
 {
     let mut cons = Seq::new(alloc);
     for tree in trees {
@@ -73,7 +73,7 @@ fn number_constructors(
 ///
 /// `Unknown` for the first name, from left to right, that stands for nothing; or want of memory.
 pub fn number_data(alloc: Global, tables: &Tables, tree: &TypeTree) -> Result<DataDecl, NameFault>
-    ensures { Answers result (numbered_data tables.now tree.now) }
+    ensures { AnswersNumbering result (numbered_data tables.now tree.now) }
 {
     let cons = number_constructors(alloc, tables, tree.cons.as_slice())?;
     let name = tree.name.text.copy(alloc)?;

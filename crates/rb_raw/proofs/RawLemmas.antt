@@ -8,7 +8,7 @@ use Rattle.rb_bytes.specs.declared.fault.Trap.{Trap}
 use Rattle.rb_bytes.specs.declared.fault.Trap.TheVariants.{Astray}
 use Rattle.rb_bytes.proofs.BlockLemmas.{AreBlocks_length, aligned_from}
 use Rattle.rb_bytes.proofs.MemoryLemmas.{empty_good, align_positive, block_good, placed_is, write_good, store_within, within_next}
-use Rattle.rb_raw.specs.Marks.{blocks_in, memory_of, IsKept}
+use Rattle.rb_raw.specs.Marks.{blocks_in, memory_of, MarksAreKept}
 use Rattle.rb_raw.specs.declared.memory.RawMemory.TheInside.{Inside}
 use Rattle.rb_raw.proofs.MarkLemmas.{blocks_clear, blocks_placed, clear_behind, length-placed, zero_at, get_or_any}
 
@@ -17,7 +17,7 @@ pub new_is : (r : Inside) → r.bytes ≡ replicate r.limit None → r.marks.ite
 new_is r bytes marks next =
     let none : blocks_in r.marks.items 0 0 ≡ [] = rw marks (blocks_clear (replicate r.limit 0) 0 0 (zero_at r.limit)) in cc
 
-pub new_kept : (r : Inside) → r.bytes ≡ replicate r.limit None → r.marks.items ≡ replicate r.limit 0 → r.next ≡ 64 → r.blocks ≡ 0 → 64 ≤ r.limit → r.limit ≤ 16777216 → IsKept r
+pub new_kept : (r : Inside) → r.bytes ≡ replicate r.limit None → r.marks.items ≡ replicate r.limit 0 → r.next ≡ 64 → r.blocks ≡ 0 → 64 ≤ r.limit → r.limit ≤ 16777216 → MarksAreKept r
 new_kept r bytes marks next blocks low high =
     let none : blocks_in r.marks.items 0 0 ≡ [] = rw marks (blocks_clear (replicate r.limit 0) 0 0 (zero_at r.limit)) in
     record {
@@ -28,12 +28,12 @@ new_kept r bytes marks next blocks low high =
     }
 
 -- ---- a block more
-pub blocks_few : (r : Inside) → IsKept r → r.blocks < 16777216
+pub blocks_few : (r : Inside) → MarksAreKept r → r.blocks < 16777216
 blocks_few r kept =
     let good = kept.good in
     omega (arith, kept.counted, AreBlocks_length (blocks_in r.marks.items 0 0) 64 r.next good.blocks, good.next, good.limit)
 
-module _ (r r' : Inside) (kept : IsKept r) (size align at m n : ℕ) (pos : 0 < size) (aligns : IsAlign align) (is : at ≡ aligned r.next align) (fits : at + size ≤ r.limit)
+module _ (r r' : Inside) (kept : MarksAreKept r) (size align at m n : ℕ) (pos : 0 < size) (aligns : IsAlign align) (is : at ≡ aligned r.next align) (fits : at + size ≤ r.limit)
     (begins : m ≡ get_or r.marks.items at m) (ends : n ≡ get_or (set r.marks.items at (bit_or m 1)) (at + size - 1) n)
     (marks' : r'.marks.items ≡ set (set r.marks.items at (bit_or m 1)) (at + size - 1) (bit_or n 2))
     (bytes' : r'.bytes ≡ r.bytes) (blocks' : r'.blocks ≡ r.blocks + 1) (next' : r'.next ≡ at + size) (limit' : r'.limit ≡ r.limit) where
@@ -60,7 +60,7 @@ module _ (r r' : Inside) (kept : IsKept r) (size align at m n : ℕ) (pos : 0 < 
   placed_memory : memory_of r' ≡ record (memory_of r) { next = at + size; blocks = blocks_in r.marks.items 0 0 ++ (at, size) ∷ [] }
   placed_memory = let blocks = one_more in cc
 
-  pub place_kept : IsKept r'
+  pub place_kept : MarksAreKept r'
   place_kept = record {
     good = rw placed_memory (block_good (memory_of r) at size kept.good above pos fits);
     long = length-placed r.marks.items r'.marks.items at size m n pos room clear first_mark last_mark marks' ∙ kept.long ∙ sym limit';
@@ -92,15 +92,15 @@ unfolding store_of
 store_lies m base offset width word ok =
     stored_of_ok (lies_within (size_at m.blocks base) (offset + width / 8)) (Ok tt, record m { bytes = write_le m.bytes (width / 8) (base + offset) word }) (Astray base offset) m ok
 
-pub access_below : (r : Inside) → IsKept r → (base to : ℕ) → lies_within (size_at (blocks_in r.marks.items 0 0) base) to ≡ true → (base + to ≤ r.next) × (base + to ≤ length r.bytes) × (base + to < 2 ^ 64)
+pub access_below : (r : Inside) → MarksAreKept r → (base to : ℕ) → lies_within (size_at (blocks_in r.marks.items 0 0) base) to ≡ true → (base + to ≤ r.next) × (base + to ≤ length r.bytes) × (base + to < 2 ^ 64)
 access_below r kept base to lies =
     let good = kept.good in
     let below = within_next (memory_of r) base to good lies in
     (below, omega (arith, good.next, good.long), omega (arith, good.next, good.limit))
 
 -- ---- bytes written
-pub store_kept : (r r' : Inside) (kept : IsKept r) (at n word : ℕ) → at + n ≤ r.next → r'.bytes ≡ write_le r.bytes n at word
-    → r'.marks.items ≡ r.marks.items → r'.blocks ≡ r.blocks → r'.next ≡ r.next → r'.limit ≡ r.limit → IsKept r'
+pub store_kept : (r r' : Inside) (kept : MarksAreKept r) (at n word : ℕ) → at + n ≤ r.next → r'.bytes ≡ write_le r.bytes n at word
+    → r'.marks.items ≡ r.marks.items → r'.blocks ≡ r.blocks → r'.next ≡ r.next → r'.limit ≡ r.limit → MarksAreKept r'
 store_kept r r' kept at n word le bytes' marks' blocks' next' limit' =
     let same : memory_of r' ≡ record (memory_of r) { bytes = write_le r.bytes n at word } = cc in
     record {

@@ -28,7 +28,7 @@ memory_of r = record { limit = r.limit; next = r.next; blocks = blocks_in r.mark
 
 -- what holds of a raw memory between two calls: it is good, it has a mark for each address below its limit, 0 from
 -- the next address on, and it counts its blocks
-pub record IsKept (r : Inside) : Type 0 where
+pub record MarksAreKept (r : Inside) : Type 0 where
   pub good : IsGood (memory_of r)
   pub long : length r.marks.items ≡ r.limit
   pub clear : (a : ℕ) → r.next ≤ a → slice_index r.marks.items a ≡ 0

@@ -31,11 +31,11 @@ impl Model for RawMemory {
 
     ghost Value = { Memory };
 
-    ghost use Rattle.rb_raw.specs.Marks.{memory_of, IsKept};
+    ghost use Rattle.rb_raw.specs.Marks.{memory_of, MarksAreKept};
 
     ghost view = { memory_of };
 
-    ghost invariant = { IsKept };
+    ghost invariant = { MarksAreKept };
 }
 
 // So many marks, all clear, by one fill: those of a region without blocks.

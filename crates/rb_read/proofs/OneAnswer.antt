@@ -13,7 +13,7 @@ use Rattle.rb_read.specs.inner.Combining.{Fault, stuck, deep}
 use Rattle.rb_read.specs.Exact.{IsSpelled, StopsAt, IsFirstTooDeep, IsNowhereTooDeep}
 use Rattle.rb_read.specs.inner.Ending.{IsPrefix}
 use Rattle.rb_read.specs.Limits.{first_over}
-use Rattle.rb_read.specs.Files.{IsFile, IsAnswer, Answers}
+use Rattle.rb_read.specs.Files.{IsFile, IsFileAnswer, AnswersFile}
 use Rattle.rb_read.proofs.FileReading.{file_of, read-ok, read-only, read-stuck, read-deep}
 
 -- No file goes on at one token alone.
@@ -79,7 +79,7 @@ file-answer : (ts : List Token) (file : FileTree) (c : Option Count) → IsFile 
 unfolding by_counts by_reading
 file-answer ts file c h l = let e = read-only ts file h.tree h.within in rw (e, l) refl
 
-the-answer : (ts : List Token) (r : Result FileTree ReadFault) → IsAnswer ts r → r ≡ by_reading ts (file_of ts)
+the-answer : (ts : List Token) (r : Result FileTree ReadFault) → IsFileAnswer ts r → r ≡ by_reading ts (file_of ts)
 unfolding by_counts
 the-answer ts (Ok file) h = file-answer ts file None h.0 h.1
 the-answer ts (Err (TooDeep p)) h = deep-answer ts p (file_of ts) refl h
@@ -87,11 +87,11 @@ the-answer ts (Err (Syntax p)) h = stuck-answer ts p (file_of ts) refl h.0 h.1
 the-answer ts (Err (Limit q n)) h = file-answer ts h.0 (Some (record { quantity = q; count = n })) h.1 h.2
 the-answer ts (Err Memory) h = absurd h
 
-one-answer : (ts : List Token) (r q : Result FileTree ReadFault) → IsAnswer ts r → IsAnswer ts q → r ≡ q
+one-answer : (ts : List Token) (r q : Result FileTree ReadFault) → IsFileAnswer ts r → IsFileAnswer ts q → r ≡ q
 one-answer ts r q h k = the-answer ts r h ∙ sym (the-answer ts q k)
 
 -- what is answered is that answer, or want of memory
-pub answered : (ts : List Token) (result r : Result FileTree ReadFault) → Answers ts result → IsAnswer ts r → (result ≡ r) ⊎ (result ≡ Err Memory)
+pub answered : (ts : List Token) (result r : Result FileTree ReadFault) → AnswersFile ts result → IsFileAnswer ts r → (result ≡ r) ⊎ (result ≡ Err Memory)
 answered ts (Ok file) r h k = inl (one-answer ts (Ok file) r h k)
 answered ts (Err (TooDeep p)) r h k = inl (one-answer ts (Err (TooDeep p)) r h k)
 answered ts (Err (Syntax p)) r h k = inl (one-answer ts (Err (Syntax p)) r h k)

@@ -17,14 +17,14 @@ pub record IsFile (ts : List Token) (file : FileTree) : Type 0 where
 
 -- the answer to tokens: their file, whose counts are within the limits, or the refusal that comes first in the order
 -- depth, syntax, limits; never want of memory
-abbrev pub IsAnswer : List Token → Result FileTree ReadFault → Type 0
-IsAnswer ts (Ok file) = IsFile ts file × (first_over file ≡ None)
-IsAnswer ts (Err (TooDeep p)) = IsFirstTooDeep ts p
-IsAnswer ts (Err (Syntax p)) = IsNowhereTooDeep ts × StopsAt ts p
-IsAnswer ts (Err (Limit q n)) = (file : FileTree) × IsFile ts file × (first_over file ≡ Some (counted q n))
-IsAnswer ts (Err Memory) = ⊥
+abbrev pub IsFileAnswer : List Token → Result FileTree ReadFault → Type 0
+IsFileAnswer ts (Ok file) = IsFile ts file × (first_over file ≡ None)
+IsFileAnswer ts (Err (TooDeep p)) = IsFirstTooDeep ts p
+IsFileAnswer ts (Err (Syntax p)) = IsNowhereTooDeep ts × StopsAt ts p
+IsFileAnswer ts (Err (Limit q n)) = (file : FileTree) × IsFile ts file × (first_over file ≡ Some (counted q n))
+IsFileAnswer ts (Err Memory) = ⊥
 
 -- the result is the answer to the tokens, or want of memory, which says nothing of them
-abbrev pub Answers : List Token → Result FileTree ReadFault → Type 0
-Answers ts (Err Memory) = Unit {0}
-Answers ts result = IsAnswer ts result
+abbrev pub AnswersFile : List Token → Result FileTree ReadFault → Type 0
+AnswersFile ts (Err Memory) = Unit {0}
+AnswersFile ts result = IsFileAnswer ts result

@@ -7,7 +7,7 @@ ghost use Rattle.rb_syntax.specs.declared.tree.FileTree.{FileTree};
 ghost use Rattle.rb_syntax.specs.Tokens.{tokens};
 ghost use Rattle.rb_read.specs.declared.fault.ReadFault.{ReadFault};
 ghost use Rattle.rb_read.specs.declared.fault.ReadFault.TheVariants.{Memory};
-ghost use Rattle.rb_read.specs.Files.{IsFile, IsAnswer, Answers};
+ghost use Rattle.rb_read.specs.Files.{IsFile, IsFileAnswer, AnswersFile};
 ghost use Rattle.rb_read.specs.inner.Ending as ending;
 ghost use Rattle.rb_read.specs.inner.Gives.{Gives};
 ghost use Rattle.rb_read.specs.inner.Reading as reading;
@@ -55,7 +55,7 @@ fn place(total: usize, left: usize) -> u32
 
 // The file, unless a count of it is over its limit.
 fn checked(file: FileTree) -> Result<FileTree, ReadFault>
-    ensures { (ts : List Token) → IsFile ts file → Answers ts result }
+    ensures { (ts : List Token) → IsFile ts file → AnswersFile ts result }
 {
     if let Some(count) = first_over(&file) {
         return Err(ReadFault::Limit(count.quantity, count.count));
@@ -66,7 +66,7 @@ fn checked(file: FileTree) -> Result<FileTree, ReadFault>
 // The file that the tokens spell and that is within the limits, or the first fault.
 fn read_limited(alloc: Global, placed: &[Placed]) -> Result<FileTree, ReadFault>
     requires { length placed.now < 2 ^ 32 }
-    ensures { Answers (tokens placed.now) result }
+    ensures { AnswersFile (tokens placed.now) result }
 {
     match read_tree(alloc, placed) {
         Ok(file) => checked(file),
@@ -86,9 +86,9 @@ fn read_limited(alloc: Global, placed: &[Placed]) -> Result<FileTree, ReadFault>
 /// memory is wanting, which says nothing of the tokens.
 pub fn read_file(alloc: Global, placed: &[Placed]) -> Result<FileTree, ReadFault>
     requires { length placed.now < 2 ^ 32 }
-    ensures answer { Answers (tokens placed.now) result }
+    ensures answer { AnswersFile (tokens placed.now) result }
     // there is no other answer
-    ensures only { (r : Result FileTree ReadFault) → IsAnswer (tokens placed.now) r
+    ensures only { (r : Result FileTree ReadFault) → IsFileAnswer (tokens placed.now) r
         → (result ≡ r) ⊎ (result ≡ Err Memory) }
 {
     read_limited(alloc, placed)

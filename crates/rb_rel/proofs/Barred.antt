@@ -21,7 +21,7 @@ use Rattle.rb_bits.specs.Words.{take_of}
 use Rattle.rb_layout.specs.Excluded.{Bars, differs, null, within}
 use Rattle.rb_rel.proofs.Lawful.{AllFlat}
 use Rattle.rb_layout.specs.Flat.{IsFlat}
-use Rattle.rb_rel.specs.Relation.{Holds, HoldsKind, Placed, Represents}
+use Rattle.rb_rel.specs.Relation.{PartHolds, HoldsKind, Placed, Represents}
 use Rattle.rb_bits.proofs.WordLemmas.{bit_at_take}
 use Rattle.rb_bits.proofs.RangeLemmas.{take_take}
 use Rattle.rb_rel.proofs.Represented.{opened}
@@ -49,7 +49,7 @@ module _ (types : List DataDecl) (layouts : List Layout) (m : Memory) (clean : B
     module _ (flat : AllFlat layouts) where
       pub never : {leaf : Leaf} {f : FlatWord} {o l c : ℕ} → Bars types layouts leaf f o l c
           → (at : List ℕ → Value) (subs : List ℕ → List ℕ) (ats : ℕ → ℕ) (w : ℕ)
-          → ((k : ℕ) (p : Part) → slice_get f.parts k ≡ Some p → Holds subs ats w p) → AllRep (open_positions types leaf.prov) at subs → NoNull f.parts ats
+          → ((k : ℕ) (p : Part) → slice_get f.parts k ≡ Some p → PartHolds subs ats w p) → AllRep (open_positions types leaf.prov) at subs → NoNull f.parts ats
           → take_of w o l ≡ c → ⊥
       never (differs leaf f o l c h) at subs ats w holds reps nulls e =
           h.other (sym (constant_bit-is subs ats w f.parts (o + h.i) h.bit holds h.constant) ∙ sym (bit_at_take w o l h.i h.inside) ∙ ap (λ x. bit_at x h.i) e)

@@ -10,7 +10,7 @@ use Rattle.rb_layout.specs.declared.layout.Part.{Part}
 use Rattle.rb_layout.specs.declared.layout.Kind.{Kind}
 use Rattle.rb_layout.specs.declared.layout.Kind.TheVariants.{Const, Bits, Word, Pointer}
 use Rattle.rb_layout.specs.Locations.{or_else, bit_of_kind, bit_of_part, constant_bit, with_bit, constant_bits}
-use Rattle.rb_rel.specs.Relation.{HoldsKind, Holds}
+use Rattle.rb_rel.specs.Relation.{HoldsKind, PartHolds}
 use Rattle.rb_rel.proofs.Bits.{take_suc, take_none}
 use Rattle.rb_rel.proofs.Lists.{both}
 use Rattle.rb_rel.proofs.Reading.{leb_is}
@@ -29,7 +29,7 @@ chosen_of false x y e = absurd cc
 pub ltb_is : (a b : ℕ) → ltb a b ≡ true → a < b
 ltb_is a b e = grind (arith, common_steps)
 
-bit_of_part-is : (subs : List ℕ → List ℕ) (ats : ℕ → ℕ) (w i b : ℕ) (p : Part) → Holds subs ats w p → bit_of_part p i ≡ Some b → bit_at w i ≡ b
+bit_of_part-is : (subs : List ℕ → List ℕ) (ats : ℕ → ℕ) (w i b : ℕ) (p : Part) → PartHolds subs ats w p → bit_of_part p i ≡ Some b → bit_at w i ≡ b
 bit_of_part-is subs ats w i b p h e =
     let c = chosen_of (leb p.o i && ltb i (p.o + p.l)) (bit_of_kind p.kind (i - p.o)) b e in
     let t = both (leb p.o i) (ltb i (p.o + p.l)) c.0 in
@@ -40,7 +40,7 @@ bit_of_part-is subs ats w i b p h e =
 
 module _ (subs : List ℕ → List ℕ) (ats : ℕ → ℕ) (w : ℕ) where
   abbrev AllHold : List Part → Type 0
-  AllHold ps = (k : ℕ) (p : Part) → slice_get ps k ≡ Some p → Holds subs ats w p
+  AllHold ps = (k : ℕ) (p : Part) → slice_get ps k ≡ Some p → PartHolds subs ats w p
 
   pub constant_bit-is : (ps : List Part) (i b : ℕ) → AllHold ps → constant_bit ps i ≡ Some b → bit_at w i ≡ b
   constant_bit-is [] i b h = λ e. absurd cc

@@ -16,7 +16,7 @@ use Rattle.rb_rel.specs.Reading.{read_loc, walk}
 use Rattle.rb_layout.specs.Excluded.{Excludes}
 use Rattle.rb_rel.proofs.Lawful.{AllFlat, Lawful}
 use Rattle.rb_layout.specs.Flat.{IsFlat}
-use Rattle.rb_layout.specs.A7.{Meets}
+use Rattle.rb_layout.specs.A7.{MeetsTest}
 use Rattle.rb_rel.specs.Relation.{Placed, Represents}
 use Rattle.rb_rel.proofs.Reading.{reads_loc}
 use Rattle.rb_rel.proofs.Known.{constant_bits-is}
@@ -43,7 +43,7 @@ module _ (types : List DataDecl) (layouts : List Layout) (m : Memory) (clean : B
         (no_null types layouts m clean good leaf ws subs ats is_flat placed x.reached.ref x.reached.word r.stands.is_flat)
         (same_Some _ _ (sym r.is_read ∙ e))
 
-    passes : (test : Test) → Meets types layouts leaf test → Passes ws m test
+    passes : (test : Test) → MeetsTest types layouts leaf test → Passes ws m test
     passes (Is loc c) h = known_is loc c (reached_at leaf loc) refl h.1
     passes (IsNone loc cs) h =
         let r = reads_loc leaf ws m clean subs ats placed loc h.0.0 h.0.1 in

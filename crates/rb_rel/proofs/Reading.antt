@@ -16,7 +16,7 @@ use Rattle.rb_layout.specs.declared.layout.WordRef.{WordRef}
 use Rattle.rb_layout.specs.Words.{words_in, flat_at, begins_at}
 use Rattle.rb_rel.specs.Relation.{HoldsKind, Placed}
 use Rattle.rb_layout.specs.Locations.{Reached, or_else, pointed_by, pointed_in, block_in, block_at, word_beginning, ref_in, next_ref, range_in, resolve_from, reached_at}
-use Rattle.rb_rel.specs.Reading.{Stands, IsRead, after, read_from, read_first, read_loc}
+use Rattle.rb_rel.specs.Reading.{WordStands, IsRead, after, read_from, read_first, read_loc}
 use Rattle.rb_rel.proofs.Lists.{both}
 
 -- a part that is such a pointer
@@ -89,7 +89,7 @@ word_beginning-is (f ∷ fs) start byte width from j =
 
 module _ (leaf : Leaf) (ws : List ℕ) (m : Memory) (clean : Bool) (subs : List ℕ → List ℕ) (ats : ℕ → ℕ) (placed : Placed leaf ws m clean subs ats) where
   abbrev At : WordRef → FlatWord → ℕ → Type 0
-  At = Stands leaf ws m clean subs ats
+  At = WordStands leaf ws m clean subs ats
 
   abbrev Reads : Reached → Option ℕ → Type 0
   Reads = IsRead leaf ws m clean subs ats

@@ -49,7 +49,7 @@ read_loc ws m loc = read_first m (slice_get ws loc.word) loc
 
 -- the flat word f of a leaf, at reference r, and the word w that stands there in a representation: it is found among
 -- the root words or in its block, and its parts hold
-pub record Stands (leaf : Leaf) (ws : List ℕ) (m : Memory) (clean : Bool) (subs : List ℕ → List ℕ) (ats : ℕ → ℕ)
+pub record WordStands (leaf : Leaf) (ws : List ℕ) (m : Memory) (clean : Bool) (subs : List ℕ → List ℕ) (ats : ℕ → ℕ)
     (r : WordRef) (f : FlatWord) (w : ℕ) : Type 0 where
   pub is_flat : flat_at leaf r ≡ Some f
   pub is_found : IsFound r.block (words_in leaf r.block) f r.word ws ats m w
@@ -60,7 +60,7 @@ pub record Stands (leaf : Leaf) (ws : List ℕ) (m : Memory) (clean : Bool) (sub
 pub record IsRead (leaf : Leaf) (ws : List ℕ) (m : Memory) (clean : Bool) (subs : List ℕ → List ℕ) (ats : ℕ → ℕ)
     (x : Reached) (n : Option ℕ) : Type 0 where
   pub found : ℕ
-  pub stands : Stands leaf ws m clean subs ats x.ref x.word found
+  pub stands : WordStands leaf ws m clean subs ats x.ref x.word found
   pub some : 1 ≤ x.l
   pub inside : x.o + x.l ≤ x.word.width
   pub is_read : n ≡ Some (take_of found x.o x.l)

@@ -41,8 +41,8 @@ HoldsKind subs ats n l (Word path j) = n ≡ slice_index (subs path) j
 HoldsKind subs ats n l (Pointer align b) = n * align ≡ ats b
 
 -- the bits of a part, in the word w in which it stands, are what its kind says
-abbrev pub Holds : (List ℕ → List ℕ) → (ℕ → ℕ) → ℕ → Part → Type 0
-Holds subs ats w p = HoldsKind subs ats (take_of w p.o p.l) p.l p.kind
+abbrev pub PartHolds : (List ℕ → List ℕ) → (ℕ → ℕ) → ℕ → Part → Type 0
+PartHolds subs ats w p = HoldsKind subs ats (take_of w p.o p.l) p.l p.kind
 
 -- bit i of a word stands in the part
 abbrev pub IsInPart : ℕ → Part → Type 0
@@ -56,7 +56,7 @@ pub record IsFree (f : FlatWord) (i : ℕ) : Type 0 where
 -- the word w has no more bits than the flat word f, and each part of it holds; where it is clean, its free bits are 0
 pub record WordHolds (subs : List ℕ → List ℕ) (ats : ℕ → ℕ) (clean : Bool) (f : FlatWord) (w : ℕ) : Type 0 where
   pub fits : w < 2 ^ f.width
-  pub parts : (k : ℕ) (p : Part) → slice_get f.parts k ≡ Some p → Holds subs ats w p
+  pub parts : (k : ℕ) (p : Part) → slice_get f.parts k ≡ Some p → PartHolds subs ats w p
   pub free : clean ≡ true → (i : ℕ) → IsFree f i → bit_at w i ≡ 0
 
 -- Words of a leaf ----------------------------------------------------------------------------

@@ -162,13 +162,13 @@ abbrev pub at_leaf : List DataDecl → List Leaf → ℕ → ℕ → List ℕ
 at_leaf types leaves rule n = if is_of_one_leaf rule then codes "leaf " ++ leaf_text types leaves n ++ codes ": " else []
 
 -- the number of a refusal's leaf, or 0 where the refusal is of no leaf
-abbrev pub number_of : Option ℕ → ℕ
-number_of None = 0
-number_of (Some n) = n
+abbrev pub number_of_leaf : Option ℕ → ℕ
+number_of_leaf None = 0
+number_of_leaf (Some n) = n
 
 -- the text of a refusal, such as `layout of T: A4: leaf C(_): alignment 3`
 abbrev pub refusal_text : List DataDecl → List Layout → Refused → List ℕ
 refusal_text types layouts r =
     let leaves = leaves_in (slice_get layouts r.ty) in
     codes "layout of " ++ name_of types r.ty ++ codes ": A" ++ decimal r.rule ++ codes ": "
-    ++ at_leaf types leaves r.rule (number_of r.leaf) ++ evidence_text types leaves (number_of r.leaf) r.why
+    ++ at_leaf types leaves r.rule (number_of_leaf r.leaf) ++ evidence_text types leaves (number_of_leaf r.leaf) r.why

@@ -2,7 +2,7 @@
 
 ghost use Rattle.std.specs.Prelude.{◌≡◌, ◌++◌, ℕ, IfOk, OnOk, Option, slice_get};
 ghost use Rattle.std.specs.List.{list_any};
-ghost use Rattle.rb_show.specs.Refusals.{at_leaf, is_of_one_leaf, leaves_in, number_of, refusal_text};
+ghost use Rattle.rb_show.specs.Refusals.{at_leaf, is_of_one_leaf, leaves_in, number_of_leaf, refusal_text};
 
 use crate::evidence::{push_evidence, push_leaf};
 use crate::show::push_name;
@@ -24,7 +24,7 @@ fn leaves_of(layouts: &[Layout], ty: u32) -> &[Leaf]
 
 // The leaf's number, where the refusal is of a leaf; else 0.
 fn leaf_number(leaf: Option<u32>) -> u32
-    ensures { result ≡ number_of leaf }
+    ensures { result ≡ number_of_leaf leaf }
 {
     leaf.unwrap_or(0)
 }

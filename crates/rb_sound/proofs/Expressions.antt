@@ -32,7 +32,7 @@ use Rattle.rb_core.specs.Values.{is_of_type, are_of, fields_of}
 use Rattle.rb_core.specs.Matching.{matches_of, bindings, chosen_clause, next_clause}
 use Rattle.rb_core.specs.Typing.{Typing, fits, holds, number, integer, variable_type, distinct_binders, field_types, pattern_params, pattern_binders, each_argument, arguments, param_types, result_type, operand_wanted, operator_type, integer_operand, operands, clauses, clause_rule, rule_of, type_of}
 use Rattle.rb_core.specs.Inference.{width_of, with_binder, binders, operands_type, match_type, inferred_type, clause_inferred}
-use Rattle.rb_core.specs.Coverage.{Branch, part_sites, branch_sites, sites, AreExhaustive}
+use Rattle.rb_core.specs.Coverage.{SitedBranch, part_sites, branch_sites, sites, AreExhaustive}
 use Rattle.rb_core.specs.Meaning.{Meaning, Calls, op_value, done, spent, after, at_end, then_do, PartsOutcome, at_part, parts_after, all_of, at_parts_end, then_with, built, first_of, meaning_of, clause_meaning, with_value}
 use Rattle.rb_core.proofs.ValueLaws.{is_of_type-Num, is_of_type-Con}
 use Rattle.rb_core.proofs.ExpressionLaws.{Each, EachBody, induction}
@@ -210,7 +210,7 @@ some_behind : (o : Option ℕ) → IsSome (next_clause o) → IsSome o
 some_behind None h = h
 some_behind (Some i) h = refl
 
-patterns_of : (types : List DataDecl) (funs : List Fun) (cs : List Clause) → map (λ (b : Branch). b.0.pat) (map (branch types funs) cs) ≡ map (λ (c : Clause). c.pat) cs
+patterns_of : (types : List DataDecl) (funs : List Fun) (cs : List Clause) → map (λ (b : SitedBranch). b.0.pat) (map (branch types funs) cs) ≡ map (λ (c : Clause). c.pat) cs
 patterns_of types funs [] = refl
 patterns_of types funs (c ∷ cs) = ap (λ l. c.pat ∷ l) (patterns_of types funs cs)
 

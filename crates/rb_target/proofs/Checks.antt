@@ -5,8 +5,8 @@ use Rattle.std.proofs.lemmas.Option.{slice_get_within, get_or_from_slice_get, sl
 use Rattle.std.proofs.lemmas.List.Elements.{All-get_or}
 use Rattle.rb_target.specs.Validity.{CallsFit, IsValid, IsValidFun, IsBounded}
 use Rattle.rb_target.specs.Spelled.{IsSpelledInstr, IsSpelledFun, AreSpelled}
-use Rattle.rb_target.specs.Faults.{MiscountsSlots, HasBadSlot, HasBadJump, HasBadCall, InFun, Stands, IsFirstFault, IsBefore, place_of}
-use Rattle.rb_target.specs.Checking.{Holds, CountsSlots, HasGoodSlots, HasGoodJumps, IsFaultless, IsFaultAt, IsFaultIn}
+use Rattle.rb_target.specs.Faults.{MiscountsSlots, HasBadSlot, HasBadJump, HasBadCall, InFun, FaultStands, IsFirstCodeFault, IsBefore, place_of_fault}
+use Rattle.rb_target.specs.Checking.{InstrHolds, CountsSlots, HasGoodSlots, HasGoodJumps, IsFaultless, IsFaultAt, IsFaultIn}
 use Rattle.rb_target.specs.declared.instr.Instr.{Instr}
 use Rattle.rb_target.specs.declared.code.CodeFun.{CodeFun}
 use Rattle.rb_target.specs.declared.fault.CodeFault.{CodeFault}
@@ -29,15 +29,15 @@ good-jumps f pc good (inl (last, fails)) = fails (good.0 last)
 good-jumps f pc good (inr (i, at, fails)) = fails (good.1 i at)
 
 -- where an instruction is without a fault, none stands there
-pub none_there : (funs : List CodeFun) (n pc : ℕ) → InFun funs n (λ f. IsFaultless funs f pc) → (other : CodeFault) → Stands funs other
-    → (place_of other).0 ≡ n → (place_of other).1 ≡ pc → ⊥
+pub none_there : (funs : List CodeFun) (n pc : ℕ) → InFun funs n (λ f. IsFaultless funs f pc) → (other : CodeFault) → FaultStands funs other
+    → (place_of_fault other).0 ≡ n → (place_of_fault other).1 ≡ pc → ⊥
 none_there funs n pc (f, at, faultless) (BadSlot m p) stands e d =
     good-slots f pc faultless.slots (subst (λ k. HasBadSlot f k) d (same_fun funs m (λ g. HasBadSlot g p) f (rw e at) stands))
 none_there funs n pc (f, at, faultless) (BadJump m p) stands e d =
     good-jumps f pc faultless.jumps (subst (λ k. HasBadJump f k) d (same_fun funs m (λ g. HasBadJump g p) f (rw e at) stands))
 none_there funs n pc (f, at, faultless) (BadCall m p) stands e d =
     let bad : HasBadCall funs f p = same_fun funs m (λ g. HasBadCall funs g p) f (rw e at) stands in
-    bad.2 (subst (λ k. Holds (CallsFit funs f.results) f k) (sym d) faultless.calls bad.0 bad.1)
+    bad.2 (subst (λ k. InstrHolds (CallsFit funs f.results) f k) (sym d) faultless.calls bad.0 bad.1)
 none_there funs n pc faultless (CodeSyntax at) stands e d = absurd stands
 none_there funs n pc faultless Memory stands e d = absurd stands
 
@@ -52,8 +52,8 @@ first_in_fun funs n pc fault before here = record {
     | inr rest ↦ elim (rest.1) [
       | inl less ↦
           let same = here.instruction in
-          let lt : (place_of other).1 < pc = omega arith in
-          none_there funs n (place_of other).1 (before _ lt) other stands function refl
+          let lt : (place_of_fault other).1 < pc = omega arith in
+          none_there funs n (place_of_fault other).1 (before _ lt) other stands function refl
       | inr kind ↦
           let least = here.first other stands function (kind.0 ∙ here.instruction) in
           omega arith
@@ -107,24 +107,24 @@ faultless-at funs f valid pc = record {
   calls = λ i at. (valid.each pc i at).calls;
 }
 
-none-in : (funs : List CodeFun) (n : ℕ) → InFun funs n (λ f. IsValidFun funs f) → (other : CodeFault) → Stands funs other → (place_of other).0 ≡ n → ⊥
-none-in funs n (f, at, valid) other stands e = none_there funs n (place_of other).1 (f, at, faultless-at funs f valid _) other stands e refl
+none-in : (funs : List CodeFun) (n : ℕ) → InFun funs n (λ f. IsValidFun funs f) → (other : CodeFault) → FaultStands funs other → (place_of_fault other).0 ≡ n → ⊥
+none-in funs n (f, at, valid) other stands e = none_there funs n (place_of_fault other).1 (f, at, faultless-at funs f valid _) other stands e refl
 
 -- the first fault of a function is the first of all, where all functions before it are valid
 pub first_of_all : (funs : List CodeFun) (n : ℕ) (fault : CodeFault) → ((k : ℕ) → k < n → InFun funs k (λ f. IsValidFun funs f))
-    → IsFaultIn funs n fault → IsFirstFault funs fault
+    → IsFaultIn funs n fault → IsFirstCodeFault funs fault
 first_of_all funs n fault before here = record {
   stands = here.stands;
   first = λ other stands is_before. elim is_before [
     | inl less ↦
         let same = here.function in
-        let lt : (place_of other).0 < n = omega arith in
-        none-in funs (place_of other).0 (before _ lt) other stands refl
+        let lt : (place_of_fault other).0 < n = omega arith in
+        none-in funs (place_of_fault other).0 (before _ lt) other stands refl
     | inr rest ↦ here.first other stands (rest.0 ∙ here.function) (inr rest)
   ];
 }
 
-named-fun : (funs : List CodeFun) (other : CodeFault) → Stands funs other → InFun funs (place_of other).0 (λ f. Unit {0})
+named-fun : (funs : List CodeFun) (other : CodeFault) → FaultStands funs other → InFun funs (place_of_fault other).0 (λ f. Unit {0})
 named-fun funs (BadSlot n pc) (f, at, stands) = (f, at, tt)
 named-fun funs (BadJump n pc) (f, at, stands) = (f, at, tt)
 named-fun funs (BadCall n pc) (f, at, stands) = (f, at, tt)
@@ -132,10 +132,10 @@ named-fun funs (CodeSyntax at) stands = absurd stands
 named-fun funs Memory stands = absurd stands
 
 -- where a fault stands, the functions are not valid together
-pub not_valid : (funs : List CodeFun) (other : CodeFault) → Stands funs other → IsValid funs → ⊥
+pub not_valid : (funs : List CodeFun) (other : CodeFault) → FaultStands funs other → IsValid funs → ⊥
 not_valid funs other stands valid =
     let there = named-fun funs other stands in
-    none-in funs (place_of other).0 (there.0, there.1, valid.each _ there.0 there.1) other stands refl
+    none-in funs (place_of_fault other).0 (there.0, there.1, valid.each _ there.0 there.1) other stands refl
 
 pub all_valid : (funs : List CodeFun) → length funs < 2 ^ 64 → ((k : ℕ) → k < length funs → InFun funs k (λ f. IsValidFun funs f)) → IsValid funs
 all_valid funs few valid = record {
@@ -155,8 +155,8 @@ one_place a b h k =
     let kind : a.2 ≡ b.2 = neither_less a.2 b.2 (λ lt. h (inr (fun, inr (pc, lt)))) (λ lt. k (inr (sym fun, inr (sym pc, lt)))) in
     (fun, pc, kind)
 
-one_fault : (funs : List CodeFun) (a b : CodeFault) → Stands funs a → Stands funs b
-    → (place_of a).0 ≡ (place_of b).0 → (place_of a).1 ≡ (place_of b).1 → (place_of a).2 ≡ (place_of b).2 → a ≡ b
+one_fault : (funs : List CodeFun) (a b : CodeFault) → FaultStands funs a → FaultStands funs b
+    → (place_of_fault a).0 ≡ (place_of_fault b).0 → (place_of_fault a).1 ≡ (place_of_fault b).1 → (place_of_fault a).2 ≡ (place_of_fault b).2 → a ≡ b
 one_fault funs (BadSlot n p) (BadSlot m q) s t fun pc kind = ap (λ k. BadSlot k p) fun ∙ ap (λ k. BadSlot m k) pc
 one_fault funs (BadJump n p) (BadJump m q) s t fun pc kind = ap (λ k. BadJump k p) fun ∙ ap (λ k. BadJump m k) pc
 one_fault funs (BadCall n p) (BadCall m q) s t fun pc kind = ap (λ k. BadCall k p) fun ∙ ap (λ k. BadCall m k) pc
@@ -175,7 +175,7 @@ one_fault funs (BadCall n p) Memory s t fun pc kind = absurd t
 one_fault funs (CodeSyntax at) b s t fun pc kind = absurd s
 one_fault funs Memory b s t fun pc kind = absurd s
 
-pub first_same : (funs : List CodeFun) (a b : CodeFault) → IsFirstFault funs a → IsFirstFault funs b → a ≡ b
+pub first_same : (funs : List CodeFun) (a b : CodeFault) → IsFirstCodeFault funs a → IsFirstCodeFault funs b → a ≡ b
 first_same funs a b x y =
-    let place = one_place (place_of a) (place_of b) (y.first a x.stands) (x.first b y.stands) in
+    let place = one_place (place_of_fault a) (place_of_fault b) (y.first a x.stands) (x.first b y.stands) in
     one_fault funs a b x.stands y.stands place.0 place.1 place.2

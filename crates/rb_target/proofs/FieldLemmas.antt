@@ -15,7 +15,7 @@ use Rattle.rb_core.proofs.Decimals.{numeral_spelled, numeral-decimal, value-deci
 use Rattle.rb_target.specs.Text.{word_text, op_text}
 use Rattle.rb_target.specs.Spelled.{IsShort}
 use Rattle.rb_target.specs.Reading.{is_gap}
-use Rattle.rb_target.specs.Fields.{number_of, has, leads, is_open, ops, op_of, op_word, named_word, numbered_word, word_in, named_front, numbered_front, is_word_front, key_bytes, keys, key_of}
+use Rattle.rb_target.specs.Fields.{number_of_word, has, leads, is_open, ops, op_of, op_word, named_word, numbered_word, word_in, named_front, numbered_front, is_word_front, key_bytes, keys, key_of}
 use Rattle.rb_target.specs.declared.instr.AluOp.{AluOp}
 use Rattle.rb_target.specs.declared.instr.AluOp.TheVariants.{Add, Sub, Mul, And, Or, Xor, Eq, Lt}
 use Rattle.rb_target.specs.declared.word.Word.{Word}
@@ -47,7 +47,7 @@ both-right false b e = cc
 
 -- numbers ----------------------------------------------------------------------------------------
 
-pub number_told : (w : List ℕ) (n : ℕ) → number_of w ≡ Some n → (w ≡ decimal n) × (n < 2 ^ 64)
+pub number_told : (w : List ℕ) (n : ℕ) → number_of_word w ≡ Some n → (w ≡ decimal n) × (n < 2 ^ 64)
 number_told w n e = elim (is_numeral w) as (λ (b : Bool). is_numeral w ≡ b → (if b && (nat_le 0 (digits_value 10 w) && nat_le (digits_value 10 w) (2 ^ 64 - 1)) then Some (digits_value 10 w) else None) ≡ Some n → (w ≡ decimal n) × (n < 2 ^ 64)) [
   | false ↦ λ h g. absurd (cc g)
   | true ↦ λ h g.
@@ -64,7 +64,7 @@ number_told w n e = elim (is_numeral w) as (λ (b : Bool). is_numeral w ≡ b �
 within-max : (n : ℕ) → n < 2 ^ 64 → (nat_le 0 n && nat_le n (2 ^ 64 - 1)) ≡ true
 within-max n h = grind (arith, common_steps)
 
-pub number_decimal : (n : ℕ) → n < 2 ^ 64 → number_of (decimal n) ≡ Some n
+pub number_decimal : (n : ℕ) → n < 2 ^ 64 → number_of_word (decimal n) ≡ Some n
 number_decimal n small = rw (numeral-decimal n small, value-decimal n small, within-max n small) refl
 
 -- words ------------------------------------------------------------------------------------------
@@ -112,7 +112,7 @@ named_told OrDash w x e = if_told OrDash w (codes "-") Dash x (λ s. record { te
 named_told OrOf w x e = if_told OrOf w (codes "of") Of x (λ s. record { text = s; may = refl; short = tt }) e
 named_told f w x e = absurd (cc e)
 
-numbered_told : (f : Field) (w : List ℕ) (x : Word) (o : Option ℕ) → number_of w ≡ o → numbered_word f w o ≡ Some x → Told f w x
+numbered_told : (f : Field) (w : List ℕ) (x : Word) (o : Option ℕ) → number_of_word w ≡ o → numbered_word f w o ≡ Some x → Told f w x
 numbered_told f w x None o e = named_told f w x e
 numbered_told f w x (Some n) o e = elim (has f n) as (λ (b : Bool). has f n ≡ b → (if b then Some (Number n) else None) ≡ Some x → Told f w x) [
   | true ↦ λ k g.
@@ -122,7 +122,7 @@ numbered_told f w x (Some n) o e = elim (has f n) as (λ (b : Bool). has f n ≡
 ] refl e
 
 pub word_told_in : (f : Field) (w : List ℕ) (x : Word) → word_in f w ≡ Some x → Told f w x
-word_told_in f w x e = numbered_told f w x (number_of w) refl e
+word_told_in f w x e = numbered_told f w x (number_of_word w) refl e
 
 op_in_text : (o : AluOp) → word_in Operation (op_text o) ≡ Some (Op o)
 op_in_text Add = refl
@@ -219,7 +219,7 @@ led Align q n e h = elim (lead_align n h) [
 ]
 led f q n e h = absurd (cc h)
 
-numbered_front-told : (f : Field) (q : List ℕ) (o : Option ℕ) → number_of q ≡ o → numbered_front f q o ≡ true → IsWordFront f q
+numbered_front-told : (f : Field) (q : List ℕ) (o : Option ℕ) → number_of_word q ≡ o → numbered_front f q o ≡ true → IsWordFront f q
 numbered_front-told f q None o e = named_front-told f q e
 numbered_front-told f q (Some n) o e = elim (has f n) as (λ (b : Bool). has f n ≡ b → (b || leads f n) ≡ true → IsWordFront f q) [
   | true ↦ λ k g.
@@ -229,7 +229,7 @@ numbered_front-told f q (Some n) o e = elim (has f n) as (λ (b : Bool). has f n
 ] refl e
 
 pub word_front_told : (f : Field) (q : List ℕ) → is_word_front f q ≡ true → IsWordFront f q
-word_front_told f q e = numbered_front-told f q (number_of q) refl e
+word_front_told f q e = numbered_front-told f q (number_of_word q) refl e
 
 abbrev begins : Field → ℕ → Bool
 begins f n = has f n || leads f n

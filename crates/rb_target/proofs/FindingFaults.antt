@@ -6,8 +6,8 @@ use Rattle.std.proofs.lemmas.Option.{same_Some, slice_get_cases}
 use Rattle.std.proofs.lemmas.List.Elements.{All-nil, All-cons, All-head, All-tail, All-get_or}
 use Rattle.rb_target.specs.Validity.{SlotsFit, IsTarget, TargetsFit, FitsCall, CallsFit, EndsInReturn, IsValid, IsValidFun, dest_count}
 use Rattle.rb_target.specs.Spelled.{IsSpelledFun, AreSpelled}
-use Rattle.rb_target.specs.Faults.{Fails, MiscountsSlots, HasBadSlot, HasBadJump, HasBadCall, InFun, Stands, IsFirstFault, IsCountable, place_of}
-use Rattle.rb_target.specs.Checking.{Holds, CountsSlots, HasGoodSlots, HasGoodJumps, HasGoodCalls, IsFaultless, IsFaultAt, IsFaultIn}
+use Rattle.rb_target.specs.Faults.{InstrFails, MiscountsSlots, HasBadSlot, HasBadJump, HasBadCall, InFun, FaultStands, IsFirstCodeFault, IsCountable, place_of_fault}
+use Rattle.rb_target.specs.Checking.{InstrHolds, CountsSlots, HasGoodSlots, HasGoodJumps, HasGoodCalls, IsFaultless, IsFaultAt, IsFaultIn}
 use Rattle.rb_target.specs.declared.instr.SwitchArm.{SwitchArm}
 use Rattle.rb_target.specs.declared.instr.Instr.{Instr}
 use Rattle.rb_target.specs.declared.instr.Instr.TheVariants.{Const, Copy, Alu, Take, Put, Load, Store, Place, Jump, Switch, Call, Return}
@@ -131,15 +131,15 @@ return_by (Some (Return froms)) = inl (froms, refl)
 
 -- The instruction with a number: good, or at fault
 
-held_by : (P : Instr → Type 0) (f : CodeFun) (pc : ℕ) (i : Instr) → slice_get f.body pc ≡ Some i → Decided (P i) → Holds P f pc ⊎ Fails P f pc
+held_by : (P : Instr → Type 0) (f : CodeFun) (pc : ℕ) (i : Instr) → slice_get f.body pc ≡ Some i → Decided (P i) → InstrHolds P f pc ⊎ InstrFails P f pc
 held_by P f pc i at (inl p) = inl (λ j there. subst P (same_Some i j (sym at ∙ there)) p)
 held_by P f pc i at (inr refuted) = inr (i, at, refuted)
 
-held_at : (P : Instr → Type 0) → ((i : Instr) → Decided (P i)) → (f : CodeFun) (pc : ℕ) (o : Option Instr) → slice_get f.body pc ≡ o → Holds P f pc ⊎ Fails P f pc
+held_at : (P : Instr → Type 0) → ((i : Instr) → Decided (P i)) → (f : CodeFun) (pc : ℕ) (o : Option Instr) → slice_get f.body pc ≡ o → InstrHolds P f pc ⊎ InstrFails P f pc
 held_at P d f pc None at = inl (λ j there. absurd cc)
 held_at P d f pc (Some i) at = held_by P f pc i at (d i)
 
-held : (P : Instr → Type 0) → ((i : Instr) → Decided (P i)) → (f : CodeFun) (pc : ℕ) → Holds P f pc ⊎ Fails P f pc
+held : (P : Instr → Type 0) → ((i : Instr) → Decided (P i)) → (f : CodeFun) (pc : ℕ) → InstrHolds P f pc ⊎ InstrFails P f pc
 held P d f pc = held_at P d f pc (slice_get f.body pc) refl
 
 count_by : (f : CodeFun) → (f.slots < f.params) ⊎ (f.params ≤ f.slots) → (f.params + dest_count f.body < f.slots) ⊎ (f.slots ≤ f.params + dest_count f.body) → CountsSlots f ⊎ MiscountsSlots f
@@ -150,13 +150,13 @@ count_by f (inr le) (inr ge) = inl (le, ge)
 counts_decided : (f : CodeFun) → CountsSlots f ⊎ MiscountsSlots f
 counts_decided f = count_by f (below_or f.slots f.params) (below_or (f.params + dest_count f.body) f.slots)
 
-slots_by : (f : CodeFun) (pc : ℕ) → Decided (pc ≡ 0) → CountsSlots f ⊎ MiscountsSlots f → Holds (SlotsFit f.slots) f pc ⊎ Fails (SlotsFit f.slots) f pc → HasGoodSlots f pc ⊎ HasBadSlot f pc
+slots_by : (f : CodeFun) (pc : ℕ) → Decided (pc ≡ 0) → CountsSlots f ⊎ MiscountsSlots f → InstrHolds (SlotsFit f.slots) f pc ⊎ InstrFails (SlotsFit f.slots) f pc → HasGoodSlots f pc ⊎ HasBadSlot f pc
 slots_by f pc first c (inr fails) = inr (inr fails)
 slots_by f pc first (inl good) (inl holds) = inl (λ e. good, holds)
 slots_by f pc (inl zeroth) (inr bad) (inl holds) = inr (inl (zeroth, bad))
 slots_by f pc (inr later) (inr bad) (inl holds) = inl (λ e. absurd (later e), holds)
 
-jumps_by : (f : CodeFun) (pc : ℕ) → Decided (pc ≡ length f.body - 1) → Decided (EndsInReturn f.body) → Holds (TargetsFit (length f.body) pc) f pc ⊎ Fails (TargetsFit (length f.body) pc) f pc → HasGoodJumps f pc ⊎ HasBadJump f pc
+jumps_by : (f : CodeFun) (pc : ℕ) → Decided (pc ≡ length f.body - 1) → Decided (EndsInReturn f.body) → InstrHolds (TargetsFit (length f.body) pc) f pc ⊎ InstrFails (TargetsFit (length f.body) pc) f pc → HasGoodJumps f pc ⊎ HasBadJump f pc
 jumps_by f pc last ends (inr fails) = inr (inr fails)
 jumps_by f pc last (inl good) (inl holds) = inl (λ e. good, holds)
 jumps_by f pc (inl final) (inr bad) (inl holds) = inr (inl (final, bad))
@@ -168,7 +168,7 @@ module _ (funs : List CodeFun) (n pc : ℕ) (f : CodeFun) (at : slice_get funs n
   here : (P : CodeFun → Type 0) → InFun funs n P → P f
   here P h = same_fun funs n P f at h
 
-  after_slots : HasGoodSlots f pc → (other : CodeFault) → Stands funs other → (place_of other).0 ≡ n → (place_of other).1 ≡ pc → 22 ≤ (place_of other).2
+  after_slots : HasGoodSlots f pc → (other : CodeFault) → FaultStands funs other → (place_of_fault other).0 ≡ n → (place_of_fault other).1 ≡ pc → 22 ≤ (place_of_fault other).2
   after_slots good (BadSlot m p) stands e d =
       absurd (good-slots f pc good (subst (λ k. HasBadSlot f k) d (same_fun funs m (λ g. HasBadSlot g p) f (rw e at) stands)))
   after_slots good (BadJump m p) stands e d = omega arith
@@ -176,7 +176,7 @@ module _ (funs : List CodeFun) (n pc : ℕ) (f : CodeFun) (at : slice_get funs n
   after_slots good (CodeSyntax b) stands e d = absurd stands
   after_slots good Memory stands e d = absurd stands
 
-  after_jumps : HasGoodSlots f pc → HasGoodJumps f pc → (other : CodeFault) → Stands funs other → (place_of other).0 ≡ n → (place_of other).1 ≡ pc → 23 ≤ (place_of other).2
+  after_jumps : HasGoodSlots f pc → HasGoodJumps f pc → (other : CodeFault) → FaultStands funs other → (place_of_fault other).0 ≡ n → (place_of_fault other).1 ≡ pc → 23 ≤ (place_of_fault other).2
   after_jumps good jumps (BadSlot m p) stands e d =
       absurd (good-slots f pc good (subst (λ k. HasBadSlot f k) d (same_fun funs m (λ g. HasBadSlot g p) f (rw e at) stands)))
   after_jumps good jumps (BadJump m p) stands e d =
@@ -185,7 +185,7 @@ module _ (funs : List CodeFun) (n pc : ℕ) (f : CodeFun) (at : slice_get funs n
   after_jumps good jumps (CodeSyntax b) stands e d = absurd stands
   after_jumps good jumps Memory stands e d = absurd stands
 
-  least : (other : CodeFault) → Stands funs other → 21 ≤ (place_of other).2
+  least : (other : CodeFault) → FaultStands funs other → 21 ≤ (place_of_fault other).2
   least (BadSlot m p) stands = omega arith
   least (BadJump m p) stands = omega arith
   least (BadCall m p) stands = omega arith
@@ -232,28 +232,28 @@ module _ (funs : List CodeFun) (n : ℕ) (f : CodeFun) (at : slice_get funs n �
 
 module _ (funs : List CodeFun) (spelled : AreSpelled funs) (countable : IsCountable funs) where
   next : (n : ℕ) (f : CodeFun) → slice_get funs n ≡ Some f → ((k : ℕ) → k < n → InFun funs k (λ f. IsValidFun funs f)) → IsValidFun funs f ⊎ ((fault : CodeFault) × IsFaultIn funs n fault)
-      → ((k : ℕ) → k < suc n → InFun funs k (λ f. IsValidFun funs f)) ⊎ ((fault : CodeFault) × IsFirstFault funs fault)
+      → ((k : ℕ) → k < suc n → InFun funs k (λ f. IsValidFun funs f)) ⊎ ((fault : CodeFault) × IsFirstCodeFault funs fault)
   next n f at before (inl valid) = inl (λ j lt. below_more _ _ before (f, at, valid) j (omega (arith, lt)))
   next n f at before (inr bad) = inr (bad.0, first_of_all funs n bad.0 before bad.1)
 
   at_fun : (n : ℕ) → n < length funs → ((k : ℕ) → k < n → InFun funs k (λ f. IsValidFun funs f))
       → ((f : CodeFun) × (n < length funs) × (slice_get funs n ≡ Some f) × (get_or funs n f ≡ f)) ⊎ ((length funs ≤ n) × (slice_get funs n ≡ None))
-      → ((k : ℕ) → k < suc n → InFun funs k (λ f. IsValidFun funs f)) ⊎ ((fault : CodeFault) × IsFirstFault funs fault)
+      → ((k : ℕ) → k < suc n → InFun funs k (λ f. IsValidFun funs f)) ⊎ ((fault : CodeFault) × IsFirstCodeFault funs fault)
   at_fun n lt before (inl (f, within, at, e)) =
       let spelled_there : IsSpelledFun f = subst IsSpelledFun e (All-get_or IsSpelledFun funs n f within spelled) in
       next n f at before (in_fun funs n f at spelled_there (countable.each n f at))
   at_fun n lt before (inr (past, at)) = absurd (omega (arith, lt, past))
 
-  funs_up_to : (n : ℕ) → n ≤ length funs → ((k : ℕ) → k < n → InFun funs k (λ f. IsValidFun funs f)) ⊎ ((fault : CodeFault) × IsFirstFault funs fault)
+  funs_up_to : (n : ℕ) → n ≤ length funs → ((k : ℕ) → k < n → InFun funs k (λ f. IsValidFun funs f)) ⊎ ((fault : CodeFault) × IsFirstCodeFault funs fault)
   funs_up_to zero le = inl (λ k lt. absurd (omega (arith, lt)))
   funs_up_to (suc n) le = elim (funs_up_to n (omega (arith, le))) [
     | inl before ↦ at_fun n (omega (arith, le)) before (slice_get_cases funs n).1
     | inr bad ↦ inr bad
   ]
 
-  found_by : ((k : ℕ) → k < length funs → InFun funs k (λ f. IsValidFun funs f)) ⊎ ((fault : CodeFault) × IsFirstFault funs fault) → IsValid funs ⊎ ((fault : CodeFault) × IsFirstFault funs fault)
+  found_by : ((k : ℕ) → k < length funs → InFun funs k (λ f. IsValidFun funs f)) ⊎ ((fault : CodeFault) × IsFirstCodeFault funs fault) → IsValid funs ⊎ ((fault : CodeFault) × IsFirstCodeFault funs fault)
   found_by (inl valid) = inl (all_valid funs countable.few valid)
   found_by (inr bad) = inr bad
 
-  pub fault_found : IsValid funs ⊎ ((fault : CodeFault) × IsFirstFault funs fault)
+  pub fault_found : IsValid funs ⊎ ((fault : CodeFault) × IsFirstCodeFault funs fault)
   fault_found = found_by (funs_up_to (length funs) (omega arith))

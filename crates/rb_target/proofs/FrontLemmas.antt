@@ -9,7 +9,7 @@ use Rattle.rb_target.proofs.RunLemmas.{pushed, counts}
 use Rattle.rb_target.specs.Text.{word_text, key_text, spaced, instr_text, head_text, body_text, fun_text}
 use Rattle.rb_target.specs.Validity.{IsLower}
 use Rattle.rb_target.proofs.SpelledForms.{IsFit, AreFit, IsFitFun}
-use Rattle.rb_target.specs.Fields.{number_of, is_open, word_in, key_bytes, key_of, next_field, may_end, first_line, after_word, instruction_of}
+use Rattle.rb_target.specs.Fields.{number_of_word, is_open, word_in, key_bytes, key_of, next_field, may_end, first_line, after_word, instruction_of}
 use Rattle.rb_target.specs.Reading.{named, line_next, closing, started, worded, headed, step}
 use Rattle.rb_target.specs.declared.instr.Instr.{Instr}
 use Rattle.rb_target.specs.declared.word.Word.{Word}
@@ -178,7 +178,7 @@ head_whole f none =
     ap (λ b. head_text f ++ body_text b) none ∙ append-nil (head_text f)
     ∙ sym (append_assoc (codes "fun ") (f.name ++ spaced (counts f)) (10 ∷ []))
 
-heading_leaves : (f : CodeFun) (t : Turn) (w : List ℕ) (g : ℕ) (o : Option ℕ) → number_of w ≡ o → IsGoodHead f t
+heading_leaves : (f : CodeFun) (t : Turn) (w : List ℕ) (g : ℕ) (o : Option ℕ) → number_of_word w ≡ o → IsGoodHead f t
     → Leaves ((head_front f t ++ 32 ∷ []) ++ (w ++ g ∷ [])) (headed f t g o)
 heading_leaves f t w g None e h = tt
 heading_leaves f First w g (Some n) e h =
@@ -232,6 +232,6 @@ naming_leaves w g h =
 pub step_leaves : (spot : Spot) (w : List ℕ) (g : ℕ) → IsGood spot → IsNamed spot w → Leaves (spot_text spot ++ (w ++ g ∷ [])) (step spot w g)
 step_leaves Outside w g h n = outside_leaves w g
 step_leaves Naming w g h n = naming_leaves w g n
-step_leaves (Heading f t) w g h n = heading_leaves f t w g (number_of w) refl h
+step_leaves (Heading f t) w g h n = heading_leaves f t w g (number_of_word w) refl h
 step_leaves (Starting f) w g h n = first_leaves f w g h
 step_leaves (Within f l) w g h n = within_leaves f l w g (word_in (next_field l.rest) w) refl h

@@ -8,7 +8,7 @@ use Rattle.rb_target.proofs.LineLemmas.{whole, whole_next, Reads, key_for, reads
 use Rattle.rb_target.specs.Text.{word_text, words_of, spaced, line, instr_text, head_text, body_text, fun_text, code_text}
 use Rattle.rb_target.specs.Validity.{IsSmall, IsNameByte, IsLower}
 use Rattle.rb_target.proofs.SpelledForms.{AreShort, IsFit, AreFit, IsFitFun, AreFitFuns}
-use Rattle.rb_target.specs.Fields.{number_of, is_open, key_bytes, next_field, may_end, first_line, after_word, instruction_of}
+use Rattle.rb_target.specs.Fields.{number_of_word, is_open, key_bytes, next_field, may_end, first_line, after_word, instruction_of}
 use Rattle.rb_target.specs.Reading.{is_gap, is_small, is_name_byte, named, line_next, headed, step, is_some, goes_on, Progress, start, moved, feed, then_feed, run}
 use Rattle.rb_target.specs.declared.instr.Instr.{Instr}
 use Rattle.rb_target.specs.declared.word.Word.{Word}
@@ -157,7 +157,7 @@ body_run funs f (i ∷ is) rest h =
 
 count_steps : (f : CodeFun) (t : Turn) (n : ℕ) → n < 2 ^ 64 → Steps (goes_on (Heading f t)) [] (decimal n)
 count_steps f t n small =
-    decimal_steps (λ w b. is_some (number_of w)) (λ m. true) (λ m b g s. rw (number_decimal m s) refl) (λ m g big. refl) n n (omega arith) small refl
+    decimal_steps (λ w b. is_some (number_of_word w)) (λ m. true) (λ m b g s. rw (number_decimal m s) refl) (λ m g big. refl) n n (omega arith) small refl
 
 small_steps : (b : ℕ) → IsSmall b → (is_gap b ≡ false) × (is_small b ≡ true)
 small_steps b h = (grind (arith, common_steps), grind (arith, common_steps))

@@ -15,7 +15,7 @@ use Rattle.rb_target.specs.Validity.{IsSmall, IsNameByte, IsLower}
 use Rattle.rb_target.specs.Spelled.{AreSpelled}
 use Rattle.rb_target.specs.Stopping.{IsCode, IsFront, StopsAt, IsTextOf}
 use Rattle.rb_target.proofs.SpelledForms.{IsFitFun, AreFitFuns, funs_fit, fit_funs}
-use Rattle.rb_target.specs.Fields.{number_of, is_open, is_word_front, key_bytes, keys, next_field, after_word}
+use Rattle.rb_target.specs.Fields.{number_of_word, is_open, is_word_front, key_bytes, keys, next_field, after_word}
 use Rattle.rb_target.specs.Reading.{is_gap, is_small, is_name_byte, named, line_next, worded, headed, step, is_some, goes_on, Progress, start, moved, feed, run, is_outside, is_done}
 use Rattle.rb_target.specs.declared.word.Word.{Word}
 use Rattle.rb_target.specs.declared.word.Word.TheVariants.{Number}
@@ -157,7 +157,7 @@ starting_can_end f q h = elim (starts_with nat_eq (codes "end") q) as (λ (b : B
       can_end (Starting f) q (key_bytes k.0) (drop (length q) (key_bytes k.0)) 32 (starts_rest (key_bytes k.0) q k.1) (key_moves f k.0)
 ] refl h
 
-heading_can_end : (f : CodeFun) (t : Turn) (q : List ℕ) (o : Option ℕ) → number_of q ≡ o → is_some o ≡ true → CanEnd (Heading f t) q
+heading_can_end : (f : CodeFun) (t : Turn) (q : List ℕ) (o : Option ℕ) → number_of_word q ≡ o → is_some o ≡ true → CanEnd (Heading f t) q
 heading_can_end f t q None e h = absurd (cc h)
 heading_can_end f First q (Some n) e h = can_end (Heading f First) q q [] 32 (append-nil q) (subst (λ o. Moves (headed f First 32 o)) (sym e) tt)
 heading_can_end f Second q (Some n) e h = can_end (Heading f Second) q q [] 32 (append-nil q) (subst (λ o. Moves (headed f Second 32 o)) (sym e) tt)
@@ -201,7 +201,7 @@ naming_word w b h g = elim h [
 word_more : (spot : Spot) (w : List ℕ) (b : ℕ) → IsGood spot → IsGoodWord spot w → goes_on spot (w ++ b ∷ []) b ≡ true → IsGoodWord spot (w ++ b ∷ [])
 word_more Outside w b h k g = inr (can_end Outside (w ++ b ∷ []) (codes "fun") (drop (length (w ++ b ∷ [])) (codes "fun")) 32 (starts_rest (codes "fun") (w ++ b ∷ []) g) tt)
 word_more Naming w b h k g = naming_word w b k g
-word_more (Heading f t) w b h k g = inr (heading_can_end f t (w ++ b ∷ []) (number_of (w ++ b ∷ [])) refl g)
+word_more (Heading f t) w b h k g = inr (heading_can_end f t (w ++ b ∷ []) (number_of_word (w ++ b ∷ [])) refl g)
 word_more (Starting f) w b h k g = inr (starting_can_end f (w ++ b ∷ []) g)
 word_more (Within f l) w b h k g = inr (within_can_end f l (w ++ b ∷ []) h.line g)
 

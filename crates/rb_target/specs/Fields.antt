@@ -25,8 +25,8 @@ use Rattle.rb_target.specs.declared.read.line.Arms.{Arms}
 -- Words ----------------------------------------------------------------------------------------
 
 -- the number below 2^64 that a word spells, or None if it spells none
-abbrev pub number_of : List ℕ → Option ℕ
-number_of w = number_in 0 (2 ^ 64 - 1) w
+abbrev pub number_of_word : List ℕ → Option ℕ
+number_of_word w = number_in 0 (2 ^ 64 - 1) w
 
 -- whether a number may stand in a field
 abbrev pub has : Field → ℕ → Bool
@@ -81,7 +81,7 @@ numbered_word f w None = named_word f w
 
 -- the word that is written so, if it may stand in a field
 abbrev pub word_in : Field → List ℕ → Option Word
-word_in f w = numbered_word f w (number_of w)
+word_in f w = numbered_word f w (number_of_word w)
 
 -- whether some word that is no number and may stand in a field begins so
 abbrev pub named_front : Field → List ℕ → Bool
@@ -97,7 +97,7 @@ numbered_front f w None = named_front f w
 
 -- whether some word that may stand in a field begins so
 abbrev pub is_word_front : Field → List ℕ → Bool
-is_word_front f w = numbered_front f w (number_of w)
+is_word_front f w = numbered_front f w (number_of_word w)
 
 -- Keys -----------------------------------------------------------------------------------------
 

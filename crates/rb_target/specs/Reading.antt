@@ -7,7 +7,7 @@ use Rattle.std.specs.Cmp.Lexicographic.{pointwise}
 use Rattle.rb_target.specs.Stopping.{StopsAt}
 use Rattle.rb_target.specs.declared.fault.CodeFault.{CodeFault}
 use Rattle.rb_target.specs.declared.fault.CodeFault.TheVariants.{CodeSyntax, Memory}
-use Rattle.rb_target.specs.Fields.{number_of, is_open, word_in, is_word_front, is_key_front, key_of, next_field, may_end, first_line, after_word, instruction_of}
+use Rattle.rb_target.specs.Fields.{number_of_word, is_open, word_in, is_word_front, is_key_front, key_of, next_field, may_end, first_line, after_word, instruction_of}
 use Rattle.rb_target.specs.declared.word.Word.{Word}
 use Rattle.rb_target.specs.declared.code.CodeFun.{CodeFun}
 use Rattle.rb_target.specs.declared.read.spot.Key.{Key}
@@ -73,7 +73,7 @@ headed f Third g (Some n) = if g == 10 then To (Starting (record f { slots = n }
 abbrev pub step : Spot → List ℕ → ℕ → Move
 step Outside w g = if (g == 32) && pointwise nat_eq w (codes "fun") then To Naming else Refused
 step Naming w g = if (g == 32) && nat_lt 0 (length w) then To (Heading (named w) First) else Refused
-step (Heading f t) w g = headed f t g (number_of w)
+step (Heading f t) w g = headed f t g (number_of_word w)
 step (Starting f) w g = if pointwise nat_eq w (codes "end") then closing f g else started f g (key_of w)
 step (Within f l) w g = worded f l g (word_in (next_field l.rest) w)
 
@@ -88,7 +88,7 @@ is_some (Some n) = true
 abbrev pub goes_on : Spot → List ℕ → ℕ → Bool
 goes_on Outside w b = starts_with nat_eq (codes "fun") w
 goes_on Naming w b = if length w == 1 then is_small b else is_name_byte b
-goes_on (Heading f t) w b = is_some (number_of w)
+goes_on (Heading f t) w b = is_some (number_of_word w)
 goes_on (Starting f) w b = starts_with nat_eq (codes "end") w || is_key_front w
 goes_on (Within f l) w b = is_word_front (next_field l.rest) w
 

@@ -22,7 +22,7 @@ pub record Sheet : Type 0 where
 
 -- what holds of every sheet: at most 256 parameters, slots that a word of 64 bits can count, and no more instructions
 -- than a body may have
-pub record IsKept (params slots : ℕ) (code : List Instr) : Type 0 where
+pub record SheetIsKept (params slots : ℕ) (code : List Instr) : Type 0 where
   pub few : params ≤ 256
   pub small : slots < 2 ^ 64
   pub short : length code ≤ most_instrs

@@ -27,8 +27,8 @@ StopsAt bytes at = StopsAtIn IsCode bytes at
 
 -- what reading the bytes may answer: the functions whose text they are, the number of the byte at which no code text
 -- goes on, or want of memory; no other fault
-abbrev pub IsReading : List ℕ → Result (List CodeFun) CodeFault → Type 0
-IsReading bytes (Ok funs) = IsTextOf bytes funs
-IsReading bytes (Err (CodeSyntax at)) = StopsAt bytes at
-IsReading bytes (Err Memory) = Unit {0}
-IsReading bytes (Err fault) = ⊥
+abbrev pub IsCodeReading : List ℕ → Result (List CodeFun) CodeFault → Type 0
+IsCodeReading bytes (Ok funs) = IsTextOf bytes funs
+IsCodeReading bytes (Err (CodeSyntax at)) = StopsAt bytes at
+IsCodeReading bytes (Err Memory) = Unit {0}
+IsCodeReading bytes (Err fault) = ⊥

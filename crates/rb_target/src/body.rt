@@ -41,13 +41,13 @@ pub struct Body {
 
 impl Model for Body {
     ghost use Rattle.std.specs.Prelude.{◌+◌};
-    ghost use Rattle.rb_target.specs.Sheet.{Sheet, IsKept};
+    ghost use Rattle.rb_target.specs.Sheet.{Sheet, SheetIsKept};
 
     ghost Value = { Sheet };
 
     ghost view = { λ b. record { code = b.code; params = b.params; slots = b.params + b.given } };
 
-    ghost invariant = { λ b. IsKept b.params (b.params + b.given) b.code };
+    ghost invariant = { λ b. SheetIsKept b.params (b.params + b.given) b.code };
 }
 
 impl Body {

@@ -4,7 +4,7 @@
 ghost use Rattle.std.specs.Prelude.{◌≡◌, ◌↔◌, ◌<◌, ℕ, IsTrue, IsOk, IfOk, OnOk, IfErr, OnErr, Some, slice_get, length, not};
 ghost use Rattle.rb_target.specs.Validity.{AreSlots, AreArms, IsTarget, SlotsFit, TargetsFit, CallsFit, EndsInReturn, IsValid, IsValidFun, dests};
 ghost use Rattle.rb_target.specs.Spelled.{AreSpelled};
-ghost use Rattle.rb_target.specs.Faults.{IsFirstFault, InFun, HasBadSlot, HasBadJump, HasBadCall};
+ghost use Rattle.rb_target.specs.Faults.{IsFirstCodeFault, InFun, HasBadSlot, HasBadJump, HasBadCall};
 ghost use Rattle.rb_target.specs.Checking.{CountsSlots, HasGoodSlots, HasGoodJumps, HasGoodCalls, IsFaultless, IsFaultAt, IsFaultIn};
 
 use crate::code::{Code, CodeFun};
@@ -227,7 +227,7 @@ fn check_fun(funs: &[CodeFun], n: usize) -> Result<(), CodeFault>
 fn check_funs(funs: &[CodeFun]) -> Result<(), CodeFault>
     requires { AreSpelled funs.now }
     ensures ok { OnOk result (IsValid funs.now) }
-    ensures err { IfErr result (λ fault. IsFirstFault funs.now fault) }
+    ensures err { IfErr result (λ fault. IsFirstCodeFault funs.now fault) }
 {
     for n in 0..funs.len() {
         check_fun(funs, n)?;
@@ -246,7 +246,7 @@ pub fn check(funs: Seq<CodeFun>) -> Result<Code, CodeFault>
     requires { AreSpelled funs }
     ensures ok { IfOk result (λ code. code ≡ funs) }
     ensures valid { IsOk result ↔ IsValid funs }
-    ensures first { IfErr result (λ fault. IsFirstFault funs fault) }
+    ensures first { IfErr result (λ fault. IsFirstCodeFault funs fault) }
 {
     check_funs(funs.as_slice())?;
     Ok(Code::new(funs))

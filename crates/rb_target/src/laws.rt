@@ -3,7 +3,7 @@
 
 ghost use Rattle.std.specs.Prelude.{◌≡◌, ℕ, ◌⊎◌, true, List};
 ghost use Rattle.rb_target.specs.Spelled.{AreSpelled};
-ghost use Rattle.rb_target.specs.Faults.{Stands, IsFirstFault, IsCountable};
+ghost use Rattle.rb_target.specs.Faults.{FaultStands, IsFirstCodeFault, IsCountable};
 ghost use Rattle.rb_target.specs.declared.fault.CodeFault.{CodeFault as CodeFaultDecl};
 ghost use Rattle.rb_core.specs.declared.expression.Op.{Op as OpDecl};
 ghost use Rattle.rb_core.specs.Meaning.{op_value};
@@ -53,9 +53,9 @@ pub fn names_are_shared()
 /// where machine words count them and their instructions. No functions have two first faults.
 pub fn faults_decide_validity()
     ensures none { (funs : List CodeFunDecl) (fault : CodeFaultDecl) → IsValid funs
-        → ¬ Stands funs fault }
+        → ¬ FaultStands funs fault }
     ensures some { (funs : List CodeFunDecl) → AreSpelled funs → IsCountable funs
-        → IsValid funs ⊎ ((fault : CodeFaultDecl) × IsFirstFault funs fault) }
-    ensures one { (funs : List CodeFunDecl) (a b : CodeFaultDecl) → IsFirstFault funs a
-        → IsFirstFault funs b → a ≡ b }
+        → IsValid funs ⊎ ((fault : CodeFaultDecl) × IsFirstCodeFault funs fault) }
+    ensures one { (funs : List CodeFunDecl) (a b : CodeFaultDecl) → IsFirstCodeFault funs a
+        → IsFirstCodeFault funs b → a ≡ b }
 {}

@@ -4,7 +4,7 @@
 ghost use Rattle.std.specs.Prelude.{◌≡◌, List, IfOk, IfErr};
 ghost use Rattle.rb_target.specs.Text.{code_text};
 ghost use Rattle.rb_target.specs.Validity.{IsValid};
-ghost use Rattle.rb_target.specs.Refusals.{IsAnswerTo, IsRefusal, IsThese};
+ghost use Rattle.rb_target.specs.Refusals.{IsAnswerTo, IsCodeRefusal, IsThese};
 ghost use Rattle.rb_target.specs.Stopping.{IsTextOf};
 ghost use Rattle.rb_target.specs.declared.code.CodeFun.{CodeFun};
 
@@ -31,7 +31,7 @@ pub fn read_code(alloc: Global, bytes: &[u8]) -> Result<Code, CodeFault>
     ensures text { IfOk result (λ code. bytes.now ≡ code_text code) }
     ensures each { (funs : List CodeFun) → IsValid funs → bytes.now ≡ code_text funs → IsThese funs result }
     ensures every { (funs : List CodeFun) → IsTextOf bytes.now funs → IsAnswerTo funs result }
-    ensures refusal { IfErr result (λ fault. IsRefusal bytes.now fault) }
+    ensures refusal { IfErr result (λ fault. IsCodeRefusal bytes.now fault) }
 {
     let funs = read_text(alloc, bytes)?;
     check(funs)

@@ -19,9 +19,9 @@ use Rattle.rb_trim.specs.declared.fact.Content.TheVariants.{Number, Same, Part, 
 use Rattle.rb_trim.specs.declared.fact.Fact.{Fact}
 use Rattle.rb_trim.specs.declared.hints.Hints.{Hints}
 use Rattle.rb_trim.specs.Trimming.{IsNoDearer}
-use Rattle.rb_trim.specs.inner.Facts.{IsContent, Hold, Says, Turns}
-use Rattle.rb_trim.specs.inner.Following.{AreSame, IsNarrow, Made, IsTold, Sets}
-use Rattle.rb_trim.specs.inner.Moving.{tells, IsWhole, IsRead, Agree, AreApart, IsDest, IsName, landing, landing_in, moved_arm, Makes, IsWrite, IsRemade, IsPut, IsJumped, IsMoved, Leads}
+use Rattle.rb_trim.specs.inner.Facts.{IsContent, Hold, FactSays, Turns}
+use Rattle.rb_trim.specs.inner.Following.{AreSame, IsNarrow, FactIsMade, IsTold, Sets}
+use Rattle.rb_trim.specs.inner.Moving.{tells, IsWhole, SlotIsRead, Agree, NumbersAreApart, IsDest, IsName, landing, landing_in, moved_arm, MakesContent, IsWrite, IsRemade, IsPut, IsJumped, IsMoved, LeadsAhead}
 use Rattle.rb_trim.specs.inner.Stepping.{HasArm}
 use Rattle.rb_trim.proofs.Outcomes.{Near, over_near, near_switched, near_memory, near_of, load_near, store_near, place_near, call_near}
 use Rattle.rb_trim.proofs.Slots.{AgreeOn, Borne, set_agrees, put_agrees, put_long, names_same}
@@ -87,7 +87,7 @@ whole_other facts slot other t arms is = record { by = λ s m hold e. some_way a
 
 -- by some way a switch leads to a place, and what the way tells is so
 abbrev pub LedTo : (Option Fact → ℕ → Type 0) → List ℕ → Memory → ℕ → Type 0
-LedTo P s m t = (told : Option Fact) × P told t × Says told s m
+LedTo P s m t = (told : Option Fact) × P told t × FactSays told s m
 
 module _ (P : Option Fact → ℕ → Type 0) (a : ℕ) (s : List ℕ) (m : Memory) where
   pub led_to : (arms : List SwitchArm) (other : Option ℕ) (word t : ℕ) → slice_index s a ≡ word → All (λ (arm : SwitchArm). P (tells a arm.number) arm.target) arms → IfSome other (P None) → target_of arms other word ≡ Some t → LedTo P s m t
@@ -146,7 +146,7 @@ GoesFrom h slots slots' pc pc' F J next' next i s w =
     (t t' : ℕ) (s1 s1' : List ℕ) (w1 w1' : World) → Comes h pc pc' F J s w.memory t t' → Turns i s w.memory s1 w1.memory
     → slots ≤ length s1 → slots' ≤ length s1' → AgreeOn h (Borne h pc i) s1 s1' → Near w1' w1 → IsNoDearer (next' t' s1' w1') (next t s1 w1)
 
-module _ (h : Hints) (apart : AreApart h) (funs : List CodeFun) (body : List Instr) (results slots slots' pc pc' : ℕ) (facts : List Fact) (new old : Callee) (calls : CallsNear funs new old)
+module _ (h : Hints) (apart : NumbersAreApart h) (funs : List CodeFun) (body : List Instr) (results slots slots' pc pc' : ℕ) (facts : List Fact) (new old : Callee) (calls : CallsNear funs new old)
     (F : ℕ → Type 0) (J : Option Fact → ℕ → Type 0) (next' next : Next) (s s' : List ℕ) (v w : World) (near : Near v w) (long : slots ≤ length s) (long' : slots' ≤ length s')
     (agree : Agree h pc s s') (hold : Hold s w.memory facts) where
   -- the slots as they are
@@ -160,9 +160,9 @@ module _ (h : Hints) (apart : AreApart h) (funs : List CodeFun) (body : List Ins
   -- the same word goes to a slot
   one_set : (i : Instr) (d d' x : ℕ) → Sets i d → IsDest h d d' → d < slots → d' < slots' → AgreeOn h (Borne h pc i) (slice_set s d x) (slice_set s' d' x)
   one_set i d d' x sets dest lt lt' k borne e =
-      set_agrees h apart (λ n. IsRead h pc n) d d' x s s' (λ n read more. agree n read) dest (omega (arith, lt, long)) (omega (arith, lt', long')) k (one k borne) e
+      set_agrees h apart (λ n. SlotIsRead h pc n) d d' x s s' (λ n read more. agree n read) dest (omega (arith, lt, long)) (omega (arith, lt', long')) k (one k borne) e
     where
-      one : (k : ℕ) → Borne h pc i k → IsRead h pc k ⊎ (d ≡ k)
+      one : (k : ℕ) → Borne h pc i k → SlotIsRead h pc k ⊎ (d ≡ k)
       one k (inl read) = inl read
       one k (inr more) = inr (sets_one i d k sets more)
 
@@ -179,7 +179,7 @@ module _ (h : Hints) (apart : AreApart h) (funs : List CodeFun) (body : List Ins
       subst (λ z. IsNoDearer (next' (pc' + 1) (slice_set s' d' z) v) (next (pc + 1) (slice_set s d x) w)) (sym e)
       (go (pc + 1) (pc' + 1) (slice_set s d x) (slice_set s' d' x) w v (inl (to, refl, refl)) turns (set_long d x) (set_long' d' x) (one_set i d d' x sets dest lt lt') near)
 
-  makes_fit : (c : Content) (d' : ℕ) (j : Instr) → Makes h facts pc c d' j → SlotsFit slots' j → d' < slots'
+  makes_fit : (c : Content) (d' : ℕ) (j : Instr) → MakesContent h facts pc c d' j → SlotsFit slots' j → d' < slots'
   makes_fit (Number n) d' j m fit' = let f : SlotsFit slots' (Const d' n) = subst (λ (k : Instr). SlotsFit slots' k) m fit' in f
   makes_fit (Same a) d' j m fit' = let f : SlotsFit slots' (Copy d' m.0) = subst (λ (k : Instr). SlotsFit slots' k) m.1 fit' in f.0
   makes_fit (Part a o l) d' j m fit' = let f : SlotsFit slots' (Take d' m.0 o l) = subst (λ (k : Instr). SlotsFit slots' k) m.1 fit' in f.0
@@ -187,7 +187,7 @@ module _ (h : Hints) (apart : AreApart h) (funs : List CodeFun) (body : List Ins
   makes_fit (Loaded a offset width) d' j m fit' = absurd m
 
   -- the new instruction makes the content
-  makes_acts : (c : Content) (d' : ℕ) (j : Instr) (x : ℕ) → Makes h facts pc c d' j → IsContent s w.memory c x → act j next' new pc' s' v ≡ next' (pc' + 1) (slice_set s' d' x) v
+  makes_acts : (c : Content) (d' : ℕ) (j : Instr) (x : ℕ) → MakesContent h facts pc c d' j → IsContent s w.memory c x → act j next' new pc' s' v ≡ next' (pc' + 1) (slice_set s' d' x) v
   makes_acts (Number n) d' j x m is =
       ap (λ (k : Instr). act k next' new pc' s' v) m ∙ ap (λ y. next' (pc' + 1) (slice_set s' d' y) v) (sym is)
   makes_acts (Same a) d' j x m is =
@@ -206,7 +206,7 @@ module _ (h : Hints) (apart : AreApart h) (funs : List CodeFun) (body : List Ins
   remade_acts i j d x m to fit fit' turns go =
       let told : IsTold facts i m.0 = m.1 in
       let write : IsWrite h facts pc m.0 j = m.2 in
-      let made : Made m.0 slots s (slice_set s d x) w.memory w.memory = told.by slots s (slice_set s d x) w.memory w.memory fit hold turns in
+      let made : FactIsMade m.0 slots s (slice_set s d x) w.memory w.memory = told.by slots s (slice_set s d x) w.memory w.memory fit hold turns in
       let e : act j next' new pc' s' v ≡ next' (pc' + 1) (slice_set s' write.0 made.word) v = makes_acts m.0.content write.0 j made.word write.2 made.is in
       let turned : Turns i s w.memory (slice_set s m.0.slot made.word) w.memory = subst (λ y. Turns i s w.memory y w.memory) made.slot turns in
       subst (λ (o : Outcome). IsNoDearer o (next (pc + 1) (slice_set s d x) w)) (sym e)
@@ -226,7 +226,7 @@ module _ (h : Hints) (apart : AreApart h) (funs : List CodeFun) (body : List Ins
   abbrev pub Jumps : ℕ → Instr → Type 0
   Jumps t j = IsJumped h body t j → J None t → IsNoDearer (act j next' new pc' s' v) (next t s w)
 
-  pub acts_alike : (i j : Instr) → IsMoved h facts body pc i j → SlotsFit slots i → SlotsFit slots' j → CallsFit funs results i → Leads F J i pc
+  pub acts_alike : (i j : Instr) → IsMoved h facts body pc i j → SlotsFit slots i → SlotsFit slots' j → CallsFit funs results i → LeadsAhead F J i pc
       → ((t : ℕ) → i ≡ Jump t → Jumps t j) → GoesFrom h slots slots' pc pc' F J next' next i s w → IsNoDearer (act j next' new pc' s' v) (act i next old pc s w)
   acts_alike (Const d c) j m fit fit' call leads jumps go = remade_acts (Const d c) j d c m leads fit fit' (refl, refl) go
   acts_alike (Copy d a) j m fit fit' call leads jumps go = remade_acts (Copy d a) j d (slice_index s a) m leads fit fit' (refl, refl) go

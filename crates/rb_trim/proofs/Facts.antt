@@ -18,8 +18,8 @@ use Rattle.rb_target.specs.declared.instr.Instr.TheVariants.{Const, Copy, Alu, T
 use Rattle.rb_trim.specs.declared.fact.Content.{Content}
 use Rattle.rb_trim.specs.declared.fact.Content.TheVariants.{Number, Same, Part, Computed, Loaded}
 use Rattle.rb_trim.specs.declared.fact.Fact.{Fact}
-use Rattle.rb_trim.specs.inner.Facts.{IsContent, IsSo, Says, Turns, Follows}
-use Rattle.rb_trim.specs.inner.Following.{AreSame, IsAsMuch, IsHeld, IsBelow, IsNarrow, IsLaid, Made, IsTold, Sets, IsToldBy, WritesTo, Changes, Keeps, FollowsOne, FollowsAt, HoldsBehind, IsLoaded, made_of}
+use Rattle.rb_trim.specs.inner.Facts.{IsContent, IsSo, FactSays, Turns, Follows}
+use Rattle.rb_trim.specs.inner.Following.{AreSame, IsAsMuch, IsHeld, IsBelow, IsNarrow, IsLaid, FactIsMade, IsTold, Sets, IsToldBy, WritesTo, Changes, KeepsContent, FollowsOne, FollowsAt, HoldsBehind, IsLoaded, made_of}
 
 get_at : (xs : List Fact) (k : ℕ) (x : Fact) → k < length xs → get_or xs k x ≡ x → slice_get xs k ≡ Some x
 get_at [] k x lt e = absurd (omega (arith, lt))
@@ -208,7 +208,7 @@ same_memory (Switch a other arms) s s' m m' unlike t = t.1
 same_memory (Call f ds froms) s s' m m' unlike t = absurd (unlike tt)
 same_memory (Return froms) s s' m m' unlike t = absurd t
 
-kept_content : (i : Instr) (c : Content) (x : ℕ) (s s' : List ℕ) (m m' : Memory) → Keeps i c → Turns i s m s' m' → IsContent s m c x → IsContent s' m' c x
+kept_content : (i : Instr) (c : Content) (x : ℕ) (s s' : List ℕ) (m m' : Memory) → KeepsContent i c → Turns i s m s' m' → IsContent s m c x → IsContent s' m' c x
 kept_content i (Number n) x s s' m m' keeps t is = is
 kept_content i (Same a) x s s' m m' keeps t is = is ∙ sym (spares i a s s' m m' keeps t)
 kept_content i (Part a o l) x s s' m m' keeps t is = is ∙ ap (λ y. take_of y o l) (sym (spares i a s s' m m' keeps t))
@@ -217,7 +217,7 @@ kept_content i (Computed op n a b) x s s' m m' keeps t is =
 kept_content i (Loaded a offset width) x s s' m m' keeps t is =
     ap (λ y. load_of y (slice_index s' a) offset width) (same_memory i s s' m m' keeps.1 t) ∙ ap (λ y. load_of m y offset width) (spares i a s s' m m' keeps.0 t) ∙ is
 
-pub stays_so : (facts : List Fact) (i : Instr) (fact : Fact) → Contains facts fact → ¬ WritesTo i fact.slot → Keeps i fact.content → FollowsOne facts i fact
+pub stays_so : (facts : List Fact) (i : Instr) (fact : Fact) → Contains facts fact → ¬ WritesTo i fact.slot → KeepsContent i fact.content → FollowsOne facts i fact
 stays_so facts i fact known unlike keeps = record {
   by = λ slots s s' m m' long fit hold t.
       let before : IsSo s m fact = hold fact known in
@@ -247,13 +247,13 @@ one_content (Part k o l) x y s m a b = a ∙ sym b
 one_content (Computed op n k j) x y s m a b = a ∙ sym b
 one_content (Loaded k offset width) x y s m a b = let e = sym a ∙ b in cc
 
-made_so : (i : Instr) (fact : Fact) (slots : ℕ) (s s' : List ℕ) (m m' : Memory) → made_of i ≡ Some fact → SlotsFit slots i → Turns i s m s' m' → Made fact slots s s' m m'
-made_so (Const d c) fact slots s s' m m' e fit t = subst (λ (f : Fact). Made f slots s s' m m') (same_Some _ fact e) (record { word = c; is = refl; slot = t.0; memory = t.1; within = fit })
-made_so (Copy d a) fact slots s s' m m' e fit t = subst (λ (f : Fact). Made f slots s s' m m') (same_Some _ fact e) (record { word = slice_index s a; is = refl; slot = t.0; memory = t.1; within = fit.0 })
-made_so (Alu op n d a b) fact slots s s' m m' e fit t = subst (λ (f : Fact). Made f slots s s' m m') (same_Some _ fact e) (record { word = alu_of op n (slice_index s a) (slice_index s b); is = refl; slot = t.0; memory = t.1; within = fit.0 })
-made_so (Take d a o l) fact slots s s' m m' e fit t = subst (λ (f : Fact). Made f slots s s' m m') (same_Some _ fact e) (record { word = take_of (slice_index s a) o l; is = refl; slot = t.0; memory = t.1; within = fit.0 })
+made_so : (i : Instr) (fact : Fact) (slots : ℕ) (s s' : List ℕ) (m m' : Memory) → made_of i ≡ Some fact → SlotsFit slots i → Turns i s m s' m' → FactIsMade fact slots s s' m m'
+made_so (Const d c) fact slots s s' m m' e fit t = subst (λ (f : Fact). FactIsMade f slots s s' m m') (same_Some _ fact e) (record { word = c; is = refl; slot = t.0; memory = t.1; within = fit })
+made_so (Copy d a) fact slots s s' m m' e fit t = subst (λ (f : Fact). FactIsMade f slots s s' m m') (same_Some _ fact e) (record { word = slice_index s a; is = refl; slot = t.0; memory = t.1; within = fit.0 })
+made_so (Alu op n d a b) fact slots s s' m m' e fit t = subst (λ (f : Fact). FactIsMade f slots s s' m m') (same_Some _ fact e) (record { word = alu_of op n (slice_index s a) (slice_index s b); is = refl; slot = t.0; memory = t.1; within = fit.0 })
+made_so (Take d a o l) fact slots s s' m m' e fit t = subst (λ (f : Fact). FactIsMade f slots s s' m m') (same_Some _ fact e) (record { word = take_of (slice_index s a) o l; is = refl; slot = t.0; memory = t.1; within = fit.0 })
 made_so (Put d a o l) fact slots s s' m m' e fit t = cc
-made_so (Load d a offset width) fact slots s s' m m' e fit t = subst (λ (f : Fact). Made f slots s s' m m') (same_Some _ fact e) (record { word = t.0; is = t.1; slot = t.2; memory = t.3; within = fit.0 })
+made_so (Load d a offset width) fact slots s s' m m' e fit t = subst (λ (f : Fact). FactIsMade f slots s s' m m') (same_Some _ fact e) (record { word = t.0; is = t.1; slot = t.2; memory = t.3; within = fit.0 })
 made_so (Store a offset width v) fact slots s s' m m' e fit t = cc
 made_so (Place d size align) fact slots s s' m m' e fit t = cc
 made_so (Jump u) fact slots s s' m m' e fit t = cc
@@ -337,10 +337,10 @@ one_behind facts told i fact one = record { by = λ slots s s' m m' long fit hol
 
 -- a fact that the way tells holds behind it
 pub said_so : (facts : List Fact) (told : Option Fact) (i : Instr) (fact said : Fact) (from : ℕ) → told ≡ Some said → AreSame facts said.slot from → fact.slot ≡ from → fact.content ≡ said.content
-    → ¬ WritesTo i fact.slot → Keeps i fact.content → HoldsBehind facts told i fact
+    → ¬ WritesTo i fact.slot → KeepsContent i fact.content → HoldsBehind facts told i fact
 said_so facts told i fact said from is same at content unlike keeps = record {
   by = λ slots s s' m m' long fit hold says t.
-      let way : IsContent s m said.content (slice_index s said.slot) = subst (λ (o : Option Fact). Says o s m) is says in
+      let way : IsContent s m said.content (slice_index s said.slot) = subst (λ (o : Option Fact). FactSays o s m) is says in
       let word : slice_index s fact.slot ≡ slice_index s said.slot = ap (λ n. slice_index s n) at ∙ same s m hold in
       let before : IsSo s m fact = subst (λ (c : Content). IsContent s m c (slice_index s fact.slot)) (sym content) (subst (λ y. IsContent s m said.content y) (sym word) way) in
       let stays = spares i fact.slot s s' m m' unlike t in

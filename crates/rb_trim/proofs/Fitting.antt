@@ -15,7 +15,7 @@ use Rattle.rb_trim.specs.declared.fact.Content.TheVariants.{Number, Same, Part, 
 use Rattle.rb_trim.specs.declared.fact.Fact.{Fact}
 use Rattle.rb_trim.specs.declared.hints.Hints.{Hints}
 use Rattle.rb_trim.specs.Trimming.{HasSameHead, IsTrimOf}
-use Rattle.rb_trim.specs.inner.Moving.{tells, AreApart, IsApart, KeepParams, KeepsParam, AreDests, AreNames, IsDest, IsName, dead_at, facts_at, place, end, moved_arm, IsReached, Makes, IsWrite, IsRemade, IsMoved, IsInto, IsFolded, ComesBack, Stands, IsSkipped, EndsWell, LivesOn, JumpsOn, IsStep, HaveSameHeads, IsTrimmed}
+use Rattle.rb_trim.specs.inner.Moving.{tells, NumbersAreApart, IsApart, KeepParams, KeepsParam, AreDests, AreNames, IsDest, IsName, dead_at, facts_at, place, end, moved_arm, IsReached, MakesContent, IsWrite, IsRemade, IsMoved, IsInto, IsFolded, ComesBack, StandsFor, IsSkipped, EndsWell, LivesOn, JumpsOn, IsStep, HaveSameHeads, IsTrimmed}
 use Rattle.rb_trim.specs.inner.Stepping.{ComesBackAt, LivesAt, JumpsOnAt, IsKnownOn, Steps, HaveOrigins, Walks, IsRanged, IsFit, AreTrimmed}
 use Rattle.rb_trim.proofs.Slots.{same_or}
 use Rattle.rb_trim.proofs.Whole.{past, trim_of}
@@ -55,7 +55,7 @@ arms_bounded h (arm ∷ arms) b =
     All-cons P (moved_arm h arm) (map (λ (arm : SwitchArm). moved_arm h arm) arms) (All-head P arm arms b) (arms_bounded h arms (All-tail P arm arms b))
 
 module _ (h : Hints) (facts : List Fact) (body : List Instr) (pc : ℕ) where
-  makes_bounded : (c : Content) (d j : ℕ) (k : Instr) → Makes h facts pc c d k → IsRanged k → IsBounded k
+  makes_bounded : (c : Content) (d j : ℕ) (k : Instr) → MakesContent h facts pc c d k → IsRanged k → IsBounded k
   makes_bounded (Number n) d j k m r = let b : n < 2 ^ 64 = subst IsRanged m r in subst IsBounded (sym m) b
   makes_bounded (Same a) d j k m r = subst IsBounded (sym m.1) tt
   makes_bounded (Part a o l) d j k m r = let b : IsRanged (Take d m.0 o l) = subst IsRanged m.1 r in subst IsBounded (sym m.1) b
@@ -89,7 +89,7 @@ module _ (h : Hints) (facts : List Fact) (body : List Instr) (pc : ℕ) where
 
   module _ (funs funs' : List CodeFun) (results results' : ℕ) (heads : HaveSameHeads funs funs') (same : results' ≡ results)
       (old : (at : ℕ) (i : Instr) → slice_get body at ≡ Some i → CallsFit funs results i) where
-    makes_calls : (c : Content) (d : ℕ) (k : Instr) → Makes h facts pc c d k → CallsFit funs' results' k
+    makes_calls : (c : Content) (d : ℕ) (k : Instr) → MakesContent h facts pc c d k → CallsFit funs' results' k
     makes_calls (Number n) d k m = subst (CallsFit funs' results') (sym m) tt
     makes_calls (Same a) d k m = subst (CallsFit funs' results') (sym m.1) tt
     makes_calls (Part a o l) d k m = subst (CallsFit funs' results') (sym m.1) tt
@@ -161,8 +161,8 @@ module _ (h : Hints) (body : List Instr) where
         | inr out ↦ subst (λ l. IsStep h body l at k) (sym out.1) old
       ]
 
-  origin_of : (new : List Instr) (j : Instr) (at : ℕ) (k : Instr) (pc : ℕ) (i : Instr) → HaveOrigins h body new → slice_get body pc ≡ Some i → Stands h body pc i j → slice_get (new ++ j ∷ []) at ≡ Some k
-      → (pc : ℕ) × (i : Instr) × (slice_get body pc ≡ Some i) × Stands h body pc i k
+  origin_of : (new : List Instr) (j : Instr) (at : ℕ) (k : Instr) (pc : ℕ) (i : Instr) → HaveOrigins h body new → slice_get body pc ≡ Some i → StandsFor h body pc i j → slice_get (new ++ j ∷ []) at ≡ Some k
+      → (pc : ℕ) × (i : Instr) × (slice_get body pc ≡ Some i) × StandsFor h body pc i k
   origin_of new j at k pc i origins is for got =
       elim (below_or at (length new)) [
         | inl lt ↦ origins at k (sym (get-append new (j ∷ []) at lt) ∙ got)
@@ -170,11 +170,11 @@ module _ (h : Hints) (body : List Instr) where
             let lt : at < length (new ++ j ∷ []) = slice_get_within (new ++ j ∷ []) at k got in
             let here : at ≡ length new = omega (arith, le, lt, length-append new (j ∷ [])) in
             let same : j ≡ k = same_Some j k (sym (get-seam new j []) ∙ sym (ap (λ n. slice_get (new ++ j ∷ []) n) here) ∙ got) in
-            (pc, i, is, subst (λ (x : Instr). Stands h body pc i x) same for)
+            (pc, i, is, subst (λ (x : Instr). StandsFor h body pc i x) same for)
       ]
 
   pub step_kept : (pc : ℕ) (i : Instr) (old new : List Instr) (here : ℕ) (j : Instr) → here ≡ place h pc → here ≡ length old
-      → new ≡ old ++ j ∷ [] → Stands h body pc i j → EndsWell h pc i → IsKnownOn h pc i → Steps h body pc i old new
+      → new ≡ old ++ j ∷ [] → StandsFor h body pc i j → EndsWell h pc i → IsKnownOn h pc i → Steps h body pc i old new
   step_kept pc i old new here j a b c for ends k = record {
     stands = inl (record { here = sym a ∙ b; instr = j; more = c; for = for });
     ends = ends;
@@ -238,7 +238,7 @@ module _ (f q : CodeFun) (h : Hints) (head : HasSameHead f q) (walks : Walks h f
         ];
       }
 
-  pub trimmed : AreApart h → KeepParams h f.params → place h 0 ≡ 0 → facts_at h 0 ≡ [] → IsReached h 0 → IsTrimmed f q
+  pub trimmed : NumbersAreApart h → KeepParams h f.params → place h 0 ≡ 0 → facts_at h 0 ≡ [] → IsReached h 0 → IsTrimmed f q
   trimmed apart keep begins known reached = record {
     head = head;
     valid = λ funs funs' heads valid. record {
@@ -374,7 +374,7 @@ module _ (funs new : List CodeFun) (valid : IsValid funs) (all : AreTrimmed funs
   all_trimmed = trim_of funs new valid all_valid pairs all.long
 
 -- a slot past the table is not read
-pub all_apart : (h : Hints) → ((k : ℕ) → k < length h.reads → IsApart h k) → AreApart h
+pub all_apart : (h : Hints) → ((k : ℕ) → k < length h.reads → IsApart h k) → NumbersAreApart h
 all_apart h below k read =
     elim (below_or k (length h.reads)) [
       | inl lt ↦ below k lt read

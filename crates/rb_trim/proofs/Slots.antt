@@ -11,7 +11,7 @@ use Rattle.rb_trim.specs.declared.fact.Fact.{Fact}
 use Rattle.rb_trim.specs.declared.hints.Hints.{Hints}
 use Rattle.rb_trim.specs.inner.Facts.{Hold}
 use Rattle.rb_trim.specs.inner.Following.{Sets}
-use Rattle.rb_trim.specs.inner.Moving.{IsEverRead, IsRead, LivesOn, Agree, AreApart, IsDest, IsName, AreDests, AreNames}
+use Rattle.rb_trim.specs.inner.Moving.{IsEverRead, SlotIsRead, LivesOn, Agree, NumbersAreApart, IsDest, IsName, AreDests, AreNames}
 
 pub same_or : (a b : ℕ) → (a ≡ b) ⊎ (a ≢ b)
 same_or zero zero = inl refl
@@ -36,16 +36,16 @@ AgreeOn h R s s' = (k : ℕ) → R k → IsEverRead h k → slice_index s' (slic
 
 -- read from an instruction on, or set by it
 abbrev pub Borne : Hints → ℕ → Instr → ℕ → Type 0
-Borne h pc i k = IsRead h pc k ⊎ Sets i k
+Borne h pc i k = SlotIsRead h pc k ⊎ Sets i k
 
-pub ever : (h : Hints) (pc k : ℕ) → IsRead h pc k → IsEverRead h k
+pub ever : (h : Hints) (pc k : ℕ) → SlotIsRead h pc k → IsEverRead h k
 ever h pc k read = omega (arith, read.0)
 
 -- what is read at a place behind is borne there
 pub onward : (h : Hints) (pc : ℕ) (i : Instr) (t : ℕ) (s s' : List ℕ) → LivesOn h pc i t → AgreeOn h (Borne h pc i) s s' → Agree h t s s'
 onward h pc i t s s' lives agree k read = agree k (lives.by k read) (ever h t k read)
 
-module _ (h : Hints) (apart : AreApart h) where
+module _ (h : Hints) (apart : NumbersAreApart h) where
   -- the same word is written on both sides
   pub set_agrees : (R : ℕ → Type 0) (d d' x : ℕ) (s s' : List ℕ) → AgreeOn h R s s' → IsDest h d d' → d < length s → d' < length s'
       → AgreeOn h (λ k. R k ⊎ (d ≡ k)) (slice_set s d x) (slice_set s' d' x)
@@ -105,20 +105,20 @@ negated false P iff t p = refuted (iff.1 p)
     refuted : IsTrue false → ⊥
     refuted t = cc
 
-pub unread_behind : (h : Hints) (pc slot behind : ℕ) (b : Bool) → behind ≡ pc + 1 → (IsTrue b ↔ IsRead h behind slot) → IsTrue (not b) → ¬ IsRead h (pc + 1) slot
-unread_behind h pc slot behind b is iff t read = negated b (IsRead h behind slot) iff t (subst (λ n. IsRead h n slot) (sym is) read)
+pub unread_behind : (h : Hints) (pc slot behind : ℕ) (b : Bool) → behind ≡ pc + 1 → (IsTrue b ↔ SlotIsRead h behind slot) → IsTrue (not b) → ¬ SlotIsRead h (pc + 1) slot
+unread_behind h pc slot behind b is iff t read = negated b (SlotIsRead h behind slot) iff t (subst (λ n. SlotIsRead h n slot) (sym is) read)
 
 -- what is not read may be written
-pub set_unread : (h : Hints) (pc : ℕ) (i : Instr) (t d x : ℕ) (s s' : List ℕ) → Agree h pc s s' → LivesOn h pc i t → ((k : ℕ) → Sets i k → d ≡ k) → ¬ IsRead h t d → Agree h t (slice_set s d x) s'
+pub set_unread : (h : Hints) (pc : ℕ) (i : Instr) (t d x : ℕ) (s s' : List ℕ) → Agree h pc s s' → LivesOn h pc i t → ((k : ℕ) → Sets i k → d ≡ k) → ¬ SlotIsRead h t d → Agree h t (slice_set s d x) s'
 set_unread h pc i t d x s s' agree lives sets unread k read =
     elim (same_or k d) [
-      | inl e ↦ absurd (unread (subst (λ n. IsRead h t n) e read))
+      | inl e ↦ absurd (unread (subst (λ n. SlotIsRead h t n) e read))
       | inr ne ↦
-          let old : IsRead h pc k = still (lives.by k read) ne in
+          let old : SlotIsRead h pc k = still (lives.by k read) ne in
           agree k old ∙ sym (get_or-set_other s d k x 0 ne)
     ]
   where
-    still : IsRead h pc k ⊎ Sets i k → k ≢ d → IsRead h pc k
+    still : SlotIsRead h pc k ⊎ Sets i k → k ≢ d → SlotIsRead h pc k
     still (inl r) ne = r
     still (inr e) ne = absurd (ne (sym (sets k e)))
 

@@ -16,9 +16,9 @@ use Rattle.rb_target.specs.declared.code.CodeFun.{CodeFun}
 use Rattle.rb_trim.specs.declared.fact.Fact.{Fact}
 use Rattle.rb_trim.specs.declared.hints.Hints.{Hints}
 use Rattle.rb_trim.specs.Trimming.{IsNoDearer}
-use Rattle.rb_trim.specs.inner.Facts.{Hold, Says, Turns}
+use Rattle.rb_trim.specs.inner.Facts.{Hold, FactSays, Turns}
 use Rattle.rb_trim.specs.inner.Following.{Sets}
-use Rattle.rb_trim.specs.inner.Moving.{IsUnread, IsReached, IsPlain, IsRead, Agree, AreApart, IsDest, IsName, AreNames, IsMoved, IsCopied, IsInto, IsFolded, IsWhole, ComesBack, IsBack, landing_in, moved_arm, LivesOn, FallsOn, JumpsOn, GoesOn, EndsOn, facts_at, place, end, landing, IsIdle, IsJumped, Leads, IsKept, IsLeftOut, IsSkipped, IsStep}
+use Rattle.rb_trim.specs.inner.Moving.{IsUnread, IsReached, IsPlain, SlotIsRead, Agree, NumbersAreApart, IsDest, IsName, AreNames, IsMoved, IsCopied, IsInto, IsFolded, IsWhole, ComesBack, IsBack, landing_in, moved_arm, LivesOn, FallsOn, JumpsOn, GoesOn, EndsOn, facts_at, place, end, landing, IsIdle, IsJumped, LeadsAhead, InstrIsKept, IsLeftOut, IsSkipped, IsStep}
 use Rattle.rb_trim.proofs.Outcomes.{Near, near_taken, near_behind, over_near, load_near, near_switched, near_more}
 use Rattle.rb_trim.proofs.Slots.{AgreeOn, Borne, same_or, ever, widened, onward, set_agrees, set_unread, names_same}
 use Rattle.rb_trim.proofs.Acting.{CallsNear, Comes, LedTo, acts_alike, moved_target, led_to, switch_near, first_or}
@@ -58,7 +58,7 @@ module _ (h : Hints) (body : List Instr) (ends : EndsInReturn body) (pc : ℕ) w
   next : (i : Instr) → slice_get body pc ≡ Some i → ((froms : List ℕ) → i ≡ Return froms → ⊥) → FallsOn h pc i (pc + 1) → Falls i (pc + 1)
   next i is unlike known = (omega arith, inside body ends pc i is unlike, known)
 
-  pub led_behind : (i : Instr) → slice_get body pc ≡ Some i → TargetsFit (length body) pc i → Leads (FallsOn h pc i) (JumpsOn h pc i) i pc → Leads (Falls i) (Jumps i) i pc
+  pub led_behind : (i : Instr) → slice_get body pc ≡ Some i → TargetsFit (length body) pc i → LeadsAhead (FallsOn h pc i) (JumpsOn h pc i) i pc → LeadsAhead (Falls i) (Jumps i) i pc
   led_behind (Const d c) is fit known = next (Const d c) is (λ froms e. cc) known
   led_behind (Copy d a) is fit known = next (Copy d a) is (λ froms e. cc) known
   led_behind (Alu op n d a b) is fit known = next (Alu op n d a b) is (λ froms e. cc) known
@@ -113,7 +113,7 @@ module _ (h : Hints) (slots pc : ℕ) (facts : List Fact) (old : Callee) (F : �
       → IsNoDearer o (next (pc + 1) (slice_set s d x) w)
   passes i d x sets unread to lives turns go = go (slice_set s d x) to turns (omega (arith, long, length-set s d x)) (set_unread h pc i (pc + 1) d x s s' agree lives sets unread.by)
 
-  pub idle_acts : (i : Instr) → IsIdle h facts pc i → Leads F J i pc → (F (pc + 1) → LivesOn h pc i (pc + 1)) → PassesOn i → IsNoDearer o (act i next old pc s w)
+  pub idle_acts : (i : Instr) → IsIdle h facts pc i → LeadsAhead F J i pc → (F (pc + 1) → LivesOn h pc i (pc + 1)) → PassesOn i → IsNoDearer o (act i next old pc s w)
   idle_acts (Const d c) idle leads lives go = passes (Const d c) d c (λ k e. e) idle leads (lives leads) (refl, refl) go
   idle_acts (Copy d a) idle leads lives go = passes (Copy d a) d (slice_index s a) (λ k e. e) idle leads (lives leads) (refl, refl) go
   idle_acts (Alu op n d a b) idle leads lives go = passes (Alu op n d a b) d (alu_of op n (slice_index s a) (slice_index s b)) (λ k e. e) idle leads (lives leads) (refl, refl) go
@@ -130,7 +130,7 @@ module _ (h : Hints) (slots pc : ℕ) (facts : List Fact) (old : Callee) (F : �
   idle_acts (Call f ds froms) idle leads lives go = absurd idle
   idle_acts (Return froms) idle leads lives go = absurd idle
 
-module _ (funs funs' : List CodeFun) (f q : CodeFun) (valid : IsValidFun funs f) (valid' : IsValidFun funs' q) (h : Hints) (apart : AreApart h)
+module _ (funs funs' : List CodeFun) (f q : CodeFun) (valid : IsValidFun funs f) (valid' : IsValidFun funs' q) (h : Hints) (apart : NumbersAreApart h)
     (steps : (pc : ℕ) (i : Instr) → slice_get f.body pc ≡ Some i → IsStep h f.body q.body pc i)
     (new old : Callee) (calls : CallsNear funs new old) (law : Law f.body old (from f.body old)) (law' : Law q.body new (from q.body new)) where
   abbrev pub F : ℕ → Instr → ℕ → Type 0
@@ -139,11 +139,11 @@ module _ (funs funs' : List CodeFun) (f q : CodeFun) (valid : IsValidFun funs f)
   abbrev pub J : ℕ → Instr → Option Fact → ℕ → Type 0
   J pc i told t = Jumps h f.body valid.ends pc i told t
 
-  led : (pc : ℕ) (i : Instr) → slice_get f.body pc ≡ Some i → Leads (F pc i) (J pc i) i pc
+  led : (pc : ℕ) (i : Instr) → slice_get f.body pc ≡ Some i → LeadsAhead (F pc i) (J pc i) i pc
   led pc i is = led_behind h f.body valid.ends pc i is (valid.each pc i is).targets (steps pc i is).known
 
   -- what holds behind an instruction holds at a place behind it
-  holds_on : (pc : ℕ) (i : Instr) (told : Option Fact) (t : ℕ) → slice_get f.body pc ≡ Some i → GoesOn h pc i told t → (s s1 : List ℕ) (w w1 : World) → f.slots ≤ length s → Hold s w.memory (facts_at h pc) → Says told s w.memory
+  holds_on : (pc : ℕ) (i : Instr) (told : Option Fact) (t : ℕ) → slice_get f.body pc ≡ Some i → GoesOn h pc i told t → (s s1 : List ℕ) (w w1 : World) → f.slots ≤ length s → Hold s w.memory (facts_at h pc) → FactSays told s w.memory
       → Turns i s w.memory s1 w1.memory → Hold s1 w1.memory (facts_at h t)
   holds_on pc i told t is goes s s1 w w1 long hold says turns = goes.follows.by f.slots s s1 w.memory w1.memory long (valid.each pc i is).slots hold says turns
 
@@ -240,7 +240,7 @@ module _ (funs funs' : List CodeFun) (f q : CodeFun) (valid : IsValidFun funs f)
             (goes_back pc t (rest t to.0 to.1).1 back.0 back.1 back.2 back.4 s' v s (taken w) near long agree1 hold1)
       ]
 
-  stays : (pc : ℕ) (i : Instr) → slice_get f.body pc ≡ Some i → ((t : ℕ) → pc < t → t < length f.body → Both t) → (kept : IsKept h f.body q.body pc i) → IsPlain h pc → IsMoved h (facts_at h pc) f.body pc i kept.0 → place h (pc + 1) ≡ place h pc + 1 → IsReached h pc
+  stays : (pc : ℕ) (i : Instr) → slice_get f.body pc ≡ Some i → ((t : ℕ) → pc < t → t < length f.body → Both t) → (kept : InstrIsKept h f.body q.body pc i) → IsPlain h pc → IsMoved h (facts_at h pc) f.body pc i kept.0 → place h (pc + 1) ≡ place h pc + 1 → IsReached h pc
       → (s' : List ℕ) (v : World) → q.slots ≤ length s' → (s : List ℕ) (w : World) → Near v w → f.slots ≤ length s → Agree h pc s s' → Hold s w.memory (facts_at h pc)
       → IsNoDearer (from q.body new (place h pc) s' v) (act i (from f.body old) old pc s (taken w))
   stays pc i is rest kept plain moved next_place reached s' v long' s w near long agree hold =
@@ -311,17 +311,17 @@ module _ (funs funs' : List CodeFun) (f q : CodeFun) (valid : IsValidFun funs f)
         → Agree h (here' + 1) (slice_set s to x) (slice_set s' to' x)
     behind_copy x s long agree lives within k read =
         elim (same_or slot k) [
-          | inl e ↦ absurd (copied.unread.by (subst (λ n. IsRead h (here' + 1) n) (sym e) read))
+          | inl e ↦ absurd (copied.unread.by (subst (λ n. SlotIsRead h (here' + 1) n) (sym e) read))
           | inr ne ↦
-              set_agrees h apart (λ n. IsRead h here' n × (slot ≢ n)) to to' x s s' kept_apart dest (omega (arith, within, long)) (omega (arith, fits'.0, long')) k
+              set_agrees h apart (λ n. SlotIsRead h here' n × (slot ≢ n)) to to' x s s' kept_apart dest (omega (arith, within, long)) (omega (arith, fits'.0, long')) k
               (other_or ne (lives.by k read)) (ever h (here' + 1) k read)
         ]
       where
-        other_or : slot ≢ k → IsRead h here' k ⊎ Sets (Copy to copied.from) k → (IsRead h here' k × (slot ≢ k)) ⊎ (to ≡ k)
+        other_or : slot ≢ k → SlotIsRead h here' k ⊎ Sets (Copy to copied.from) k → (SlotIsRead h here' k × (slot ≢ k)) ⊎ (to ≡ k)
         other_or ne (inl r) = inl (r, ne)
         other_or ne (inr e) = inr e
 
-        kept_apart : AgreeOn h (λ n. IsRead h here' n × (slot ≢ n)) s s'
+        kept_apart : AgreeOn h (λ n. SlotIsRead h here' n × (slot ≢ n)) s s'
         kept_apart n r e =
             let off : slice_index h.names n ≢ copied.name = λ q. r.1 (sym copied.own.1 ∙ ap (λ m. slice_index h.origins m) (sym q) ∙ apart n e) in
             sym (widened s' (suc copied.name) (slice_index h.names n)) ∙ sym (get_or-set_other wide copied.name (slice_index h.names n) x 0 off) ∙ agree n r.0
@@ -359,7 +359,7 @@ module _ (funs funs' : List CodeFun) (f q : CodeFun) (valid : IsValidFun funs f)
         (λ x loaded. (rest (pc + 1) falls.0 falls.1).1.2 (slice_set wide copied.name x) (taken v) (from q.body new (place h pc + 1) (slice_set s' to' x) (taken v)) (from_copy x)
         (slice_set s slot x) (taken w) (near_taken v w near) (omega (arith, long, length-set s slot x))
         (onward h pc (Load slot base offset width) (pc + 1) (slice_set s slot x) (slice_set wide copied.name x) falls.2.on.lives
-        (set_agrees h apart (λ n. IsRead h pc n) slot copied.name x s wide (λ n read ever. widened s' (suc copied.name) (slice_index h.names n) ∙ agree n read) copied.own (omega (arith, fits.0, long)) room))
+        (set_agrees h apart (λ n. SlotIsRead h pc n) slot copied.name x s wide (λ n read ever. widened s' (suc copied.name) (slice_index h.names n) ∙ agree n read) copied.own (omega (arith, fits.0, long)) room))
         (holds_on pc (Load slot base offset width) None (pc + 1) is falls.2.on s (slice_set s slot x) w (taken w) long hold tt (x, loaded, refl, refl))))))
 
   loads_into : (pc : ℕ) (i j : Instr) → slice_get f.body pc ≡ Some i → ((t : ℕ) → pc < t → t < length f.body → Both t) → slice_get q.body (place h pc) ≡ Some j → IsInto h f.body pc i j
@@ -395,7 +395,7 @@ module _ (funs funs' : List CodeFun) (f q : CodeFun) (valid : IsValidFun funs f)
         goes_to u t to.1.0.0 to.1.0.1 (λ n behind within. rest n (omega (arith, le, behind)) within) to.1.1 s' v1 long' s (switched (taken w)) near long
         (onward h u (Switch a o its) t s s' to.1.0.2.on.lives (switch_borne s' u a o its s agree)) (holds_on u (Switch a o its) to.0 t at to.1.0.2.on s s w (switched (taken w)) long hold to.2 (refl, refl))
 
-    leads : Leads (F pc (Switch slot (Some target) arms)) (J pc (Switch slot (Some target) arms)) (Switch slot (Some target) arms) pc
+    leads : LeadsAhead (F pc (Switch slot (Some target) arms)) (J pc (Switch slot (Some target) arms)) (Switch slot (Some target) arms) pc
     leads = led pc (Switch slot (Some target) arms) is
 
     passes_on : Passes target
@@ -407,7 +407,7 @@ module _ (funs funs' : List CodeFun) (f q : CodeFun) (valid : IsValidFun funs f)
         let x = slice_index s' word in
         let e : slice_index s from_slot ≡ x = sym (same.same s s' w.memory agree hold) in
         let i : Instr = Switch from_slot other more in
-        let ways : Leads (F then i) (J then i) i then = led then i following in
+        let ways : LeadsAhead (F then i) (J then i) i then = led then i following in
         let near1 : Near v1 (switched (taken w)) = near_more v1 (taken w) (near_behind v1 w near) in
         let P : Option Fact → ℕ → Type 0 = λ told t. J then i told t × IsReached h (end h t) in
         let le : pc ≤ then = omega (arith, leads.0.0, passes_on.0) in
@@ -456,7 +456,7 @@ module _ (funs funs' : List CodeFun) (f q : CodeFun) (valid : IsValidFun funs f)
     abbrev pub turn : Instr
     turn = Switch slot other arms
 
-    ways : Leads (F pc turn) (J pc turn) turn pc
+    ways : LeadsAhead (F pc turn) (J pc turn) turn pc
     ways = led pc turn is
 
     abbrev pub P : Option Fact → ℕ → Type 0

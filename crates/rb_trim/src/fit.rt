@@ -2,7 +2,7 @@
 
 ghost use Rattle.std.specs.Prelude.{◌≡◌, ◌↔◌, ◌<◌, ◌≤◌, ◌+◌, ℕ, IsTrue, length, true};
 ghost use Rattle.rb_target.specs.Validity.{AreSlots, AreArms, IsTarget, SlotsFit, TargetsFit, EndsInReturn, dests, dest_count};
-ghost use Rattle.rb_trim.specs.inner.Moving.{AreApart, IsApart, KeepParams, KeepsParam};
+ghost use Rattle.rb_trim.specs.inner.Moving.{NumbersAreApart, IsApart, KeepParams, KeepsParam};
 ghost use Rattle.rb_trim.specs.inner.Stepping.{IsFit, IsRanged, FitsAt};
 
 use crate::hints::Hints;
@@ -185,7 +185,7 @@ fn is_apart(hints: &Hints, slot: usize) -> bool
 
 /// Whether no two slots that are read have the same new number.
 pub(crate) fn are_apart(hints: &Hints) -> bool
-    ensures { IsTrue result → AreApart hints.now }
+    ensures { IsTrue result → NumbersAreApart hints.now }
 {
     for slot in 0..hints.reads.len() {
         if !is_apart(hints, slot) {

@@ -1,7 +1,7 @@
 //! The instructions that stand for others, under new numbers.
 
 ghost use Rattle.std.specs.Prelude.{◌≡◌, ◌↔◌, IfOk, IsTrue, Contains, map, slice_index};
-ghost use Rattle.rb_trim.specs.inner.Moving.{dead_at, end, facts_at, moved_arm, place, landing, landing_in, IsReached, IsPlain, IsRead, IsDest, IsName, AreDests, AreNames, IsWrite, IsRemade, IsJumped, IsPut, IsMoved};
+ghost use Rattle.rb_trim.specs.inner.Moving.{dead_at, end, facts_at, moved_arm, place, landing, landing_in, IsReached, IsPlain, SlotIsRead, IsDest, IsName, AreDests, AreNames, IsWrite, IsRemade, IsJumped, IsPut, IsMoved};
 
 use crate::fact::{Content, Fact};
 use crate::hints::{Hints, RETURNS};
@@ -87,7 +87,7 @@ fn is_dead(hints: &Hints, pc: usize, slot: usize) -> bool
 // Whether a slot is read from an instruction on: it or a later line reads the slot, and it is not
 // known that no way comes to one that does.
 pub(crate) fn is_read(hints: &Hints, pc: usize, slot: usize) -> bool
-    ensures { IsTrue result ↔ IsRead hints.now pc slot }
+    ensures { IsTrue result ↔ SlotIsRead hints.now pc slot }
 {
     let read = read_at(hints, slot);
     pc < read && !is_dead(hints, pc, slot)

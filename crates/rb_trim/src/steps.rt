@@ -2,7 +2,7 @@
 
 ghost use Rattle.std.specs.Prelude.{◌≡◌, ◌⊎◌, ◌+◌, ◌<◌, ◌↔◌, ℕ, None, OnOk, IfOk, IsTrue, Contains, length, slice_get, All, IfSome};
 ghost use Rattle.rb_target.specs.declared.instr.SwitchArm.{SwitchArm as SwitchArmDecl};
-ghost use Rattle.rb_trim.specs.inner.Moving.{facts_at, dead_at, end, place, IsUnread, IsReached, IsPlain, IsIdle, IsLeftOut, LivesOn, GoesOn, FallsOn, JumpsOn, EndsWell, tells, IsSkipped, IsMerged, Stands};
+ghost use Rattle.rb_trim.specs.inner.Moving.{facts_at, dead_at, end, place, IsUnread, IsReached, IsPlain, IsIdle, IsLeftOut, LivesOn, GoesOn, FallsOn, JumpsOn, EndsWell, tells, IsSkipped, IsMerged, StandsFor};
 ghost use Rattle.rb_trim.specs.inner.Following.{IsLoaded, Sets};
 ghost use Rattle.rb_trim.specs.inner.Stepping.{JumpsOnAt, LivesAt, IsKnownOn, Steps, Walks};
 
@@ -332,7 +332,7 @@ fn stands_for(
     pc: usize,
     instr: &Instr,
 ) -> Result<Instr, Stop>
-    ensures { IfOk result (λ j. Stands hints.now body.now pc instr.now j) }
+    ensures { IfOk result (λ j. StandsFor hints.now body.now pc instr.now j) }
 {
     if !is_plain(hints, pc) {
         let new = merged(alloc, hints, body, pc, instr)?;

@@ -3,7 +3,7 @@
 ghost use Rattle.std.specs.Prelude.{◌≡◌, ◌↔◌, IfSome, IsTrue, Some, Contains};
 ghost use Rattle.rb_target.specs.declared.instr.Instr.TheVariants.{Put};
 ghost use Rattle.rb_trim.specs.inner.Facts.{Follows};
-ghost use Rattle.rb_trim.specs.inner.Following.{IsLaid, IsTold, IsToldBy, WritesTo, Changes, Keeps, Sets, FollowsOne, FollowsAt, HoldsBehind, made_of};
+ghost use Rattle.rb_trim.specs.inner.Following.{IsLaid, IsTold, IsToldBy, WritesTo, Changes, KeepsContent, Sets, FollowsOne, FollowsAt, HoldsBehind, made_of};
 ghost use Rattle.rb_trim.specs.inner.Moving.{tells as tells_of};
 
 use crate::fact::{Content, Fact};
@@ -178,7 +178,7 @@ fn changes(instr: &Instr) -> bool
 
 // Whether an instruction changes nothing that a content is told by.
 fn keeps_content(instr: &Instr, content: &Content) -> bool
-    ensures { IsTrue result → Keeps instr.now content.now }
+    ensures { IsTrue result → KeepsContent instr.now content.now }
 {
     match content {
         Content::Number(_) => true,

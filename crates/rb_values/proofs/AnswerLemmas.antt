@@ -9,9 +9,9 @@ use Rattle.rb_syntax.specs.Fronts.{front}
 use Rattle.rb_values.specs.declared.sign.Sign.{Sign}
 use Rattle.rb_values.specs.declared.fault.ValueFault.{ValueFault}
 use Rattle.rb_values.specs.declared.fault.ValueFault.TheVariants.{ValueSyntax, ValueTooLarge, ValueType, Memory}
-use Rattle.rb_values.specs.Terms.{Term, term_nodes, sign_of, signs, Spells}
+use Rattle.rb_values.specs.Terms.{Term, term_nodes, sign_of, signs, SpellsTerm}
 use Rattle.rb_values.specs.Fitting.{misfits, first, value_of}
-use Rattle.rb_values.specs.Reading.{Begins, StopsAt, token, refused, ended, Reads, IsRead}
+use Rattle.rb_values.specs.Reading.{Begins, StopsAt, token, refused, ended, SpellsValue, ValueIsRead}
 use Rattle.rb_values.specs.inner.States.{expecting, answer}
 use Rattle.rb_values.proofs.SpellingLemmas.{again}
 
@@ -25,7 +25,7 @@ some-term : (t u : Term) → Some t ≡ Some u → t ≡ u
 some-term t u e = cc
 
 -- a text spells one term
-one-term : (text : List ℕ) (t u : Term) → Spells text t → Spells text u → t ≡ u
+one-term : (text : List ℕ) (t u : Term) → SpellsTerm text t → SpellsTerm text u → t ≡ u
 one-term text t u h g = some-term t u (sym (again t) ∙ ap (answer (expecting [])) (sym h.1 ∙ g.1) ∙ again u)
 
 -- Where no value goes on ---------------------------------------------------------------------
@@ -44,10 +44,10 @@ cut-short before here behind all e b = (
       ∙ b.2,
 )
 
-whole-begins : (text : List ℕ) (t : Term) → Spells text t → Begins (signs (front text).tokens)
+whole-begins : (text : List ℕ) (t : Term) → SpellsTerm text t → Begins (signs (front text).tokens)
 whole-begins text t h = (t, [], append-nil (signs (front text).tokens) ∙ h.1)
 
-not-spelled : (text : List ℕ) (p : ℕ) (t : Term) → StopsAt text p → Spells text t → ⊥
+not-spelled : (text : List ℕ) (p : ℕ) (t : Term) → StopsAt text p → SpellsTerm text t → ⊥
 not-spelled text p t (token before here behind e at b stop) h = stop (cut-short before here behind (front text).tokens e (whole-begins text t h))
 not-spelled text p t (refused f b) h = not-none p (sym f ∙ h.0)
 not-spelled text p t (ended f l b w) h = w t h.1
@@ -93,19 +93,19 @@ one-place text p q (ended e l b v) (ended f k d w) = l ∙ sym k
 -- One answer -----------------------------------------------------------------------------------
 
 module _ (types : List DataDecl) (ty : Ty) (limit : ℕ) (text : List ℕ) where
-  not-large : (t u : Term) → Spells text t → Spells text u → term_nodes t ≤ limit → limit < term_nodes u → ⊥
+  not-large : (t u : Term) → SpellsTerm text t → SpellsTerm text u → term_nodes t ≤ limit → limit < term_nodes u → ⊥
   not-large t u h g w l = omega (arith, w, l, ap term_nodes (one-term text t u h g))
 
-  not-both : (t u : Term) (p : ℕ) → Spells text t → Spells text u → misfits types t ty ≡ [] → first (misfits types u ty) ≡ Some p → ⊥
+  not-both : (t u : Term) (p : ℕ) → SpellsTerm text t → SpellsTerm text u → misfits types t ty ≡ [] → first (misfits types u ty) ≡ Some p → ⊥
   not-both t u p h g f e = not-none p (sym e ∙ ap (λ (t : Term). first (misfits types t ty)) (one-term text u t g h) ∙ ap first f)
 
-  one-value : (v w : Value) → Reads types ty limit text v → Reads types ty limit text w → v ≡ w
+  one-value : (v w : Value) → SpellsValue types ty limit text v → SpellsValue types ty limit text w → v ≡ w
   one-value v w r s = r.value ∙ ap (λ (t : Term). value_of types t ty) (one-term text r.term s.term r.spells s.spells) ∙ sym s.value
 
-  one-misfit : (t u : Term) (p q : ℕ) → Spells text t → Spells text u → first (misfits types t ty) ≡ Some p → first (misfits types u ty) ≡ Some q → p ≡ q
+  one-misfit : (t u : Term) (p q : ℕ) → SpellsTerm text t → SpellsTerm text u → first (misfits types t ty) ≡ Some p → first (misfits types u ty) ≡ Some q → p ≡ q
   one-misfit t u p q h g e f = some-number p q (sym e ∙ ap (λ (t : Term). first (misfits types t ty)) (one-term text t u h g) ∙ f)
 
-  pub one-answer : (r s : Result Value ValueFault) → r ≢ Err Memory → s ≢ Err Memory → IsRead types ty limit text r → IsRead types ty limit text s → r ≡ s
+  pub one-answer : (r s : Result Value ValueFault) → r ≢ Err Memory → s ≢ Err Memory → ValueIsRead types ty limit text r → ValueIsRead types ty limit text s → r ≡ s
   one-answer (Err Memory) s x y h g = absurd (x refl)
   one-answer (Ok v) (Err Memory) x y h g = absurd (y refl)
   one-answer (Ok v) (Ok w) x y h g = ap (λ (v : Value). Ok v) (one-value v w h g)

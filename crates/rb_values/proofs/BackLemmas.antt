@@ -24,7 +24,7 @@ use Rattle.rb_values.specs.declared.sign.Sign.TheVariants as sign
 use Rattle.rb_values.specs.Terms.{Term, Terms, number, build, none, also, term_count, term_nodes, spelled, in_parens, others, signs}
 use Rattle.rb_values.specs.Fitting.{con_index, con_in, con_named, con_fields, misfits_of, misfits, misfits_each, con_number, or_none, value_of, values_of}
 use Rattle.rb_values.specs.Texts.{type_index, con_in as text_con_in, con_of, name_in, name_of, field_in, field_of, before, after_last, fields_text, text_step, text_of}
-use Rattle.rb_values.specs.Reading.{IsRead}
+use Rattle.rb_values.specs.Reading.{ValueIsRead}
 use Rattle.rb_values.specs.Laws.{AreDeclared, IsReadAs}
 use Rattle.rb_values.proofs.FittingLemmas.{as-many}
 use Rattle.rb_values.proofs.AnswerLemmas.{one-answer}
@@ -346,7 +346,7 @@ module _ (types : List DataDecl) where
     spelled-at = induction Claim number-spelled build-spelled
 
     module _ (ty : Ty) (limit : ℕ) (v : Value) (known : is_type types ty ≡ true) (typed : is_of_type types v ty ≡ true) (within : node_count v ≤ limit) where
-      read : IsRead types ty limit (text_of types v ty) (Ok v)
+      read : ValueIsRead types ty limit (text_of types v ty) (Ok v)
       read =
           let s : IsSpelled ty 0 v = spelled-at v ty known typed 0 in
           let text : List ℕ = text_of types v ty in

@@ -11,7 +11,7 @@ use Rattle.rb_core.specs.Typing.{holds}
 use Rattle.rb_core.specs.Values.{fields_of, all_of_types, are_of, is_of_type, node_count}
 use Rattle.rb_core.proofs.ValueLaws.{is_of_type-Num, is_of_type-Con, node_count-Num, node_count-Con}
 use Rattle.rb_values.specs.declared.fault.ValueFault.{ValueFault}
-use Rattle.rb_values.specs.Reading.{IsRead}
+use Rattle.rb_values.specs.Reading.{ValueIsRead}
 use Rattle.rb_values.specs.Terms.{Term, Terms, number, build, none, also, term_count, term_nodes, terms_nodes}
 use Rattle.rb_values.specs.Fitting.{con_index, con_in, con_named, con_fields, misfits_of, misfits, misfits_each, con_number, or_none, value_of, values_of}
 use Rattle.rb_values.proofs.PrintLemmas.{nodes-cons}
@@ -128,10 +128,10 @@ module _ (types : List DataDecl) where
   -- What is read is of its type, and has as many nodes as its text says ----------------------
 
   module _ (ty : Ty) (limit : ℕ) (text : List ℕ) where
-    pub read-of_type : (r : Result Value ValueFault) → IsRead types ty limit text r → IfOk r (λ (v : Value). is_of_type types v ty ≡ true)
+    pub read-of_type : (r : Result Value ValueFault) → ValueIsRead types ty limit text r → IfOk r (λ (v : Value). is_of_type types v ty ≡ true)
     read-of_type (Ok v) h = ap (λ (v : Value). is_of_type types v ty) h.value ∙ is-of_type h.term ty h.fits
     read-of_type (Err e) h = tt
 
-    pub read-within : (r : Result Value ValueFault) → IsRead types ty limit text r → IfOk r (λ (v : Value). node_count v ≤ limit)
+    pub read-within : (r : Result Value ValueFault) → ValueIsRead types ty limit text r → IfOk r (λ (v : Value). node_count v ≤ limit)
     read-within (Ok v) h = let n : node_count v ≡ term_nodes h.term = ap node_count h.value ∙ as-many h.term ty h.fits in omega (arith, n, h.within)
     read-within (Err e) h = tt

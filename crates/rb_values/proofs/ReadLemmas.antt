@@ -11,8 +11,8 @@ use Rattle.rb_values.specs.declared.fault.ValueFault.{ValueFault}
 use Rattle.rb_values.specs.declared.fault.ValueFault.TheVariants.{ValueSyntax, ValueTooLarge, ValueType, Memory}
 use Rattle.rb_values.specs.Terms.{Term, build, none, term_nodes, sign_of, signs}
 use Rattle.rb_values.specs.Fitting.{first}
-use Rattle.rb_values.specs.Reading.{StopsAt, token, refused, ended, IsRead}
-use Rattle.rb_values.specs.inner.States.{Wait, State, expecting, named, complete, step, end_of, term_of, Reached, outline_of, outlined, mode_whole}
+use Rattle.rb_values.specs.Reading.{StopsAt, token, refused, ended, ValueIsRead}
+use Rattle.rb_values.specs.inner.States.{Wait, State, expecting, named, complete, step, end_of, term_of, IsStateOf, outline_of, outlined, mode_whole}
 use Rattle.rb_values.specs.inner.Typing.{settled}
 use Rattle.rb_values.specs.inner.Finishing.{IsSettled, IsFinished}
 use Rattle.rb_values.proofs.SpellingLemmas.{begins, reached_first, reached_next, stops, is_part, is_whole, whole_same, nodes_whole}
@@ -67,7 +67,7 @@ module _ (text : List ℕ) where
   pub record At (at : ℕ) (seen : List Placed) (s : State) : Type 0 where
     pub tokens : (front text).tokens ≡ seen ++ (front_at text at).tokens
     pub fault : (front text).fault ≡ (front_at text at).fault
-    pub reached : Reached (signs seen) s
+    pub reached : IsStateOf (signs seen) s
 
   pub at-first : At 0 [] (expecting [])
   at-first =
@@ -94,7 +94,7 @@ module _ (text : List ℕ) where
     stops-fault p e = refused (h.fault ∙ ap (λ (f : Front). f.fault) e) (rw (all-seen (Some p) e) (begins (signs seen) s h.reached))
 
     pub read-whole : (types : List DataDecl) (ty : Ty) (limit : ℕ) (r : Result Value ValueFault) → front_at text at ≡ ends None
-        → IsFinished types ty limit s (length text) r → IsRead types ty limit text r
+        → IsFinished types ty limit s (length text) r → ValueIsRead types ty limit text r
     read-whole types ty limit (Ok v) e g =
         record { term = g.0; spells = (h.fault ∙ ap (λ (f : Front). f.fault) e, ap signs (all-seen None e) ∙ is_whole (signs seen) s g.0 h.reached g.1); within = g.2; fits = g.3; value = g.4 }
     read-whole types ty limit (Err (ValueSyntax p)) e g =

@@ -9,7 +9,7 @@ use Rattle.rb_values.specs.declared.outline.Mode.TheVariants as mode
 use Rattle.rb_values.specs.declared.outline.Outline.{Outline}
 use Rattle.rb_values.specs.Terms.{Term, Terms, number, build, none, also, spelled, in_parens, others, term_nodes, terms_nodes}
 use Rattle.rb_values.specs.Reading.{Begins}
-use Rattle.rb_values.specs.inner.States.{Wait, snoc, waits, longer, whole, State, expecting, named, complete, then_on, step, end_of, term_of, on, answer, each, shown_waits, shown, Reached, waits_nodes, outline_of, outlined, outline_behind, outline_on, outline_step, mode_whole}
+use Rattle.rb_values.specs.inner.States.{Wait, snoc, waits, longer, whole, State, expecting, named, complete, then_on, step, end_of, term_of, on, answer, each, shown_waits, shown, IsStateOf, waits_nodes, outline_of, outlined, outline_behind, outline_on, outline_step, mode_whole}
 
 -- what follows a value opens nothing
 abbrev Closes : List Sign → Type 0
@@ -138,7 +138,7 @@ ends (named at x os) = record { more = closes os; tree = wrapped (build at x non
 ends (complete v os) = record { more = closes os; tree = wrapped v os; spells = closing v os }
 
 -- what led to a state is the beginning of a value
-pub begins : (ss : List Sign) (s : State) → Reached ss s → Begins ss
+pub begins : (ss : List Sign) (s : State) → IsStateOf ss s → Begins ss
 begins ss s r = let e = ends s in (e.tree, e.more, sym (r.said e.more) ∙ e.spells)
 
 shown_end : (v w : Term) (os : List Wait) → end_of v os ≡ Some w → shown (complete v os) [] ≡ spelled w []
@@ -150,10 +150,10 @@ shown_whole (expecting os) v e = cc
 shown_whole (named at x os) v e = shown_end (build at x none) v os e
 shown_whole (complete w os) v e = shown_end w v os e
 
-pub reached_first : Reached [] (expecting [])
+pub reached_first : IsStateOf [] (expecting [])
 reached_first = record { said = λ rest. refl; same = λ rest. refl }
 
-pub reached_next : (ss : List Sign) (t : Sign) (s next : State) → Reached ss s → step s t ≡ Some next → Reached (ss ++ t ∷ []) next
+pub reached_next : (ss : List Sign) (t : Sign) (s next : State) → IsStateOf ss s → step s t ≡ Some next → IsStateOf (ss ++ t ∷ []) next
 reached_next ss t s next r e = record {
   said = λ (rest : List Sign). rw (append_assoc ss (t ∷ []) rest) (sym (rw e at (show_step s t rest)) ∙ r.said (t ∷ rest));
   same = λ (rest : List Sign). rw (append_assoc ss (t ∷ []) rest) (r.same (t ∷ rest) ∙ ap (λ (o : Option State). on o (λ s. answer s rest)) e);
@@ -163,20 +163,20 @@ some_not_none : (v : Term) → Some v ≡ None → ⊥
 some_not_none v e = cc
 
 -- no value goes on with a sign that leads nowhere
-pub stops : (ss : List Sign) (t : Sign) (s : State) → Reached ss s → step s t ≡ None → Begins (ss ++ t ∷ []) → ⊥
+pub stops : (ss : List Sign) (t : Sign) (s : State) → IsStateOf ss s → step s t ≡ None → Begins (ss ++ t ∷ []) → ⊥
 stops ss t s r e b =
     let v : Term = b.0 in
     let a : answer (expecting []) (ss ++ (t ∷ b.1)) ≡ Some v = ap (answer (expecting [])) (sym (append_assoc ss (t ∷ []) b.1) ∙ b.2) ∙ again v in
     some_not_none v (sym a ∙ r.same (t ∷ b.1) ∙ ap (λ (o : Option State). on o (λ s. answer s b.1)) e)
 
 -- nor is a value whole where its state is not
-pub is_part : (ss : List Sign) (s : State) → Reached ss s → term_of s ≡ None → (v : Term) → ss ≡ spelled v [] → ⊥
+pub is_part : (ss : List Sign) (s : State) → IsStateOf ss s → term_of s ≡ None → (v : Term) → ss ≡ spelled v [] → ⊥
 is_part ss s r e v same =
     let a : answer (expecting []) ss ≡ Some v = ap (answer (expecting [])) same ∙ again v in
     let b : answer (expecting []) ss ≡ term_of s = ap (answer (expecting [])) (sym (append-nil ss)) ∙ r.same [] in
     some_not_none v (sym a ∙ b ∙ e)
 
-pub is_whole : (ss : List Sign) (s : State) (v : Term) → Reached ss s → term_of s ≡ Some v → ss ≡ spelled v []
+pub is_whole : (ss : List Sign) (s : State) (v : Term) → IsStateOf ss s → term_of s ≡ Some v → ss ≡ spelled v []
 is_whole ss s v r e = sym (append-nil ss) ∙ sym (r.said []) ∙ shown_whole s v e
 
 -- The outline --------------------------------------------------------------------------------

@@ -8,7 +8,7 @@ use Rattle.rb_syntax.specs.Fronts.{front}
 use Rattle.rb_values.specs.declared.sign.Sign.{Sign}
 use Rattle.rb_values.specs.declared.fault.ValueFault.{ValueFault}
 use Rattle.rb_values.specs.declared.fault.ValueFault.TheVariants.{ValueSyntax, ValueTooLarge, ValueType, Memory}
-use Rattle.rb_values.specs.Terms.{Term, term_nodes, spelled, sign_of, signs, Spells}
+use Rattle.rb_values.specs.Terms.{Term, term_nodes, spelled, sign_of, signs, SpellsTerm}
 use Rattle.rb_values.specs.Fitting.{misfits, first, value_of}
 
 -- the spelling of some value begins with these signs, or is just these
@@ -28,19 +28,19 @@ pub data StopsAt (text : List ℕ) (p : ℕ) : Type 0 where
       → ((t : Term) → signs (front text).tokens ≡ spelled t [] → ⊥) → StopsAt text p
 
 -- the text spells a term of at most so many nodes, which fits the type, and v is the value that it names there
-pub record Reads (types : List DataDecl) (ty : Ty) (limit : ℕ) (text : List ℕ) (v : Value) : Type 0 where
+pub record SpellsValue (types : List DataDecl) (ty : Ty) (limit : ℕ) (text : List ℕ) (v : Value) : Type 0 where
   pub term : Term
-  pub spells : Spells text term
+  pub spells : SpellsTerm text term
   pub within : term_nodes term ≤ limit
   pub fits : misfits types term ty ≡ []
   pub value : v ≡ value_of types term ty
 
 -- what is read of a text at a type: a value; or the first of these: no value is spelled, it has too many nodes, it
 -- has a node that does not fit. Want of memory says nothing of it
-abbrev pub IsRead : List DataDecl → Ty → ℕ → List ℕ → Result Value ValueFault → Type 0
-IsRead types ty limit text (Ok v) = Reads types ty limit text v
-IsRead types ty limit text (Err (ValueSyntax p)) = StopsAt text p
-IsRead types ty limit text (Err ValueTooLarge) = (t : Term) × Spells text t × (limit < term_nodes t)
-IsRead types ty limit text (Err (ValueType p)) = (t : Term) × Spells text t × (term_nodes t ≤ limit)
+abbrev pub ValueIsRead : List DataDecl → Ty → ℕ → List ℕ → Result Value ValueFault → Type 0
+ValueIsRead types ty limit text (Ok v) = SpellsValue types ty limit text v
+ValueIsRead types ty limit text (Err (ValueSyntax p)) = StopsAt text p
+ValueIsRead types ty limit text (Err ValueTooLarge) = (t : Term) × SpellsTerm text t × (limit < term_nodes t)
+ValueIsRead types ty limit text (Err (ValueType p)) = (t : Term) × SpellsTerm text t × (term_nodes t ≤ limit)
     × (first (misfits types t ty) ≡ Some p)
-IsRead types ty limit text (Err Memory) = Unit {0}
+ValueIsRead types ty limit text (Err Memory) = Unit {0}

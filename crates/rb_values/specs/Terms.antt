@@ -96,5 +96,5 @@ abbrev pub signs : List Placed → List Sign
 signs ps = map sign_of ps
 
 -- the text has tokens, and they spell this term
-abbrev pub Spells : List ℕ → Term → Type 0
-Spells text t = ((front text).fault ≡ None) × (signs (front text).tokens ≡ spelled t [])
+abbrev pub SpellsTerm : List ℕ → Term → Type 0
+SpellsTerm text t = ((front text).fault ≡ None) × (signs (front text).tokens ≡ spelled t [])

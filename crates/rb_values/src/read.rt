@@ -2,9 +2,9 @@
 
 ghost use Rattle.std.specs.Prelude.{◌≡◌, ◌≤◌, true, IfOk, Some};
 ghost use Rattle.rb_core.specs.Values.{is_of_type, node_count};
-ghost use Rattle.rb_values.specs.Reading.{IsRead};
+ghost use Rattle.rb_values.specs.Reading.{ValueIsRead};
 ghost use Rattle.rb_values.specs.inner.States.{State, step, outline_of};
-ghost use Rattle.rb_values.specs.inner.Finishing.{IsKept, IsFinished};
+ghost use Rattle.rb_values.specs.inner.Finishing.{TypingIsKept, IsFinished};
 ghost use Rattle.rb_core.specs.declared.types.Ty.{Ty as Type_};
 
 use crate::fault::ValueFault;
@@ -27,7 +27,7 @@ fn go_on(
     limit: u64,
 ) -> Result<Option<Typing>, ValueFault>
     ensures { IfOk result (λ kept. (s next : State) → step s sign ≡ Some next → nodes ≡ (outline_of next).nodes
-        → IsKept types.now ty limit s typing → IsKept types.now ty limit next kept) }
+        → TypingIsKept types.now ty limit s typing → TypingIsKept types.now ty limit next kept) }
 {
     match typing {
         None => Ok(None),
@@ -50,7 +50,8 @@ fn finish(
     len: usize,
     limit: u64,
 ) -> Result<Forest, ValueFault>
-    ensures { (ty : Type_) (s : State) → outline ≡ outline_of s → IsKept types.now ty limit s typing
+    ensures { (ty : Type_) (s : State) → outline ≡ outline_of s
+        → TypingIsKept types.now ty limit s typing
         → IsFinished types.now ty limit s len result }
 {
     if !outline.is_whole() {
@@ -83,7 +84,7 @@ pub fn read_value(
     text: &[u8],
     limit: u64,
 ) -> Result<Forest, ValueFault>
-    ensures read { IsRead types.now ty limit text.now result }
+    ensures read { ValueIsRead types.now ty limit text.now result }
     ensures of_type { IfOk result (λ v. is_of_type types.now v ty ≡ true) }
     ensures within { IfOk result (λ v. node_count v ≤ limit) }
 {

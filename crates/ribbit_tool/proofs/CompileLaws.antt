@@ -22,12 +22,12 @@ use Rattle.rb_lines.specs.Lines.{count_line}
 use Rattle.rb_lines.specs.declared.status.Status.TheVariants.{Argument}
 use Rattle.rb_machine.specs.Runs.{params_in}
 use Rattle.rb_target.specs.Meaning.{run_of}
-use Rattle.ribbit_tool.specs.Answers.{Answers}
-use Rattle.ribbit_tool.specs.Compiling.{Compiles, CompilesFile}
+use Rattle.ribbit_tool.specs.Answers.{AnswersCommand}
+use Rattle.ribbit_tool.specs.Compiling.{CompilesProgram, CompilesFile}
 use Rattle.ribbit_tool.specs.Exec.{fun_named, named_due, outcome_due}
 use Rattle.ribbit_tool.specs.Headlines.{SaysCode, CompileHeadline}
 use Rattle.ribbit_tool.specs.Laws.{CompiledTextsRun}
-use Rattle.ribbit_tool.specs.Promise.{Counting, Gives, IsRight}
+use Rattle.ribbit_tool.specs.Promise.{Counting, GivesDue, IsRight}
 use Rattle.ribbit_tool.proofs.Executing.{executed_themselves}
 use Rattle.ribbit_tool.proofs.HeadlineLaws.{follows}
 use Rattle.ribbit_tool.proofs.Naming.{HaveNames, first_of_name}
@@ -36,9 +36,9 @@ use Rattle.ribbit_tool.proofs.Naming.{HaveNames, first_of_name}
 
 module _ (bytes : List ℕ) (p : Program) (a : IsAccepted bytes p) (out err : Change) (steps : Counting) (status : ℕ) where
   -- by another proof that the file is accepted
-  said_as : (q : Program) → p ≡ q → (due : Due) → Compiles q due → Gives due out err steps status → SaysCode p out err status
+  said_as : (q : Program) → p ≡ q → (due : Due) → CompilesProgram q due → GivesDue due out err steps status → SaysCode p out err status
   said_as q same due h given =
-      let g = subst (λ (d : Due). Gives d out err steps status) h.shown given in
+      let g = subst (λ (d : Due). GivesDue d out err steps status) h.shown given in
       record {
         agreed = h.agreed;
         laid = record { program = h.laid.program ∙ sym same; layouts = h.laid.layouts ∙ ap (λ (x : Program). flat_layouts x) (sym same) };
@@ -49,7 +49,7 @@ module _ (bytes : List ℕ) (p : Program) (a : IsAccepted bytes p) (out err : Ch
         no_line = g.shown.1;
       }
 
-  said : (due : Due) → CompilesFile bytes due → Gives due out err steps status → SaysCode p out err status
+  said : (due : Due) → CompilesFile bytes due → GivesDue due out err steps status → SaysCode p out err status
   said due (turned_down h) given = absurd (accepted_unrefused bytes p due a h)
   said due (accepted q b h) given = said_as q (one_program bytes p q a b) due h given
 
@@ -59,7 +59,7 @@ compile_headlined words source out err steps status r file written bytes gave p 
     let parsed : r.parsed ≡ Ok (compile file) = one_meaning words r.parsed (Ok (compile file)) r.meant written in
     let given = r.complete calm in
     let due = given.0 in
-    let owed : Answers (Ok (compile file)) (handed_out source) due = subst (λ (x : Parsed). Answers x (handed_out source) due) parsed given.1 in
+    let owed : AnswersCommand (Ok (compile file)) (handed_out source) due = subst (λ (x : Parsed). AnswersCommand x (handed_out source) due) parsed given.1 in
     said bytes p a out err steps status due (follows file bytes file_limit (λ bs d. CompilesFile bs d) (handed_out source) due gave owed) given.2
 
 -- What it writes ----------------------------------------------------------------------------

@@ -14,12 +14,12 @@ use Rattle.rb_target.specs.Meaning.{run_of}
 use Rattle.rb_target.specs.declared.code.CodeFun.{CodeFun}
 use Rattle.rb_target.specs.declared.outcome.End.{End}
 use Rattle.rb_target.specs.declared.outcome.Ran.{Ran}
-use Rattle.rb_target.specs.Refusals.{IsRefusal}
+use Rattle.rb_target.specs.Refusals.{IsCodeRefusal}
 use Rattle.rb_target.specs.declared.fault.CodeFault.{CodeFault}
 use Rattle.rb_target.specs.declared.fault.CodeFault.TheVariants.{CodeSyntax, BadSlot, BadJump, BadCall, Memory}
 use Rattle.ribbit_tool.specs.Exec.{Executes, faulty, no_code, end_due, outcome_due}
 
-pub fault_due : (name : List ℕ) (limits : Limits) (words bytes : List ℕ) (due : Due) (fault : CodeFault) → (fault ≡ Memory → ⊥) → IsRefusal bytes fault
+pub fault_due : (name : List ℕ) (limits : Limits) (words bytes : List ℕ) (due : Due) (fault : CodeFault) → (fault ≡ Memory → ⊥) → IsCodeRefusal bytes fault
     → due ≡ refusal Code (code_line fault) → Executes name limits words bytes due
 fault_due name limits words bytes due (CodeSyntax at) known stops e = no_code at stops e
 fault_due name limits words bytes due (BadSlot n pc) known (funs, text, first) e = faulty funs text (BadSlot n pc) first e

@@ -1,7 +1,7 @@
 -- The text of valid code is executed as just that code.
 use Rattle.std.proofs.Common.{List, refl, sym, ap, ◌∙◌, subst}
 use Rattle.rb_target.specs.declared.code.CodeFun.{CodeFun}
-use Rattle.rb_target.specs.Faults.{Stands}
+use Rattle.rb_target.specs.Faults.{FaultStands}
 use Rattle.rb_target.specs.Stopping.{IsTextOf}
 use Rattle.rb_target.specs.Text.{code_text}
 use Rattle.rb_target.specs.Validity.{IsValid}
@@ -20,6 +20,6 @@ executed_themselves funs valid name limits words due (executed other right is d)
     (one_text other funs (text_of_valid (code_text funs) other right is).spelled (own_text funs valid).spelled (sym is))
 executed_themselves funs valid name limits words due (faulty other text fault first d) =
     let same = one_text other funs text.spelled (own_text funs valid).spelled (sym text.is) in
-    absurd (not_valid funs fault (subst (λ (f : List CodeFun). Stands f fault) same first.stands) valid)
+    absurd (not_valid funs fault (subst (λ (f : List CodeFun). FaultStands f fault) same first.stands) valid)
 executed_themselves funs valid name limits words due (no_code at stops d) =
     absurd (none_whole (code_text funs) at funs stops (own_text funs valid))

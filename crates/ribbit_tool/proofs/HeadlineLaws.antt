@@ -19,10 +19,10 @@ use Rattle.rb_lines.specs.Answer.{Due}
 use Rattle.rb_lines.specs.Delivery.{Change}
 use Rattle.rb_rel.specs.Answers as answer
 use Rattle.rb_target.specs.declared.code.CodeFun.{CodeFun}
-use Rattle.ribbit_tool.specs.Answers.{Answers}
+use Rattle.ribbit_tool.specs.Answers.{AnswersCommand}
 use Rattle.ribbit_tool.specs.Compiling.{IsCompiled, IsLaidOut}
-use Rattle.ribbit_tool.specs.Headline.{Says, OfCalls, Headline}
-use Rattle.ribbit_tool.specs.Promise.{Counting, Gives, IsRight}
+use Rattle.ribbit_tool.specs.Headline.{SaysAnswer, OfCalls, Headline}
+use Rattle.ribbit_tool.specs.Promise.{Counting, GivesDue, IsRight}
 use Rattle.ribbit_tool.specs.Run.{Runs, answer_due, source_answer, value_line, Prepares, PreparesFile, prepared, misfit}
 
 -- Accepted files are prepared ---------------------------------------------------------------
@@ -77,17 +77,17 @@ follows file bytes limit Then readings due gave (within part later is short h) =
 
 module _ (command : List ℕ → Limits → List (List ℕ) → Command) (Then : Limits → LaidOut → List CodeFun → List Value → Due → Type 0)
     (Promised : Program → List Value → Limits → Change → Change → ℕ → Type 0)
-    (reads : (file : List ℕ) (limits : Limits) (values : List (List ℕ)) (readings : List Reading) (due : Due) → Answers (Ok (command file limits values)) readings due
+    (reads : (file : List ℕ) (limits : Limits) (values : List (List ℕ)) (readings : List Reading) (due : Due) → AnswersCommand (Ok (command file limits values)) readings due
     → ReadsOne file file_limit (λ bs d. PreparesFile values bs (Then limits) d) readings due)
     (says : (p : Program) (args : List Value) (limits : Limits) (due : Due) → Ready (Then limits) p args due
-    → (out err : Change) (steps : Counting) (status : ℕ) → Gives due out err steps status → Promised p args limits out err status) where
+    → (out err : Change) (steps : Counting) (status : ℕ) → GivesDue due out err steps status → Promised p args limits out err status) where
   pub of_calls : (words : List (List ℕ)) (source : Source) (out err : Change) (steps : Counting) (status : ℕ) → IsRight words source out err steps status
       → OfCalls command Promised words source out err status
   of_calls words source out err steps status r file limits values written bytes gave p a args spelled calm =
       let parsed : r.parsed ≡ Ok (command file limits values) = one_meaning words r.parsed (Ok (command file limits values)) r.meant written in
       let given = r.complete calm in
       let due = given.0 in
-      let owed : Answers (Ok (command file limits values)) (handed_out source) due = subst (λ (x : Parsed). Answers x (handed_out source) due) parsed given.1 in
+      let owed : AnswersCommand (Ok (command file limits values)) (handed_out source) due = subst (λ (x : Parsed). AnswersCommand x (handed_out source) due) parsed given.1 in
       let prepares = follows file bytes file_limit (λ bs d. PreparesFile values bs (Then limits) d) (handed_out source) due gave
       (reads file limits values (handed_out source) due owed) in
       says p args limits due (ready_as (Then limits) values bytes p a args spelled due prepares) out err steps status given.2
@@ -95,7 +95,7 @@ module _ (command : List ℕ → Limits → List (List ℕ) → Command) (Then :
 -- The command `run` -------------------------------------------------------------------------
 
 module _ (shown : Value → List ℕ) (limits : Limits) (out err : Change) (steps : Counting) (status : ℕ) where
-  pub says : (s : answer.Answer) (n : ℕ) → Gives (answer_due shown limits.calls s n) out err steps status → Says shown limits s out err status
+  pub says : (s : answer.Answer) (n : ℕ) → GivesDue (answer_due shown limits.calls s n) out err steps status → SaysAnswer shown limits s out err status
   says (answer.Shown v) n g = (g.status_is, g.shown.0, g.shown.1)
   says answer.Spent n g = (g.status_is, g.shown.0, g.shown.1)
   says (answer.Full f) n g = (g.status_is, g.shown.0, g.shown.1)
@@ -105,14 +105,14 @@ abbrev Answered : Limits → LaidOut → List CodeFun → List Value → Due →
 Answered limits agreed code args due = Runs agreed code args limits due
 
 run_says : (p : Program) (args : List Value) (limits : Limits) (due : Due) → Ready (Answered limits) p args due
-    → (out err : Change) (steps : Counting) (status : ℕ) → Gives due out err steps status → Says (value_line p) limits (source_answer p (flat_layouts p) limits args) out err status
+    → (out err : Change) (steps : Counting) (status : ℕ) → GivesDue due out err steps status → SaysAnswer (value_line p) limits (source_answer p (flat_layouts p) limits args) out err status
 run_says p args limits due r out err steps status g =
     let n = r.follows.taken in
     let is = r.follows.shown ∙ ap (λ (x : Program). answer_due (value_line x) limits.calls (source_answer x r.agreed.layouts limits args) n) r.laid.program
     ∙ ap (λ (ls : List Layout). answer_due (value_line p) limits.calls (source_answer p ls limits args) n) r.laid.layouts in
-    says (value_line p) limits out err steps status (source_answer p (flat_layouts p) limits args) n (subst (λ (d : Due). Gives d out err steps status) is g)
+    says (value_line p) limits out err steps status (source_answer p (flat_layouts p) limits args) n (subst (λ (d : Due). GivesDue d out err steps status) is g)
 
 pub headlined : (words : List (List ℕ)) (source : Source) (out err : Change) (steps : Counting) (status : ℕ) → IsRight words source out err steps status
     → Headline words source out err status
-headlined = of_calls run Answered (λ p args limits out err status. Says (value_line p) limits (source_answer p (flat_layouts p) limits args) out err status)
+headlined = of_calls run Answered (λ p args limits out err status. SaysAnswer (value_line p) limits (source_answer p (flat_layouts p) limits args) out err status)
     (λ file limits values readings due h. h) run_says

@@ -26,13 +26,13 @@ use Rattle.rb_rel.specs.Relation.{IsCleanlyRepresented}
 use Rattle.rb_run.specs.Calling.{IsCalled, end_over}
 use Rattle.rb_target.specs.declared.code.CodeFun.{CodeFun}
 use Rattle.rb_target.specs.declared.outcome.End.{End}
-use Rattle.ribbit_tool.specs.Answers.{Answers}
+use Rattle.ribbit_tool.specs.Answers.{AnswersCommand}
 use Rattle.ribbit_tool.specs.Count.{Counts, IsMainTally, count_text}
 use Rattle.ribbit_tool.specs.Exec.{end_due}
 use Rattle.ribbit_tool.specs.Generate.{generated}
 use Rattle.ribbit_tool.specs.Headlines.{SaysImage, ImageHeadline, SaysCount, CountHeadline, GenerateHeadline}
 use Rattle.ribbit_tool.specs.Image.{Images, IsImageOf, ShowWhole}
-use Rattle.ribbit_tool.specs.Promise.{Counting, Gives, IsRight}
+use Rattle.ribbit_tool.specs.Promise.{Counting, GivesDue, IsRight}
 use Rattle.ribbit_tool.specs.Run.{answer_due, laid_all, source_answer, unbounded, whole_answer}
 use Rattle.ribbit_tool.proofs.HeadlineLaws.{Ready, ready_as, of_calls, says}
 
@@ -78,7 +78,7 @@ abbrev Imaged : Limits → LaidOut → List CodeFun → List Value → Due → T
 Imaged limits agreed code args due = Images agreed code args limits due
 
 image_says : (p : Program) (args : List Value) (limits : Limits) (due : Due) → Ready (Imaged limits) p args due
-    → (out err : Change) (steps : Counting) (status : ℕ) → Gives due out err steps status → SaysImage p args limits out err status
+    → (out err : Change) (steps : Counting) (status : ℕ) → GivesDue due out err steps status → SaysImage p args limits out err status
 image_says p args limits due r out err steps status g =
     let i = r.follows in
     let shown : Value → List ℕ = λ v. image_text (memory_image i.words i.memory) in
@@ -88,7 +88,7 @@ image_says p args limits due r out err steps status g =
       words = i.words;
       memory = i.memory;
       show = is.0;
-      says = says shown limits out err steps status (whole_answer p (flat_layouts p) limits args) i.taken (subst (λ (d : Due). Gives d out err steps status) is.1 g);
+      says = says shown limits out err steps status (whole_answer p (flat_layouts p) limits args) i.taken (subst (λ (d : Due). GivesDue d out err steps status) is.1 g);
     }
 
 pub image_headlined : (words : List (List ℕ)) (source : Source) (out err : Change) (steps : Counting) (status : ℕ) → IsRight words source out err steps status
@@ -101,7 +101,7 @@ abbrev Counted : Limits → LaidOut → List CodeFun → List Value → Due → 
 Counted limits agreed code args due = Counts agreed code args limits due
 
 count_says : (p : Program) (args : List Value) (limits : Limits) (due : Due) → Ready (Counted limits) p args due
-    → (out err : Change) (steps : Counting) (status : ℕ) → Gives due out err steps status → SaysCount p args limits out err status
+    → (out err : Change) (steps : Counting) (status : ℕ) → GivesDue due out err steps status → SaysCount p args limits out err status
 count_says p args limits due r out err steps status g =
     let i = r.follows in
     let Is : Program → List Layout → Type 0 = λ q ls. IsMainTally q ls limits args i.tally × (due ≡ answer_due (count_text q i.tally) limits.calls (source_answer q ls limits args) i.taken) in
@@ -110,7 +110,7 @@ count_says p args limits due r out err steps status g =
       tally = i.tally;
       tallied = is.0;
       done = record { agreed = r.agreed; laid = r.laid; code = r.code; compiled = r.compiled; steps = i.taken; counted = i.counted };
-      says = says (count_text p i.tally) limits out err steps status (source_answer p (flat_layouts p) limits args) i.taken (subst (λ (d : Due). Gives d out err steps status) is.1 g);
+      says = says (count_text p i.tally) limits out err steps status (source_answer p (flat_layouts p) limits args) i.taken (subst (λ (d : Due). GivesDue d out err steps status) is.1 g);
     }
 
 pub count_headlined : (words : List (List ℕ)) (source : Source) (out err : Change) (steps : Counting) (status : ℕ) → IsRight words source out err steps status
@@ -125,11 +125,11 @@ generate_headlined words source out err steps status r = record {
   text = λ functions written calm.
       let parsed : r.parsed ≡ Ok (gen functions) = one_meaning words r.parsed (Ok (gen functions)) r.meant written in
       let given = r.complete calm in
-      let is : given.0 ≡ printed (generated functions) 0 = subst (λ (x : Parsed). Answers x (handed_out source) given.0) parsed given.1 in
-      let g = subst (λ (d : Due). Gives d out err steps status) is given.2 in (g.status_is, g.shown.0, g.shown.1);
+      let is : given.0 ≡ printed (generated functions) 0 = subst (λ (x : Parsed). AnswersCommand x (handed_out source) given.0) parsed given.1 in
+      let g = subst (λ (d : Due). GivesDue d out err steps status) is given.2 in (g.status_is, g.shown.0, g.shown.1);
   counts = λ functions limits written p a args spelled calm.
       let parsed : r.parsed ≡ Ok (genrun functions limits) = one_meaning words r.parsed (Ok (genrun functions limits)) r.meant written in
       let given = r.complete calm in
-      let owed : Answers (Ok (genrun functions limits)) (handed_out source) given.0 = subst (λ (x : Parsed). Answers x (handed_out source) given.0) parsed given.1 in
+      let owed : AnswersCommand (Ok (genrun functions limits)) (handed_out source) given.0 = subst (λ (x : Parsed). AnswersCommand x (handed_out source) given.0) parsed given.1 in
       count_says p args limits given.0 (ready_as (Counted limits) [] (generated functions) p a args spelled given.0 owed) out err steps status given.2;
 }

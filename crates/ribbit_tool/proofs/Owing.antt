@@ -7,10 +7,10 @@ use Rattle.rb_accept.proofs.OpeningLaws.{opened_due, opens_whatever}
 use Rattle.rb_command.specs.Command.{Command}
 use Rattle.rb_edge.specs.History.{Reading}
 use Rattle.rb_lines.specs.Answer.{Due}
-use Rattle.ribbit_tool.specs.Answers.{Answers, Owes, answered}
+use Rattle.ribbit_tool.specs.Answers.{AnswersCommand, Owes, answered}
 
 module _ (command : Command) (file : List ℕ) (limit : ℕ) (Then : List ℕ → Due → Type 0)
-    (reads : (readings : List Reading) (due : Due) → ReadsOne file limit Then readings due → Answers (Ok command) readings due)
+    (reads : (readings : List Reading) (due : Due) → ReadsOne file limit Then readings due → AnswersCommand (Ok command) readings due)
     (readings : List Reading) (due : Due) where
   pub owes_read : (bytes : List ℕ) → readings ≡ whole file bytes ∷ [] → length bytes ≤ limit → Then bytes due → Owes (Ok command) readings due
   owes_read bytes is short h = answered (reads readings due (within bytes [] is short (refl, h)))
@@ -19,7 +19,7 @@ module _ (command : Command) (file : List ℕ) (limit : ℕ) (Then : List ℕ �
   owes_unread h = answered (reads readings due (unread h))
 
 module _ (command : Command) (file image : List ℕ) (Then : Following)
-    (opens : (readings : List Reading) (due : Due) → Opens file image Then readings due → Answers (Ok command) readings due)
+    (opens : (readings : List Reading) (due : Due) → Opens file image Then readings due → AnswersCommand (Ok command) readings due)
     (readings : List Reading) (due : Due) where
   pub owes_stopped : Opens file image (λ p i d. ⊥) readings due → Owes (Ok command) readings due
   owes_stopped h = answered (opens readings due (opens_whatever file image Then readings due h))

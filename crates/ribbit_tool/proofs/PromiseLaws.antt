@@ -9,7 +9,7 @@ use Rattle.rb_lines.specs.Delivery.{Change, Stood, Delivers, output, output_fail
 use Rattle.rb_lines.specs.Numbers.{status_number}
 use Rattle.rb_lines.specs.declared.status.Status.{Status}
 use Rattle.rb_lines.specs.declared.status.Status.TheVariants as status
-use Rattle.ribbit_tool.specs.Answers.{Answers, Owes, answered, out_of_memory, files_of}
+use Rattle.ribbit_tool.specs.Answers.{AnswersCommand, Owes, answered, out_of_memory, files_of}
 use Rattle.ribbit_tool.specs.Headline.{GivesHeld}
 use Rattle.ribbit_tool.specs.Promise.{Counting, Shows, GivesAnswer, Performs, IsCalm, IsCutOff, IsMissing, IsRight}
 use Rattle.ribbit_tool.proofs.ReadFaults.{fault_of, IsHeld, held_of}
@@ -34,7 +34,7 @@ is_named status.Image = (λ e. omega (arith, e), λ e. omega (arith, e))
 module _ (words : List (List ℕ)) (source : Source) (out err : Change) (steps : Counting) (status : ℕ) where
   -- what is owed is the answer, unless memory ran out
   data Kind (parsed : Parsed) (due : Due) : Type 0 where
-    right : Answers parsed (handed_out source) due → Kind parsed due
+    right : AnswersCommand parsed (handed_out source) due → Kind parsed due
     ran_out : status_of due ≡ 9 → Kind parsed due
 
   kind_of : (parsed : Parsed) (due : Due) → Owes parsed (handed_out source) due → Kind parsed due
@@ -71,7 +71,7 @@ module _ (words : List (List ℕ)) (source : Source) (out err : Change) (steps :
     status_is no_8 = elim (delivery_of due r.delivers) [ cut_off is h ↦ absurd (no_8 is) | delivered is shown ↦ is ]
 
     -- what is owed is the answer to what was read
-    the_answer : status ≢ 8 → status ≢ 9 → Answers parsed (handed_out source) due
+    the_answer : status ≢ 8 → status ≢ 9 → AnswersCommand parsed (handed_out source) due
     the_answer no_8 no_9 = elim (kind_of parsed due r.owes) [ right h ↦ h | ran_out e ↦ absurd (no_9 (status_is no_8 ∙ e)) ]
 
     the_right : status ≢ 8 → status ≢ 9 → GivesAnswer parsed source out err steps status

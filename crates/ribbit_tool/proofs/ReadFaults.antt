@@ -12,7 +12,7 @@ use Rattle.rb_edge.specs.History.{Reading, going, failed}
 use Rattle.rb_edge.specs.Whole.{Begins}
 use Rattle.rb_image_text.specs.declared.image.Image.{Image}
 use Rattle.rb_lines.specs.Answer.{Due, status_of}
-use Rattle.ribbit_tool.specs.Answers.{Answers, files_of}
+use Rattle.ribbit_tool.specs.Answers.{AnswersCommand, files_of}
 use Rattle.ribbit_tool.specs.Check.{ChecksFile}
 use Rattle.ribbit_tool.specs.Compiling.{CompilesFile}
 use Rattle.ribbit_tool.specs.Count.{CountsFile}
@@ -110,7 +110,7 @@ module _ (source : Source) where
 
   -- Each command ----------------------------------------------------------------------------
 
-  pub fault_of : (parsed : Parsed) (due : Due) → AreInTurn source (files_of parsed) rs → Answers parsed rs due → status_of due ≡ 7
+  pub fault_of : (parsed : Parsed) (due : Due) → AreInTurn source (files_of parsed) rs → AnswersCommand parsed rs due → status_of due ≡ 7
       → Rose source.before source.now ⊎ IsMissing source
   fault_of (Ok (check file)) due turn h seven = one_missing file file_limit (λ bs d. ChecksFile bs d) due turn (λ bs k. checks_other bs due k) h seven
   fault_of (Ok (layout file)) due turn h seven = one_missing file file_limit (λ bs d. LaysOutFile bs d) due turn (λ bs k. lays_out_other bs due k) h seven
@@ -135,7 +135,7 @@ module _ (source : Source) where
   IsHeld ((name, limit) ∷ []) = (bytes : List ℕ) → IsTrue source.tells → source.held name ≡ Some bytes → length bytes ≤ limit
       → (Rose source.before source.now → ⊥) → Gave source name bytes
 
-  pub held_of : (parsed : Parsed) (due : Due) → AreInTurn source (files_of parsed) rs → Answers parsed rs due → IsHeld (files_of parsed)
+  pub held_of : (parsed : Parsed) (due : Due) → AreInTurn source (files_of parsed) rs → AnswersCommand parsed rs due → IsHeld (files_of parsed)
   held_of (Ok (check file)) due turn h = one_held file file_limit (λ bs d. ChecksFile bs d) due turn h
   held_of (Ok (layout file)) due turn h = one_held file file_limit (λ bs d. LaysOutFile bs d) due turn h
   held_of (Ok (compile file)) due turn h = one_held file file_limit (λ bs d. CompilesFile bs d) due turn h

@@ -34,25 +34,27 @@ files_of (Err word) = []
 
 -- what is due to the words of a command line over what was read: what is due to the command that they are, or the
 -- line of their first word at fault where they are none
-abbrev pub Answers : Parsed → List Reading → Due → Type 0
-Answers (Ok (check file)) readings due = ReadsOne file file_limit (λ bytes d. ChecksFile bytes d) readings due
-Answers (Ok (layout file)) readings due = ReadsOne file file_limit (λ bytes d. LaysOutFile bytes d) readings due
-Answers (Ok (compile file)) readings due = ReadsOne file file_limit (λ bytes d. CompilesFile bytes d) readings due
-Answers (Ok (run file limits values)) readings due =
+abbrev pub AnswersCommand : Parsed → List Reading → Due → Type 0
+AnswersCommand (Ok (check file)) readings due = ReadsOne file file_limit (λ bytes d. ChecksFile bytes d) readings due
+AnswersCommand (Ok (layout file)) readings due =
+    ReadsOne file file_limit (λ bytes d. LaysOutFile bytes d) readings due
+AnswersCommand (Ok (compile file)) readings due =
+    ReadsOne file file_limit (λ bytes d. CompilesFile bytes d) readings due
+AnswersCommand (Ok (run file limits values)) readings due =
     ReadsOne file file_limit (λ bytes d. RunsFile limits values bytes d) readings due
-Answers (Ok (image file limits values)) readings due =
+AnswersCommand (Ok (image file limits values)) readings due =
     ReadsOne file file_limit (λ bytes d. ImagesFile limits values bytes d) readings due
-Answers (Ok (count file limits values)) readings due =
+AnswersCommand (Ok (count file limits values)) readings due =
     ReadsOne file file_limit (λ bytes d. CountsFile limits values bytes d) readings due
-Answers (Ok (gen functions)) readings due = Generates functions due
-Answers (Ok (genrun functions limits)) readings due = CountsGenerated functions limits due
-Answers (Ok (exec code function limits words)) readings due =
+AnswersCommand (Ok (gen functions)) readings due = Generates functions due
+AnswersCommand (Ok (genrun functions limits)) readings due = CountsGenerated functions limits due
+AnswersCommand (Ok (exec code function limits words)) readings due =
     ReadsOne code code_limit (λ bytes d. Executes function limits words bytes d) readings due
-Answers (Ok (value file second)) readings due = ReadsValue file second readings due
-Answers (Ok (peek file second path)) readings due = PeeksValue file second path readings due
-Answers (Err word) readings due = due ≡ refusal Usage (usage_line word)
+AnswersCommand (Ok (value file second)) readings due = ReadsValue file second readings due
+AnswersCommand (Ok (peek file second path)) readings due = PeeksValue file second path readings due
+AnswersCommand (Err word) readings due = due ≡ refusal Usage (usage_line word)
 
 -- what is owed over what was read: the answer, or memory ran out
 pub data Owes (parsed : Parsed) (readings : List Reading) (due : Due) : Type 0 where
-  answered : Answers parsed readings due → Owes parsed readings due
+  answered : AnswersCommand parsed readings due → Owes parsed readings due
   out_of_memory : due ≡ refusal NoMemory no_memory_line → Owes parsed readings due

@@ -24,7 +24,7 @@ pub record IsCompiled (agreed : LaidOut) (code : List CodeFun) : Type 0 where
   pub thrifty : IsThrifty (plan_of agreed) code
 
 -- what is due to `compile` of an accepted program: the text of some code that does what it means, with few switches
-pub record Compiles (p : Program) (due : Due) : Type 0 where
+pub record CompilesProgram (p : Program) (due : Due) : Type 0 where
   pub agreed : LaidOut
   pub laid : IsLaidOut p agreed
   pub code : List CodeFun
@@ -33,4 +33,4 @@ pub record Compiles (p : Program) (due : Due) : Type 0 where
 
 -- what is due to `compile` of a file within the limit, by its bytes: its refusal, or the text of code for its program
 abbrev pub CompilesFile : List ℕ → Due → Type 0
-CompilesFile bytes due = Accepts bytes (λ p a d. Compiles p d) due
+CompilesFile bytes due = Accepts bytes (λ p a d. CompilesProgram p d) due

@@ -13,7 +13,7 @@ use Rattle.rb_target.specs.declared.fault.CodeFault.{CodeFault}
 use Rattle.rb_target.specs.declared.fault.CodeFault.TheVariants.{CodeSyntax}
 use Rattle.rb_target.specs.declared.outcome.End.{End}
 use Rattle.rb_target.specs.declared.outcome.End.TheVariants.{Returned, Spent, Full, Trapped}
-use Rattle.rb_target.specs.Faults.{IsFirstFault}
+use Rattle.rb_target.specs.Faults.{IsFirstCodeFault}
 use Rattle.rb_target.specs.Meaning.{Outcome, run_of}
 use Rattle.rb_target.specs.Stopping.{IsTextOf, StopsAt}
 use Rattle.rb_target.specs.Text.{code_text}
@@ -57,7 +57,7 @@ exec_due funs name limits words = named_due funs name limits words (fun_named fu
 pub data Executes (name : List ℕ) (limits : Limits) (words : List ℕ) (bytes : List ℕ) (due : Due) : Type 0 where
   executed : (funs : List CodeFun) → IsValid funs → bytes ≡ code_text funs → due ≡ exec_due funs name limits words
       → Executes name limits words bytes due
-  faulty : (funs : List CodeFun) → IsTextOf bytes funs → (fault : CodeFault) → IsFirstFault funs fault
+  faulty : (funs : List CodeFun) → IsTextOf bytes funs → (fault : CodeFault) → IsFirstCodeFault funs fault
       → due ≡ refusal status.Code (code_line fault) → Executes name limits words bytes due
   no_code : (at : ℕ) → StopsAt bytes at → due ≡ refusal status.Code (code_line (CodeSyntax at))
       → Executes name limits words bytes due

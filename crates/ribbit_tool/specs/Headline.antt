@@ -22,13 +22,13 @@ use Rattle.ribbit_tool.specs.Promise.{IsCalm}
 use Rattle.ribbit_tool.specs.Run.{value_line}
 
 -- the status and the very text of the source's answer, by what is shown of its value
-abbrev pub Says : (Value → List ℕ) → Limits → answer.Answer → Change → Change → ℕ → Type 0
-Says shown limits (answer.Shown v) out err status = (status ≡ 0) × Took out (shown v) × Took err []
-Says shown limits answer.Spent out err status =
+abbrev pub SaysAnswer : (Value → List ℕ) → Limits → answer.Answer → Change → Change → ℕ → Type 0
+SaysAnswer shown limits (answer.Shown v) out err status = (status ≡ 0) × Took out (shown v) × Took err []
+SaysAnswer shown limits answer.Spent out err status =
     (status ≡ status_number Spent) × Took out [] × Took err (spent_line limits.calls)
-Says shown limits (answer.Full f) out err status =
+SaysAnswer shown limits (answer.Full f) out err status =
     (status ≡ status_number Full) × Took out [] × Took err (full_line f)
-Says shown limits answer.TooLarge out err status =
+SaysAnswer shown limits answer.TooLarge out err status =
     (status ≡ status_number TooLarge) × Took out [] × Took err (large_line node_limit)
 
 -- What is promised of a command that calls `main`, where the file gave bytes that are accepted, its values
@@ -45,7 +45,8 @@ OfCalls command Promised words source out err status =
 -- what is promised of `run`: the source's value or the limit that it passes first, as it is said
 abbrev pub Headline : List (List ℕ) → Source → Change → Change → ℕ → Type 0
 Headline = OfCalls run (λ p args limits out err status.
-    Says (value_line p) limits (answer_of p (flat_layouts p) args limits.calls limits.region node_limit) out err status)
+    SaysAnswer (value_line p) limits
+    (answer_of p (flat_layouts p) args limits.calls limits.region node_limit) out err status)
 
 -- Where a source tells that it holds a file within its limit under the one name that a command reads, that
 -- file gave the bytes that are held, if nothing failed.

@@ -19,7 +19,7 @@ use Rattle.rb_target.specs.declared.code.CodeFun.{CodeFun}
 use Rattle.ribbit_tool.specs.Compiling.{IsCompiled, IsLaidOut}
 use Rattle.ribbit_tool.specs.Count.{IsMainTally, count_text}
 use Rattle.ribbit_tool.specs.Generate.{generated}
-use Rattle.ribbit_tool.specs.Headline.{OfCalls, Says}
+use Rattle.ribbit_tool.specs.Headline.{OfCalls, SaysAnswer}
 use Rattle.ribbit_tool.specs.Image.{ShowWhole}
 use Rattle.ribbit_tool.specs.Promise.{IsCalm}
 use Rattle.ribbit_tool.specs.Run.{source_answer, whole_answer}
@@ -53,7 +53,8 @@ pub record SaysImage (p : Program) (args : List Value) (limits : Limits) (out er
   pub words : List ℕ
   pub memory : Memory
   pub show : ShowWhole p (flat_layouts p) limits args words memory
-  pub says : Says (λ v. image_text (memory_image words memory)) limits (whole_answer p (flat_layouts p) limits args)
+  pub says : SaysAnswer (λ v. image_text (memory_image words memory)) limits
+      (whole_answer p (flat_layouts p) limits args)
       out err status
 
 -- what is promised of `image`: an image of the source's value, or the limit that the source passes first
@@ -77,7 +78,7 @@ pub record SaysCount (p : Program) (args : List Value) (limits : Limits) (out er
   pub tally : Tally
   pub tallied : IsMainTally p (flat_layouts p) limits args tally
   pub done : AreSwitches p args limits tally.switches
-  pub says : Says (count_text p tally) limits (source_answer p (flat_layouts p) limits args) out err status
+  pub says : SaysAnswer (count_text p tally) limits (source_answer p (flat_layouts p) limits args) out err status
 
 -- what is promised of `count`: the source's value and what the run did, or the limit that the source passes first
 abbrev pub CountHeadline : List (List ℕ) → Source → Change → Change → ℕ → Type 0

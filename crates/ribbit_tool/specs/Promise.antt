@@ -4,12 +4,12 @@ use Rattle.rb_accept.specs.Reading.{Source, handed_out, ReadsInTurn}
 use Rattle.rb_command.specs.Command.{Parsed, IsParsed}
 use Rattle.rb_edge.specs.Faults.{Rose}
 use Rattle.rb_edge.specs.History.{Reading, missed}
-use Rattle.rb_lines.specs.Answer.{Due, printed, refused, status_of, steps_of, text_of}
+use Rattle.rb_lines.specs.Answer.{Due, printed, refused, status_of, steps_of, text_of_due}
 use Rattle.rb_lines.specs.Delivery.{Change, Took, CutOff, Tried, Stood, Delivers}
 use Rattle.rb_lines.specs.Lines.{write_fault_line}
 use Rattle.rb_lines.specs.Numbers.{status_number}
 use Rattle.rb_lines.specs.declared.status.Status.TheVariants.{NoMemory, Unread}
-use Rattle.ribbit_tool.specs.Answers.{Answers, Owes, files_of}
+use Rattle.ribbit_tool.specs.Answers.{AnswersCommand, Owes, files_of}
 
 -- how many steps were counted before and after a call
 pub record Counting : Type 0 where
@@ -22,7 +22,7 @@ Shows (printed text steps) out err = Took out text × Took err []
 Shows (refused status line steps) out err = Took out [] × Took err line
 
 -- the sinks took the text of what is due, the status is its own, and the steps are its own
-pub record Gives (due : Due) (out err : Change) (steps : Counting) (status : ℕ) : Type 0 where
+pub record GivesDue (due : Due) (out err : Change) (steps : Counting) (status : ℕ) : Type 0 where
   pub status_is : status ≡ status_of due
   pub shown : Shows due out err
   pub counted : steps.now ≡ steps.before + steps_of due
@@ -30,7 +30,7 @@ pub record Gives (due : Due) (out err : Change) (steps : Counting) (status : ℕ
 -- the right answer was given to what was read
 abbrev pub GivesAnswer : Parsed → Source → Change → Change → Counting → ℕ → Type 0
 GivesAnswer parsed source out err steps status =
-    (due : Due) × Answers parsed (handed_out source) due × Gives due out err steps status
+    (due : Due) × AnswersCommand parsed (handed_out source) due × GivesDue due out err steps status
 
 -- What was due, and how it was delivered. Where memory ran out, nothing is said of the steps.
 pub record Performs (words : List (List ℕ)) (source : Source) (out err : Change) (steps : Counting)
@@ -51,8 +51,8 @@ IsCalm out err status = Stood out × Stood err × (status ≢ status_number NoMe
 -- output at any other status. Each took a front of its text, and then no more.
 abbrev pub IsCutOff : Due → Change → Change → Type 0
 IsCutOff due out err =
-    ((status_of due ≡ 0) × CutOff out (text_of due) × Tried err write_fault_line)
-    ⊎ ((status_of due ≢ 0) × Took out [] × CutOff err (text_of due))
+    ((status_of due ≡ 0) × CutOff out (text_of_due due) × Tried err write_fault_line)
+    ⊎ ((status_of due ≢ 0) × Took out [] × CutOff err (text_of_due due))
 
 -- The source tells that nothing is held under the name that was to be opened last.
 pub record IsMissing (source : Source) : Type 0 where

@@ -8,7 +8,7 @@ use Rattle.rb_core.specs.declared.types.Ty.{Ty}
 use Rattle.rb_core.specs.declared.value.Value.{Value}
 use Rattle.rb_edge.specs.History.{Reading}
 use Rattle.rb_image.specs.Falling.{RootDescends}
-use Rattle.rb_image.specs.Roots.{IsFirstFault}
+use Rattle.rb_image.specs.Roots.{IsFirstImageFault}
 use Rattle.rb_image_text.specs.declared.fault.ImageFault.{ImageFault}
 use Rattle.rb_image_text.specs.declared.image.Image.{Image}
 use Rattle.rb_layout.specs.Flattening.{flat_layouts}
@@ -27,7 +27,7 @@ pub data ReadsBack (p : Program) (ty : Ty) (image : Image) (due : Due) : Type 0 
       → due ≡ printed (ended (text_of p.types v ty)) 0 → ReadsBack p ty image due
   large : (v : Value) → RootDescends p image ty v → node_limit < node_count v
       → due ≡ refusal TooLarge (large_line node_limit) → ReadsBack p ty image due
-  unsound : (fault : ImageFault) → IsFirstFault p.types (flat_layouts p) image ty fault → due ≡ image_due fault
+  unsound : (fault : ImageFault) → IsFirstImageFault p.types (flat_layouts p) image ty fault → due ≡ image_due fault
       → ReadsBack p ty image due
 
 -- what is due to `value` of FILE and IMAGE over what was read: a refusal of either, or the value that IMAGE holds of

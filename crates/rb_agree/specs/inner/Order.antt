@@ -11,5 +11,5 @@ abbrev pub RowFalls : List ℕ → ℕ → List ℕ → Type 0
 RowFalls ranks t row = (k s : ℕ) → slice_get row k ≡ Some s → rank_of ranks s < rank_of ranks t
 
 -- each edge of a graph leads from a number to one of lower rank
-abbrev pub Falls : List (List ℕ) → List ℕ → Type 0
-Falls graph ranks = (t s : ℕ) → Leads graph t s → rank_of ranks s < rank_of ranks t
+abbrev pub RanksFall : List (List ℕ) → List ℕ → Type 0
+RanksFall graph ranks = (t s : ℕ) → Leads graph t s → rank_of ranks s < rank_of ranks t

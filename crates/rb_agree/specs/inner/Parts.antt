@@ -86,8 +86,8 @@ module _ (opens : List Open) where
       × IsSet p × IsSet q × FailsPair i p q why
 
   -- no part of a word overlaps another, where the paths of both, if they have any, are open
-  abbrev pub AreApart : List Written → Type 0
-  AreApart parts = (k : ℕ) → IsApartBefore parts k
+  abbrev pub PartsAreApart : List Written → Type 0
+  PartsAreApart parts = (k : ℕ) → IsApartBefore parts k
 
   -- some part of item i overlaps an earlier one, and `why` names their bits, as `FailsBefore` says of each part
   abbrev pub FailsApart : ℕ → List Written → Why → Type 0

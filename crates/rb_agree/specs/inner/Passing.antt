@@ -7,7 +7,7 @@ use Rattle.rb_layout.specs.declared.layout.Layout.{Layout}
 use Rattle.rb_layout.specs.declared.layout.Leaf.{Leaf}
 use Rattle.rb_layout.specs.declared.layout.FlatArm.{FlatArm}
 use Rattle.rb_layout.specs.Splits.{Test, Is, IsNone, Route}
-use Rattle.rb_layout.specs.A7.{Meets, MeetsAll}
+use Rattle.rb_layout.specs.A7.{MeetsTest, MeetsAll}
 use Rattle.rb_agree.specs.declared.passing.Asking.{Asking}
 use Rattle.rb_agree.specs.declared.passing.Span.{Span}
 use Rattle.rb_agree.specs.inner.Alike.{AreAlike}
@@ -33,43 +33,43 @@ abbrev pub IsOff : List Bool → ℕ → Type 0
 IsOff marks n = slice_get marks n ≡ Some false
 
 -- from `old` to `new`, marks are put on, and none is put off
-abbrev pub Keeps : List Bool → List Bool → Type 0
-Keeps old new = (n : ℕ) → IsOff new n → IsOff old n
+abbrev pub KeepsMarks : List Bool → List Bool → Type 0
+KeepsMarks old new = (n : ℕ) → IsOff new n → IsOff old n
 
 -- leaf n is one of a span
 abbrev pub IsAmong : Span → ℕ → Type 0
 IsAmong span n = (span.first ≤ n) × (n < span.end)
 
 -- the span `whole` has all leaves of the other span
-abbrev pub Covers : Span → Span → Type 0
-Covers whole span = (whole.first ≤ span.first) × (span.end ≤ whole.end)
+abbrev pub CoversSpan : Span → Span → Type 0
+CoversSpan whole span = (whole.first ≤ span.first) × (span.end ≤ whole.end)
 
 module _ (types : List DataDecl) (layouts : List Layout) (leaves : List Leaf) where
   -- leaf n meets the test where its mark is off
   abbrev pub MeetsWhereOff : List Bool → ℕ → Test → Type 0
   MeetsWhereOff marks n test =
-      IsOff marks n → (leaf : Leaf) → slice_get leaves n ≡ Some leaf → Meets types layouts leaf test
+      IsOff marks n → (leaf : Leaf) → slice_get leaves n ≡ Some leaf → MeetsTest types layouts leaf test
 
   -- the leaf with this number, if there are such a number and leaf, meets the test
   abbrev pub IsPrior : Test → Option ℕ → Type 0
   IsPrior test None = Unit {0}
-  IsPrior test (Some n) = (leaf : Leaf) → slice_get leaves n ≡ Some leaf → Meets types layouts leaf test
+  IsPrior test (Some n) = (leaf : Leaf) → slice_get leaves n ≡ Some leaf → MeetsTest types layouts leaf test
 
   -- leaf n was asked a test: marks were only put on, and where its mark is off still, it meets the test
   pub record IsAsked (test : Test) (n : ℕ) (old new : List Bool) : Type 0 where
-    pub keeps : Keeps old new
+    pub keeps : KeepsMarks old new
     pub meets : MeetsWhereOff new n test
 
   -- the leaves of a span were asked a test: marks were only put on, and those whose mark is off still meet the test
   pub record AreAsked (test : Test) (span : Span) (old new : List Bool) : Type 0 where
-    pub keeps : Keeps old new
+    pub keeps : KeepsMarks old new
     pub meet : (n : ℕ) → IsAmong span n → MeetsWhereOff new n test
 
   -- these ways were walked: they lead to leaves of the span; marks were only put on, and a leaf whose mark is off
   -- still meets each test on a way to it
   pub record AreWalked (routes : List Route) (span : Span) (old new : List Bool) : Type 0 where
     pub among : EachOf (λ (r : Route). IsAmong span r.leaf) routes
-    pub keeps : Keeps old new
+    pub keeps : KeepsMarks old new
     pub meet : EachOf (λ (r : Route). EachOf (MeetsWhereOff new r.leaf) r.tests) routes
 
 -- a number is given, and the leaf with it is alike, at a location, to this leaf

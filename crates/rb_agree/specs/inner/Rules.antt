@@ -95,9 +95,9 @@ refusal rule t leaf None = None
 refusal rule t leaf (Some why) = Some (record { rule = rule; ty = t; leaf = leaf; why = why })
 
 -- a rule may be checked: that on tests where all leaves can be read, and any other always
-abbrev pub IsReady : List Layout → Rule → Type 0
-IsReady layouts Tests = EachLeaf layouts (λ t layout n leaf. IsReadable leaf)
-IsReady layouts rule = Unit {0}
+abbrev pub RuleIsReady : List Layout → Rule → Type 0
+RuleIsReady layouts Tests = EachLeaf layouts (λ t layout n leaf. IsReadable leaf)
+RuleIsReady layouts rule = Unit {0}
 
 -- these are the layouts of a typed program, one for each type, and `related` says how they are related
 pub record IsKnown (p : Program) (layouts : List Layout) (related : Related) : Type 0 where

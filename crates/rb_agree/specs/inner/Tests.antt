@@ -10,7 +10,7 @@ use Rattle.rb_layout.specs.declared.layout.FlatTree.{FlatTree}
 use Rattle.rb_layout.specs.declared.layout.FlatArm.{FlatArm}
 use Rattle.rb_layout.specs.declared.evidence.Why.{Why}
 use Rattle.rb_layout.specs.Splits.{Test, IsNone, Route, behind, arm_routes, routes_of, routes_under}
-use Rattle.rb_layout.specs.A7.{FailsTest, Meets}
+use Rattle.rb_layout.specs.A7.{FailsTest, MeetsTest}
 use Rattle.rb_agree.specs.declared.tests.Below.{Below}
 use Rattle.rb_agree.specs.declared.tests.Below.TheVariants.{Absent, Passes, Fails}
 use Rattle.rb_agree.specs.inner.Lists.{EachOf, SomeOf}
@@ -45,31 +45,31 @@ module _ (types : List DataDecl) (layouts : List Layout) (leaf : Leaf) where
   IsAfter t Absent b = b ≡ Absent
   IsAfter t (Fails why) b = b ≡ Fails why
   IsAfter t Passes Absent = ⊥
-  IsAfter t Passes Passes = Meets types layouts leaf t
+  IsAfter t Passes Passes = MeetsTest types layouts leaf t
   IsAfter t Passes (Fails why) = FailsTest types layouts leaf t why
 
 module _ (types : List DataDecl) (layouts : List Layout) (leaf : Leaf) (n : ℕ) where
   -- a way leads to leaf n
-  abbrev pub Leads : Route → Type 0
-  Leads r = r.leaf ≡ n
+  abbrev pub LeadsToLeaf : Route → Type 0
+  LeadsToLeaf r = r.leaf ≡ n
 
   -- a way does not lead to leaf n
   abbrev pub Misses : Route → Type 0
-  Misses r = Leads r → ⊥
+  Misses r = LeadsToLeaf r → ⊥
 
   -- leaf n passes each test on a way, if that leads to it
   abbrev pub PassesRoute : Route → Type 0
-  PassesRoute r = Leads r → EachOf (Meets types layouts leaf) r.tests
+  PassesRoute r = LeadsToLeaf r → EachOf (MeetsTest types layouts leaf) r.tests
 
   -- a way leads to leaf n, which fails a test on it as `why` says
   abbrev pub FailsRoute : Why → Route → Type 0
-  FailsRoute why r = Leads r × SomeOf (λ (t : Test). FailsTest types layouts leaf t why) r.tests
+  FailsRoute why r = LeadsToLeaf r × SomeOf (λ (t : Test). FailsTest types layouts leaf t why) r.tests
 
   -- what is known of the leaf on these ways: none leads to it; or one does, and it passes the tests on each
   -- that does; or it fails one so
   abbrev pub IsBelow : List Route → Below → Type 0
   IsBelow routes Absent = EachOf Misses routes
-  IsBelow routes Passes = SomeOf Leads routes × EachOf PassesRoute routes
+  IsBelow routes Passes = SomeOf LeadsToLeaf routes × EachOf PassesRoute routes
   IsBelow routes (Fails why) = SomeOf (FailsRoute why) routes
 
 -- a number is known, and a literal of at most so many bits is another one

@@ -10,18 +10,18 @@ use Rattle.rb_rel.specs.Reading.{read_loc}
 use Rattle.rb_rel.proofs.Trees.{LiteralsDistinct}
 
 -- this number is read at a location, by loads of widths that a memory has
-pub record Reads (ws : List ℕ) (m : Memory) (loc : Loc) (n : ℕ) : Type 0 where
+pub record ReadsNumber (ws : List ℕ) (m : Memory) (loc : Loc) (n : ℕ) : Type 0 where
   pub is_read : read_loc ws m loc ≡ Some n
   pub widths : (k : ℕ) (s : Step) → slice_get loc.steps k ≡ Some s → IsWidth s.width
 
 -- a test passes on root words and a memory: the number at its location is the literal, or none of the literals
 abbrev pub Passes : List ℕ → Memory → Test → Type 0
-Passes ws m (Is loc c) = Reads ws m loc c
-Passes ws m (IsNone loc literals) = (n : ℕ) × Reads ws m loc n × (IsLiteral literals n → ⊥)
+Passes ws m (Is loc c) = ReadsNumber ws m loc c
+Passes ws m (IsNone loc literals) = (n : ℕ) × ReadsNumber ws m loc n × (IsLiteral literals n → ⊥)
 
 -- the tests of some route of the tree to this leaf pass on root words and a memory; no split of the tree has two arms
 -- of one literal
-pub record Leads (ws : List ℕ) (m : Memory) (tree : FlatTree) (leaf : ℕ) : Type 0 where
+pub record RouteLeads (ws : List ℕ) (m : Memory) (tree : FlatTree) (leaf : ℕ) : Type 0 where
   pub distinct : LiteralsDistinct (splits_of tree)
   pub number : ℕ
   pub route : Route

@@ -14,9 +14,10 @@ use Rattle.rb_coding.specs.inner.Filling.{ArePlaceable, IsMade}
 
 -- a value can be made at a type: at an integer type it is a number, and at a data type it has
 -- a leaf, whose blocks can be placed
-abbrev pub IsReady : List Layout → Ty → Value → Type 0
-IsReady layouts (Int bits) v = (n : ℕ) × (v ≡ Num n)
-IsReady layouts (Named t) v = (leaf : Leaf) × (leaf_in (layout_of layouts t) v ≡ Some leaf) × ArePlaceable leaf.blocks
+abbrev pub ValueIsReady : List Layout → Ty → Value → Type 0
+ValueIsReady layouts (Int bits) v = (n : ℕ) × (v ≡ Num n)
+ValueIsReady layouts (Named t) v =
+    (leaf : Leaf) × (leaf_in (layout_of layouts t) v ≡ Some leaf) × ArePlaceable leaf.blocks
 
 -- what making a number may come to: the number is its only word, and the memory stays; there is no block that could
 -- not fit, and want of memory says nothing

@@ -23,7 +23,7 @@ use Rattle.rb_fragment.specs.Arms.{AreShared, Arm, ArmsIn}
 use Rattle.rb_fragment.specs.Holding.{AreGiven, Holds, scope_of}
 use Rattle.rb_fragment.specs.Plan.{Plan, Rep, words_of}
 use Rattle.rb_fragment.specs.Slots.{AllBelow}
-use Rattle.rb_fetch.specs.Fetching.{IsSound}
+use Rattle.rb_fetch.specs.Fetching.{PlanIsSound}
 use Rattle.rb_match.specs.Bounding.{binding_bound}
 use Rattle.rb_compile.specs.inner.Ready.{SitesAreReady}
 
@@ -62,7 +62,7 @@ clause_scope plan c ls s = scope_of ls ++ binders plan.program.types c.pat s
 -- typed, and the matches within it are ready
 pub record ClauseIsReady (plan : Plan) (f : ℕ) (c : Clause) (wanted : Option Ty) (ls : List Local)
     (s t : Ty) : Type 0 where
-  pub sound : IsSound plan
+  pub sound : PlanIsSound plan
   pub typed : type_of plan.program.types plan.program.funs c.body wanted (clause_scope plan c ls s) ≡ Ok t
   pub pattern : PatternIsTyped plan.program.types s c.pat
   pub within : List ℕ

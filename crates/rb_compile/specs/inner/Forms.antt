@@ -19,7 +19,7 @@ use Rattle.rb_fragment.specs.Slots.{slots_from}
 use Rattle.rb_fragment.specs.Fragments.{Emits, EmitsAll}
 use Rattle.rb_fragment.specs.Holding.{AreGiven, scope_of}
 use Rattle.rb_fetch.specs.Choosing.{AreAsShown}
-use Rattle.rb_compile.specs.inner.Ready.{IsReady, AreReady}
+use Rattle.rb_compile.specs.inner.Ready.{ExprIsReady, AreReady}
 use Rattle.rb_compile.specs.inner.Shown.{shown_of}
 
 -- what an expression of function f does within its variables
@@ -29,7 +29,7 @@ meant plan f e wanted locals calls left env = meaning_of plan.program calls f e 
 -- where the expression is ready, the appended code leaves its value in the slots that are answered
 abbrev pub EmitsExpr : Plan → ℕ → Expr → Option Ty → List Local → Sheet → Sheet → Held → Type 0
 EmitsExpr plan f e wanted locals old new held =
-    (t : Ty) → IsReady plan f e wanted locals old.slots t
+    (t : Ty) → ExprIsReady plan f e wanted locals old.slots t
     → (held.ty ≡ t) × Emits plan (meant plan f e wanted locals) locals old new t held.slots
 
 -- where some expressions are ready, the appended code leaves the values of the first n of them in the slots that are

@@ -8,13 +8,13 @@ use Rattle.rb_target.specs.declared.code.CodeFun.{CodeFun}
 use Rattle.rb_target.specs.Validity.{IsLower}
 use Rattle.rb_fragment.specs.Plan.{Plan}
 use Rattle.rb_fragment.specs.Functions.{Compiles, param_words}
-use Rattle.rb_fetch.specs.Fetching.{IsSound}
+use Rattle.rb_fetch.specs.Fetching.{PlanIsSound}
 use Rattle.rb_compile.specs.inner.Ready.{SitesAreReady}
 
 -- function number g is as in a program that was accepted: its body is typed and numbered, its matches are ready, its
 -- parameters have few words, and its name is spelled as one
 pub record FunIsReady (plan : Plan) (g : ℕ) (f : Fun) : Type 0 where
-  pub sound : IsSound plan
+  pub sound : PlanIsSound plan
   pub typed : type_of plan.program.types plan.program.funs f.body (Some f.result) (map binder_of f.params) ≡ Ok f.result
   pub within : List ℕ
   pub numbered : expression_is_numbered plan.program.types plan.program.funs f.body within ≡ true

@@ -11,7 +11,7 @@ use Rattle.rb_core.specs.WellNumbered.{expression_is_numbered}
 use Rattle.rb_fragment.specs.declared.held.Local.{Local}
 use Rattle.rb_fragment.specs.Plan.{Plan}
 use Rattle.rb_fragment.specs.Holding.{AreGiven, scope_of}
-use Rattle.rb_fetch.specs.Fetching.{IsSound}
+use Rattle.rb_fetch.specs.Fetching.{PlanIsSound}
 use Rattle.rb_match.specs.Bounding.{bound_of}
 
 -- a match of function f is exhaustive, and the plan pays for its switches
@@ -30,9 +30,9 @@ SitesAreReady plan f ss = (s : Site) → IsAmong s ss → SiteIsReady plan f s
 
 -- An expression of function f has a type where this one is wanted, its numbers name something, its matches
 -- are ready, and its variables have slots below n.
-pub record IsReady (plan : Plan) (f : ℕ) (e : Expr) (wanted : Option Ty) (locals : List Local) (n : ℕ)
+pub record ExprIsReady (plan : Plan) (f : ℕ) (e : Expr) (wanted : Option Ty) (locals : List Local) (n : ℕ)
     (t : Ty) : Type 0 where
-  pub sound : IsSound plan
+  pub sound : PlanIsSound plan
   pub typed : type_of plan.program.types plan.program.funs e wanted (scope_of locals) ≡ Ok t
   pub within : List ℕ
   pub numbered : expression_is_numbered plan.program.types plan.program.funs e within ≡ true
@@ -43,4 +43,4 @@ pub record IsReady (plan : Plan) (f : ℕ) (e : Expr) (wanted : Option Ty) (loca
 abbrev pub AreReady : Plan → ℕ → List Expr → List Ty → List Local → ℕ → Type 0
 AreReady plan f es ts locals n =
     (i : ℕ) (e : Expr) → slice_get es i ≡ Some e
-    → (t : Ty) × (slice_get ts i ≡ Some t) × IsReady plan f e (Some t) locals n t
+    → (t : Ty) × (slice_get ts i ≡ Some t) × ExprIsReady plan f e (Some t) locals n t

@@ -20,11 +20,11 @@ use Rattle.rb_fragment.specs.declared.held.Held.{Held}
 use Rattle.rb_fragment.specs.declared.held.Local.{Local}
 use Rattle.rb_fragment.specs.Adding.{CallsWell, IsWrittenFrom}
 use Rattle.rb_fragment.specs.Holding.{Holds}
-use Rattle.rb_fragment.specs.Owing.{Does, Gives, Related}
+use Rattle.rb_fragment.specs.Owing.{Does, GivesValue, Related}
 use Rattle.rb_fragment.specs.Plan.{Plan, Rep, words_of}
 use Rattle.rb_fragment.specs.Slots.{AllFrom}
 use Rattle.rb_match.specs.Bounding.{binding_bound}
-use Rattle.rb_compile.specs.inner.Ready.{IsReady}
+use Rattle.rb_compile.specs.inner.Ready.{ExprIsReady}
 use Rattle.rb_compile.specs.inner.Forms.{meant}
 use Rattle.rb_compile.specs.inner.Arms.{ClauseIsReady, GroundIsReady, clause_scope}
 
@@ -67,7 +67,7 @@ pub record Tail (plan : Plan) (clean : Bool) (calls : Calls) (extra : ℕ) (old 
       → AgreesBut final new.code (length old.code) (length new.code) Nowhere
       → (s : List ℕ) (w : World) → new.slots ≤ length s → IsGood w.memory → Pre s w.memory
       → Does plan (w.switches + extra) (next (length old.code) s w) w.memory (o w.left)
-      (Gives plan clean t (next (length old.code) s w))
+      (GivesValue plan clean t (next (length old.code) s w))
 
 -- the appended code returns what ev gives
 pub record EmitsTail (plan : Plan) (ev : Calls → ℕ → List Binding → Outcome) (locals : List Local)
@@ -79,7 +79,8 @@ pub record EmitsTail (plan : Plan) (ev : Calls → ℕ → List Binding → Outc
 -- where the expression is ready at type t, the appended code returns its value
 abbrev pub EmitsReturn : Plan → ℕ → Expr → Ty → List Local → Sheet → Sheet → Type 0
 EmitsReturn plan f e t locals old new =
-    IsReady plan f e (Some t) locals old.slots t → EmitsTail plan (meant plan f e (Some t) locals) locals old new t
+    ExprIsReady plan f e (Some t) locals old.slots t
+    → EmitsTail plan (meant plan f e (Some t) locals) locals old new t
 
 -- Arms
 

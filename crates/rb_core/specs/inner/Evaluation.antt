@@ -13,13 +13,13 @@ use Rattle.rb_core.specs.declared.outcome.SourceEnd.{SourceEnd}
 use Rattle.rb_core.specs.declared.environment.Frame.{Frame}
 use Rattle.rb_core.specs.declared.eval.Context.{Context}
 use Rattle.rb_core.specs.Meaning.{call_within, meaning_of, clause_meaning, first_of}
-use Rattle.rb_core.specs.Outcomes.{Gives}
+use Rattle.rb_core.specs.Outcomes.{GivesOutcome}
 
 -- an expression, evaluated in a context c with the variables of a frame f, has this end, and makes the log
 -- `old` the log `new`, as its meaning has it
 abbrev pub EndsAs : Context → Frame → Expr → List Event → List Event → SourceEnd → Type 0
 EndsAs c f e old new end = (k : ℕ) → c.calls ≤ k
-    → Gives (meaning_of c.program.now (call_within c.program.now k) f.fun e c.wanted f.scope c.calls f.values)
+    → GivesOutcome (meaning_of c.program.now (call_within c.program.now k) f.fun e c.wanted f.scope c.calls f.values)
     old new end
 
 -- the first of the clauses cs that matches the value v of type t, evaluated in a context c with the variables
@@ -28,6 +28,6 @@ EndsAs c f e old new end = (k : ℕ) → c.calls ≤ k
 abbrev pub EndsAsFirst :
     Context → Frame → Ty → List Clause → Option Ty → Value → List Event → List Event → SourceEnd → Type 0
 EndsAsFirst c f t cs others v old new end = (k : ℕ) → c.calls ≤ k
-    → Gives (first_of c.program.now.types t
+    → GivesOutcome (first_of c.program.now.types t
     (map (clause_meaning c.program.now (call_within c.program.now k) f.fun) cs)
     c.wanted others f.scope v c.calls f.values) old new end

@@ -42,7 +42,7 @@ abbrev pub number_at : Sharing → List ℕ → Option ℕ
 number_at s key = lookup (λ k. bytes_eq key k.items) s.numbers.entries
 
 -- nodes whose links are lower numbers; each node's number is kept for its key, and no other key has a number
-pub record IsFine (s : Sharing) : Type 0 where
+pub record SharingIsFine (s : Sharing) : Type 0 where
   pub lower : LinksAreLower s.nodes
   pub known : (i : ℕ) (n : GraphNode) → slice_get s.nodes i ≡ Some n → number_at s (node_key n) ≡ Some i
   pub sound : (key : List ℕ) (i : ℕ) → number_at s key ≡ Some i
@@ -62,14 +62,14 @@ AddsReached old new IsEnd = (k : ℕ) → length old.nodes ≤ k → k < length 
 
 -- after a step node n has number i, and no other node was added
 pub record IsAdded (old new : Sharing) (n : GraphNode) (i : ℕ) : Type 0 where
-  pub fine : IsFine new
+  pub fine : SharingIsFine new
   pub grown : Grows old new
   pub there : slice_get new.nodes i ≡ Some n
   pub alone : (k : ℕ) → length old.nodes ≤ k → k < length new.nodes → k ≡ i
 
 -- after a step node i unfolds to tree t, and each node that was added is this one, or some node links to it
 pub record IsShared (t : Tree) (old new : Sharing) (i : ℕ) : Type 0 where
-  pub fine : IsFine new
+  pub fine : SharingIsFine new
   pub grown : Grows old new
   pub there : slice_get (node_trees new.nodes) i ≡ Some t
   pub reached : AddsReached old new (λ k. k ≡ i)
@@ -85,7 +85,7 @@ Linked trees (a ∷ as') (l ∷ ls) = (l.head ≡ a.head) × (slice_get trees l.
 -- after a step `ls` stand for these arms of a tree, and each node that was added is one to which they link, or some
 -- node links to it
 pub record AreShared (arms : List TreeArm) (old new : Sharing) (ls : List GraphArm) : Type 0 where
-  pub fine : IsFine new
+  pub fine : SharingIsFine new
   pub grown : Grows old new
   pub there : Linked (node_trees new.nodes) arms ls
   pub reached : AddsReached old new (λ k. IsAmong k (map arm_link ls))
@@ -101,7 +101,7 @@ OtherLinked trees (Some t) (Some i) = slice_get trees i ≡ Some t
 -- after a step the tree for values that no arm takes, if there is one, has the number that its link says, and each
 -- node that was added is this one, or some node links to it
 pub record IsOtherShared (other : Option Tree) (old new : Sharing) (link : Option ℕ) : Type 0 where
-  pub fine : IsFine new
+  pub fine : SharingIsFine new
   pub grown : Grows old new
   pub there : OtherLinked (node_trees new.nodes) other link
   pub reached : AddsReached old new (λ k. IsAmong k (other_link link))

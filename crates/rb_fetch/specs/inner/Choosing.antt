@@ -95,8 +95,8 @@ HasOpens opens path xs = (k : ℕ) (o : Open) → slice_get opens k ≡ Some o �
 -- Leaves -------------------------------------------------------------------------------------
 
 -- type t has a leaf n, and its provenance has constructor k at its root
-abbrev pub HasRoot : List Layout → ℕ → ℕ → ℕ → Type 0
-HasRoot layouts t n k = (leaf : Leaf) × (leaf_at layouts t n ≡ Some leaf) × (is_leaf_for k leaf ≡ true)
+abbrev pub HasRootCon : List Layout → ℕ → ℕ → ℕ → Type 0
+HasRootCon layouts t n k = (leaf : Leaf) × (leaf_at layouts t n ≡ Some leaf) × (is_leaf_for k leaf ≡ true)
 
 -- type t has a layout, with `count` leaves
 abbrev pub HasLeaves : List Layout → ℕ → ℕ → Type 0
@@ -184,7 +184,7 @@ abbrev pub AreWaysOf : Plan → Layout → ℕ → List Way → Type 0
 AreWaysOf plan layout n ways = (k : ℕ) (way : Way) → slice_get ways k ≡ Some way → IsWayOf plan layout n way
 
 -- where the value's leaf is n, the run comes to the jump of one way, the same for all runs, which is of that leaf
-pub record Takes (plan : Plan) (old new : Sheet) (ways : List Way) (v : Value) (n most : ℕ)
+pub record TakesOneWay (plan : Plan) (old new : Sheet) (ways : List Way) (v : Value) (n most : ℕ)
     (Pre : Bool → List ℕ → Memory → Type 0) : Type 0 where
   pub number : ℕ
   pub way : Way
@@ -197,7 +197,7 @@ pub record Takes (plan : Plan) (old new : Sheet) (ways : List Way) (v : Value) (
 -- Choosing -----------------------------------------------------------------------------------
 
 -- the plan of an agreed program, some leaves for values of constructor k of type t, and parts in slots below n
-pub record IsReady (agreed : LaidOut) (plan : Plan) (t k : ℕ) (layout : Layout) (leaves : List ℕ)
+pub record ChoiceIsReady (agreed : LaidOut) (plan : Plan) (t k : ℕ) (layout : Layout) (leaves : List ℕ)
     (xs : List Subvalue) (n : ℕ) : Type 0 where
   pub of : IsPlanOf agreed plan
   pub is_layout : layout_of plan.layouts t ≡ Some layout
@@ -212,28 +212,28 @@ pub record ChoosesWays (plan : Plan) (t k : ℕ) (layout : Layout) (leaves : Lis
   pub takes : (v : Value) → is_of_type plan.program.types v (Named t) ≡ true → HasParts plan.program.types v xs
       → Follows layout v leaves seen
       → (n i : ℕ) → leaf_of layout v ≡ Some n → slice_get leaves i ≡ Some n
-      → Takes plan old new ways v n (left_of plan.layouts t k seen.looked)
+      → TakesOneWay plan old new ways v n (left_of plan.layouts t k seen.looked)
       (λ clean s m. IsGood m × PartsHold plan clean v s m xs)
 
 -- in every plan of the agreed program, the code from old to new takes each value of one of the leaves, of which
 -- `seen` is known and whose parts xs are in slots, to a way of its leaf
 abbrev pub ChoosesFrom : LaidOut → ℕ → List ℕ → Seen → List Subvalue → Sheet → Sheet → List Way → Type 0
 ChoosesFrom agreed t leaves seen xs old new ways =
-    (plan : Plan) (k : ℕ) (layout : Layout) → IsReady agreed plan t k layout leaves xs old.slots
+    (plan : Plan) (k : ℕ) (layout : Layout) → ChoiceIsReady agreed plan t k layout leaves xs old.slots
     → ChoosesWays plan t k layout leaves seen xs old new ways
 
 -- in every plan of the agreed program, the code from old to new takes each value of one of the leaves to a way of its
 -- leaf, where one of the leaves has a constructor of type s at `path`, which needs a look still
 abbrev pub ChoosesBy : LaidOut → ℕ → List ℕ → Seen → List Subvalue → List ℕ → ℕ → Sheet → Sheet → List Way → Type 0
 ChoosesBy agreed t leaves seen xs path s old new ways =
-    (plan : Plan) (k : ℕ) (layout : Layout) → IsReady agreed plan t k layout leaves xs old.slots
+    (plan : Plan) (k : ℕ) (layout : Layout) → ChoiceIsReady agreed plan t k layout leaves xs old.slots
     → IsPlaceOf layout leaves seen.looked path s
     → ChoosesWays plan t k layout leaves seen xs old new ways
 
 -- Below one leaf -----------------------------------------------------------------------------
 
 -- `inner` is the layout of type s, and `words` are as many slots, all below n, as a value of s has words
-pub record IsRead (plan : Plan) (s : ℕ) (inner : Layout) (words : List ℕ) (n : ℕ) : Type 0 where
+pub record AreInnerWords (plan : Plan) (s : ℕ) (inner : Layout) (words : List ℕ) (n : ℕ) : Type 0 where
   pub is_inner : layout_of plan.layouts s ≡ Some inner
   pub below : AllBelow n words
   pub count : length words ≡ words_of plan (Named s)
@@ -257,7 +257,7 @@ pub record GivesFields (plan : Plan) (path : List ℕ) (s l : ℕ) (inner : Layo
 -- part at `path`, of type s, whose leaf is l, and whose words are in slots; the parts are xs before and ys with them
 abbrev pub FetchesFields : LaidOut → List ℕ → ℕ → ℕ → List ℕ → Sheet → Sheet → List Subvalue → List Subvalue → Type 0
 FetchesFields agreed path s l words old new xs ys =
-    (plan : Plan) (inner : Layout) (leaf : Leaf) → IsPlanOf agreed plan → IsRead plan s inner words old.slots
+    (plan : Plan) (inner : Layout) (leaf : Leaf) → IsPlanOf agreed plan → AreInnerWords plan s inner words old.slots
     → slice_get inner.leaves l ≡ Some leaf → GivesFields plan path s l inner leaf words old new xs ys
 
 -- where the part at the place has leaf l, the code takes each value of one of the leaves to a way of its leaf
@@ -270,7 +270,8 @@ pub record ChoosesBelow (plan : Plan) (t k : ℕ) (layout : Layout) (leaves : Li
       → Follows layout v leaves seen
       → part_at v path ≡ Some u → is_of_type plan.program.types u (Named s) ≡ true → leaf_of inner u ≡ Some l
       → (n i : ℕ) → leaf_of layout v ≡ Some n → slice_get leaves i ≡ Some n
-      → Takes plan old new ways v n (mend_of plan.layouts s + left_of plan.layouts t k (seen.looked ++ path ∷ []))
+      → TakesOneWay plan old new ways v n
+      (mend_of plan.layouts s + left_of plan.layouts t k (seen.looked ++ path ∷ []))
       (λ clean s1 m. IsGood m × PartsHold plan clean v s1 m xs × Rep plan m clean (Named s) u (slots_at s1 words))
 
 -- in every plan of the agreed program, the code from old to new takes each value of one of the leaves to a way of its
@@ -278,8 +279,8 @@ pub record ChoosesBelow (plan : Plan) (t k : ℕ) (layout : Layout) (leaves : Li
 abbrev pub ChoosesUnder : LaidOut → ℕ → List ℕ → Seen → List Subvalue → List ℕ → ℕ → List ℕ → ℕ → Sheet → Sheet
     → List Way → Type 0
 ChoosesUnder agreed t leaves seen xs path s words l old new ways =
-    (plan : Plan) (k : ℕ) (layout inner : Layout) → IsReady agreed plan t k layout leaves xs old.slots
-    → IsRead plan s inner words old.slots
+    (plan : Plan) (k : ℕ) (layout inner : Layout) → ChoiceIsReady agreed plan t k layout leaves xs old.slots
+    → AreInnerWords plan s inner words old.slots
     → ChoosesBelow plan t k layout leaves seen xs path s inner words l old new ways
 
 -- the code of one leaf of a part, from instruction `start` on, stands behind e in longer code q; its own ways are
@@ -319,6 +320,6 @@ pub record BranchesDone (agreed : LaidOut) (t : ℕ) (leaves : List ℕ) (seen :
   pub starts_below : AllBelow (length q.code + 1) starts
   pub many : length starts ≡ count
   pub are_open : AreOpen (length e.code) q.code ways
-  pub stand : (plan : Plan) (k : ℕ) (layout inner : Layout) → IsReady agreed plan t k layout leaves xs e.slots
-      → IsRead plan s inner words e.slots
+  pub stand : (plan : Plan) (k : ℕ) (layout inner : Layout) → ChoiceIsReady agreed plan t k layout leaves xs e.slots
+      → AreInnerWords plan s inner words e.slots
       → BranchesStand agreed plan t k layout leaves seen xs path s inner words count e q starts ways

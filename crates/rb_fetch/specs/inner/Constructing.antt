@@ -21,7 +21,7 @@ use Rattle.rb_fragment.specs.Adding.{Adds}
 use Rattle.rb_fragment.specs.Arms.{ArmsAre, ArmsIn, AreShared, whole_match}
 use Rattle.rb_fragment.specs.Plan.{Plan, words_of}
 use Rattle.rb_fragment.specs.Slots.{copies, joining}
-use Rattle.rb_compose.specs.Making.{Makes}
+use Rattle.rb_compose.specs.Making.{MakesValue}
 use Rattle.rb_compose.specs.Subvalues.{ArePartsHeld}
 use Rattle.rb_fetch.specs.declared.choice.Choices.{Choices}
 use Rattle.rb_fetch.specs.declared.choice.Way.{Way}
@@ -98,7 +98,7 @@ MakesArm plan t layout way n into a d join =
     → AgreesBut final d.code (length a.code) (length d.code) (λ pc. pc ≡ join)
     → (s : List ℕ) (w : World) → d.slots ≤ length s → IsGood w.memory
     → ArePartsHeld plan clean s w.memory (open_positions plan.program.types leaf.prov) way.fields v
-    → Makes plan clean w.switches next (length a.code) join n t into v s w
+    → MakesValue plan clean w.switches next (length a.code) join n t into v s w
 
 -- The code from a to d is the arm of a way: it makes the values of the way's leaf and leaves them in the slots that
 -- arms share, which are those of the arms before it where there are any.

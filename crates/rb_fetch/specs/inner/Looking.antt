@@ -50,8 +50,8 @@ Does final next words widths tree hs n top start =
     → Leaves final next hs n (nesting tree) start s w k (λ s' m. Unit {0})
 
 -- the arm of the instruction at pc, or its else where arm is none, has a target, from which on the run does the tree
-abbrev pub Leads : List Instr → Next → List Read → List ℕ → FlatTree → List Hole → ℕ → ℕ → ℕ → Option ℕ → Type 0
-Leads final next words widths tree hs n top pc arm =
+abbrev pub ArmLeads : List Instr → Next → List Read → List ℕ → FlatTree → List Hole → ℕ → ℕ → ℕ → Option ℕ → Type 0
+ArmLeads final next words widths tree hs n top pc arm =
     (t : ℕ) × (target_in (slice_get final pc) arm ≡ Some t) × Does final next words widths tree hs n top t
 
 -- Holes
@@ -134,7 +134,7 @@ pub record SplitDone (words : List Read) (widths : List ℕ) (loc : Loc) (arms :
       → target_in (slice_get final (length c.code)) arm ≡ target_in (slice_get b.code (length c.code)) arm)
       → Finishes final b.code hs (length c.code + 1) (length b.code)
       → (arm : Option ℕ) (tree : FlatTree) → Done arm → under_at arms other arm ≡ Some tree
-      → Leads final next words widths tree hs n top (length c.code) arm
+      → ArmLeads final next words widths tree hs n top (length c.code) arm
 
 -- a target is that of one of the first k arms; never that of the else
 abbrev pub IsBefore : ℕ → Option ℕ → Type 0

@@ -45,7 +45,7 @@ AreNoted look [] = Unit {0}
 AreNoted look (s ∷ ss) = IsNoted look s ss × AreNoted look ss
 
 -- a descent that has found the places `known` sound and has `todo` still to do finds what is so from `root` on
-pub record Stands (look : Looking) (root : At) (known : List At) (todo : List Step) : Type 0 where
+pub record DescentStands (look : Looking) (root : At) (known : List At) (todo : List Step) : Type 0 where
   pub found : AllByRecursion (IsSound look) known
   pub sound : AreSound look todo → IsSound look root
   pub fault : (fault : ImageFault) → HaveFault look todo fault → HasFault look root fault

@@ -19,9 +19,9 @@ EndBelow P (Err fault) = Unit {0}
 EndBelow P (Ok ps) = AllByRecursion P ps
 
 -- every descent from place p goes through at most so many places, one below the other, p itself included
-abbrev pub Ends : Looking → ℕ → At → Type 0
-Ends look zero p = ⊥
-Ends look (suc n) p = EndBelow (Ends look n) (look p)
+abbrev pub DescentEnds : Looking → ℕ → At → Type 0
+DescentEnds look zero p = ⊥
+DescentEnds look (suc n) p = EndBelow (DescentEnds look n) (look p)
 
 -- the sum of what f gives of these places
 abbrev pub total : (At → ℕ) → List At → ℕ
@@ -41,7 +41,7 @@ steps look (suc n) p = 1 + steps_below (steps look n) (look p)
 -- every descent from the place that a step is to look at goes through at most n places, one below the other; a note
 -- says nothing
 abbrev pub StepEnds : Looking → ℕ → Step → Type 0
-StepEnds look n (Look p) = Ends look n (at_of p)
+StepEnds look n (Look p) = DescentEnds look n (at_of p)
 StepEnds look n (Note p) = Unit {0}
 
 -- every descent from a place that one of these steps is to look at goes through at most n places, one below the
@@ -68,4 +68,4 @@ depth_bound high types = suc (high * suc types + suc types)
 -- a descent from root words ends, where no block begins at 0
 abbrev pub DescentsEnd : List DataDecl → List Layout → Type 0
 DescentsEnd types layouts = (m : List ImageBlock) (t : ℕ) (words : List ℕ) → block_at m 0 ≡ None
-    → Ends (look types layouts m) (depth_bound 18446744073709551616 (length layouts)) (root_at t words)
+    → DescentEnds (look types layouts m) (depth_bound 18446744073709551616 (length layouts)) (root_at t words)

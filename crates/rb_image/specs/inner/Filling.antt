@@ -3,7 +3,7 @@ use Rattle.std.specs.Prelude.{◌≡◌, ℕ, ◌+◌, ◌<◌, ◌≤◌, max, 
 use Rattle.rb_bytes.specs.Memory.{Memory, IsGood, byte_at}
 use Rattle.rb_image_text.specs.Places.{end_before}
 use Rattle.rb_image_text.specs.declared.image.ImageBlock.{ImageBlock}
-use Rattle.rb_image.specs.Memories.{Stands}
+use Rattle.rb_image.specs.Memories.{BlockStands}
 
 -- the memory with a block of so many bytes at its next address
 abbrev pub with_next : Memory → ℕ → Memory
@@ -27,4 +27,4 @@ pub record StandBefore (blocks : List ImageBlock) (count : ℕ) (m : Memory) : T
   pub good : IsGood m
   pub room : EndBy m.limit blocks
   pub next : m.next ≤ max 64 (end_before blocks count)
-  pub stand : (k : ℕ) (b : ImageBlock) → k < count → slice_get blocks k ≡ Some b → Stands m b
+  pub stand : (k : ℕ) (b : ImageBlock) → k < count → slice_get blocks k ≡ Some b → BlockStands m b

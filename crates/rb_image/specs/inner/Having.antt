@@ -11,13 +11,13 @@ use Rattle.rb_image_text.specs.Images.{AreBlocks}
 use Rattle.rb_image_text.specs.Places.{AreInPlace}
 use Rattle.rb_image.specs.Falling.{RootDescends}
 use Rattle.rb_image.specs.Roots.{IsSoundImage}
-use Rattle.rb_image.specs.Values.{IsDeclared, Keeps}
+use Rattle.rb_image.specs.Values.{IsDeclared, KeepsImage}
 
 -- the root words of an image that is sound for a declared type represent a value of it, in each memory that keeps the
 -- image's blocks
 abbrev pub HaveValues : Program → List Layout → Type 0
 HaveValues p layouts = (image : Image) (ty : Ty) → IsDeclared p.types ty → IsSoundImage p.types layouts image ty
-    → (m : Memory) → Keeps image.blocks m → (v : Value) × AreOf p m ty image.root v
+    → (m : Memory) → KeepsImage image.blocks m → (v : Value) × AreOf p m ty image.root v
 
 -- the root words of an image that is sound for a declared type represent a value of it, and all pointers fall
 abbrev pub HaveDescents : Program → List Layout → Type 0

@@ -205,8 +205,8 @@ IsRun bytes (Err fault) = ⊥
 
 -- the answer is the image whose text the bytes are, or the byte at which they stop being one; or want of memory,
 -- which says nothing of them
-abbrev pub IsReading : List ℕ → Result Image ImageFault → Type 0
-IsReading bytes (Ok i) = IsTextOf bytes i
-IsReading bytes (Err (ImageSyntax at)) = StopsAt bytes at
-IsReading bytes (Err Memory) = Unit {0}
-IsReading bytes (Err fault) = ⊥
+abbrev pub IsImageReading : List ℕ → Result Image ImageFault → Type 0
+IsImageReading bytes (Ok i) = IsTextOf bytes i
+IsImageReading bytes (Err (ImageSyntax at)) = StopsAt bytes at
+IsImageReading bytes (Err Memory) = Unit {0}
+IsImageReading bytes (Err fault) = ⊥

@@ -67,8 +67,8 @@ abbrev pub AreFresh : List Entry → Type 0
 AreFresh es = (k : ℕ) (e : Entry) → slice_get es k ≡ Some e → e.barred ≡ false
 
 -- each goal of the first list of entries is in the second
-abbrev pub Keeps : List Entry → List Entry → Type 0
-Keeps es fs = (g : Goal) → has_goal es g ≡ true → has_goal fs g ≡ true
+abbrev pub KeepsGoals : List Entry → List Entry → Type 0
+KeepsGoals es fs = (g : Goal) → has_goal es g ≡ true → has_goal fs g ≡ true
 
 -- a goal is among the entries
 abbrev pub IsIn : List Entry → Goal → Type 0
@@ -89,5 +89,5 @@ HasBelow types layouts es g =
 pub record AreFound (types : List DataDecl) (layouts : List Layout) (old new : List Entry) : Type 0 where
   pub asked : AreAsked new
   pub fresh : AreFresh new
-  pub keeps : Keeps old new
+  pub keeps : KeepsGoals old new
   pub below : (k : ℕ) (e : Entry) → slice_get new k ≡ Some e → HasBelow types layouts new e.goal

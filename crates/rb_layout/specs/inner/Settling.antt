@@ -12,7 +12,7 @@ use Rattle.rb_layout.specs.declared.goals.Entry.{Entry}
 use Rattle.rb_layout.specs.Positions.{layout_of}
 use Rattle.rb_layout.specs.Excluded.{Bars}
 use Rattle.rb_layout.specs.inner.Barring.{knows, goal_barred}
-use Rattle.rb_layout.specs.inner.Finding.{Keeps}
+use Rattle.rb_layout.specs.inner.Finding.{KeepsGoals}
 
 -- a look at an entry would mark it: the entry is there and not marked, and its goal holds by one step from the marked
 -- ones
@@ -48,7 +48,7 @@ pending (e ∷ es) = if e.barred then pending es else suc (pending es)
 
 -- a goal holds: its type has a layout with a leaf, each leaf has the goal's root word, and there a finite derivation
 -- shows that it never has the literal
-pub record Holds (types : List DataDecl) (layouts : List Layout) (g : Goal) : Type 0 where
+pub record GoalHolds (types : List DataDecl) (layouts : List Layout) (g : Goal) : Type 0 where
   pub layout : Layout
   pub is_layout : layout_of layouts g.ty ≡ Some layout
   pub some : 0 < length layout.leaves
@@ -60,11 +60,11 @@ pub record Holds (types : List DataDecl) (layouts : List Layout) (g : Goal) : Ty
 
 -- each marked goal holds
 abbrev pub AreTrue : List DataDecl → List Layout → List Entry → Type 0
-AreTrue types layouts es = (g : Goal) → knows es g ≡ true → Holds types layouts g
+AreTrue types layouts es = (g : Goal) → knows es g ≡ true → GoalHolds types layouts g
 
 -- The entries once passes mark no more: all old goals are there; each marked goal holds, where it was so of the old
 -- marks; and no goal is left unmarked that holds by one step from the marked ones.
 pub record AreSettled (types : List DataDecl) (layouts : List Layout) (old new : List Entry) : Type 0 where
-  pub keeps : Keeps old new
+  pub keeps : KeepsGoals old new
   pub true_ones : AreTrue types layouts old → AreTrue types layouts new
   pub all : (k : ℕ) (e : Entry) → slice_get new k ≡ Some e → turns types layouts new (Some e) ≡ false

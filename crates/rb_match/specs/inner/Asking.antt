@@ -35,7 +35,7 @@ use Rattle.rb_fragment.specs.declared.reads.Read.{Read}
 use Rattle.rb_fragment.specs.Plan.{Plan, Rep, words_of}
 use Rattle.rb_fragment.specs.Adding.{Adds}
 use Rattle.rb_fragment.specs.Pieces.{IsLater}
-use Rattle.rb_fragment.specs.Slots.{AllFrom, AreApart, IsDistinct}
+use Rattle.rb_fragment.specs.Slots.{AllFrom, SlotsAreApart, IsDistinct}
 use Rattle.rb_fragment.specs.WordReads.{AreMeant, AllFit}
 use Rattle.rb_fetch.specs.Finding.{IsPlanOf, leaf_count}
 use Rattle.rb_match.specs.declared.knowledge.Known.{Known}
@@ -70,9 +70,9 @@ carried nodes node known = if is_test (slice_get nodes node) then known else []
 -- Numbers ---------------------------------------------------------------------------------------
 
 -- the number of a head; 0 for a constructor
-abbrev pub number_of : Head → ℕ
-number_of (H.Num n) = n
-number_of (H.Con c) = 0
+abbrev pub number_of_head : Head → ℕ
+number_of_head (H.Num n) = n
+number_of_head (H.Con c) = 0
 
 -- whether a head is a number, of at most 64 bits
 abbrev pub is_number : Head → Bool
@@ -81,7 +81,7 @@ is_number (H.Con c) = false
 
 -- the arm of a switch for the number of a head, with its target
 abbrev pub number_arm : ℕ → Head → SwitchArm
-number_arm next head = record { number = number_of head; target = next }
+number_arm next head = record { number = number_of_head head; target = next }
 
 -- the arms of a switch, one for each of these arms of a test, all with one target
 abbrev pub number_arms : ℕ → List GraphArm → List SwitchArm
@@ -259,7 +259,7 @@ pub record AreSpots (plan : Plan) (n m : ℕ) (spots : List Spot) : Type 0 where
   pub count : HaveWords plan spots
   pub distinct : (k : ℕ) (spot : Spot) → slice_get spots k ≡ Some spot → IsDistinct spot.slots
   pub apart : (j k : ℕ) (a b : Spot) → slice_get spots j ≡ Some a → slice_get spots k ≡ Some b → (j ≡ k → ⊥)
-      → AreApart a.slots b.slots
+      → SlotsAreApart a.slots b.slots
 
 -- The code from old to new makes a test, over reads of the part that is tested: where the test leads the part to a
 -- node, by an arm or as all other values, the run leaves by an edge to a node that `To` allows for that one.

@@ -28,7 +28,7 @@ use Rattle.rb_fragment.specs.Pieces.{AtEnd, Piece}
 use Rattle.rb_fragment.specs.Plan.{Plan, Rep, words_of}
 use Rattle.rb_fragment.specs.Slots.{AllBelow, IsOneOf}
 use Rattle.rb_fetch.specs.Finding.{IsPlanOf, leaf_count}
-use Rattle.rb_matrix.specs.Apart.{AreApart}
+use Rattle.rb_matrix.specs.Apart.{PatternsAreApart}
 use Rattle.rb_match.specs.Choosing.{Binds}
 use Rattle.rb_bytes.specs.Memory.{Memory}
 use Rattle.rb_core.specs.declared.types.ConRef.{ConRef}
@@ -43,7 +43,8 @@ use Rattle.rb_match.specs.inner.Saving.{IsThere, mend_at, mends_from}
 
 -- no value of leaf n of data type t matches the pattern, or there is no such leaf
 abbrev pub IsLeftOut : LaidOut → ℕ → Pat → ℕ → Type 0
-IsLeftOut agreed t p n = (leaf : Leaf) → leaf_in (layout_of agreed.layouts t) n ≡ Some leaf → AreApart leaf.prov p
+IsLeftOut agreed t p n =
+    (leaf : Leaf) → leaf_in (layout_of agreed.layouts t) n ≡ Some leaf → PatternsAreApart leaf.prov p
 
 -- of the first `count` leaves of data type t none but this one has values that the pattern matches
 abbrev pub IsOnly : LaidOut → ℕ → Pat → ℕ → ℕ → Type 0

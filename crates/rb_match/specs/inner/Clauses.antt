@@ -21,7 +21,7 @@ use Rattle.rb_fragment.specs.Adding.{Adds}
 use Rattle.rb_fragment.specs.Pieces.{IsLater, Leaves}
 use Rattle.rb_fragment.specs.WordReads.{AreMeant, AllFit}
 use Rattle.rb_fetch.specs.Finding.{IsPlanOf}
-use Rattle.rb_match.specs.Bounding.{choosing_look, looks_with, places_of}
+use Rattle.rb_match.specs.Bounding.{choosing_look, looks_with, places_of_patterns}
 use Rattle.rb_match.specs.inner.Trees.{TakesTree}
 
 -- those of the holes that have the number `way`, with the number `name` instead
@@ -50,7 +50,7 @@ pub record GoesOn (next : Next) (n most start end : ℕ) (s : List ℕ) (w : Wor
 -- the switches that one look at each place of a match costs at most when a clause is chosen: trying one clause costs
 -- no more
 abbrev pub round_of : Plan → Ty → List Pat → ℕ
-round_of plan ty pats = looks_with (choosing_look plan.layouts) (places_of plan.program.types ty pats)
+round_of plan ty pats = looks_with (choosing_look plan.layouts) (places_of_patterns plan.program.types ty pats)
 
 -- `Ends` is so of each run of the code over reads of a value of the type, in any finished code that has it, whatever
 -- its open targets become

@@ -180,7 +180,7 @@ job_of plan base spots ty words pats nodes root first = record {
 }
 
 -- what holds of the code of any job: it is the first code and more, in which these edges are open
-pub record Stands (first new : Sheet) (edges : List Edge) : Type 0 where
+pub record JobStands (first new : Sheet) (edges : List Edge) : Type 0 where
   pub grows : Grows first.code new.code
   pub stand : StandOpen first new edges
 
@@ -188,16 +188,16 @@ pub record Stands (first new : Sheet) (edges : List Edge) : Type 0 where
 pub record StepsNode (agreed : LaidOut) (ty : Ty) (words : List Read) (pats : List Pat) (spots : List Spot)
     (nodes : List GraphNode) (node : GraphNode) (n : ℕ) (old : Sheet) (edges : List Edge) (new : Sheet)
     (more : List Edge) : Type 0 where
-  pub stands : (first : Sheet) → Stands first old edges → Stands first new more
+  pub stands : (first : Sheet) → JobStands first old edges → JobStands first new more
   pub flows : (plan : Plan) (base : ℕ) (root : ℕ) (first : Sheet)
       → let job = job_of plan base spots ty words pats nodes root first in
-      IsFineJob agreed job → slice_get nodes n ≡ Some node → Stands first old edges → Flows job old edges
+      IsFineJob agreed job → slice_get nodes n ≡ Some node → JobStands first old edges → Flows job old edges
       → Flows job new more
 
 -- the code of the root's node stands: it leads each value that is given to a fine job out by an edge
 pub record Begins (agreed : LaidOut) (ty : Ty) (words : List Read) (pats : List Pat) (spots : List Spot)
     (nodes : List GraphNode) (root : ℕ) (old new : Sheet) (edges : List Edge) : Type 0 where
-  pub stands : Stands old new edges
+  pub stands : JobStands old new edges
   pub flows : (plan : Plan) (base : ℕ)
       → let job = job_of plan base spots ty words pats nodes root old in IsFineJob agreed job → Flows job new edges
 
@@ -225,7 +225,7 @@ pub record LeavesOn (job : Job) (final : List Instr) (next : Next) (holes : List
   pub leaves : Leaves final next holes job.base (looks job.plan path) (length job.first.code) s w k (λ s' m. Unit {0})
 
 -- the code from the first on leads each value that is given to the job out by a hole of the clause that it takes
-pub record Takes (job : Job) (new : Sheet) (holes : List Hole) : Type 0 where
+pub record TakesClause (job : Job) (new : Sheet) (holes : List Hole) : Type 0 where
   pub adds : Adds job.plan job.first new
   pub leaves : (final : List Instr) (callee : Callee) (next : Next) → Law final callee next
       → Finishes final new.code holes (length job.first.code) (length new.code)
@@ -237,4 +237,5 @@ abbrev pub TakesGraph : LaidOut → Ty → List Read → List Pat → List Spot 
     → Type 0
 TakesGraph agreed ty words pats spots nodes root old new holes =
     (plan : Plan) (base : ℕ)
-    → let job = job_of plan base spots ty words pats nodes root old in IsFineJob agreed job → Takes job new holes
+    → let job = job_of plan base spots ty words pats nodes root old in IsFineJob agreed job
+    → TakesClause job new holes

@@ -23,7 +23,7 @@ use Rattle.rb_rel.specs.Switches.{Head, choose_of, heads_of}
 use Rattle.rb_fragment.specs.Adding.{Adds}
 use Rattle.rb_fragment.specs.Plan.{Plan, Rep, words_of}
 use Rattle.rb_fragment.specs.Pieces.{AtEnd, Piece, Straight}
-use Rattle.rb_fragment.specs.Slots.{AllBelow, AllFrom, AreApart, IsDistinct, IsOneOf}
+use Rattle.rb_fragment.specs.Slots.{AllBelow, AllFrom, SlotsAreApart, IsDistinct, IsOneOf}
 use Rattle.rb_fetch.specs.Finding.{IsPlanOf}
 use Rattle.rb_match.specs.declared.knowledge.Known.{Known}
 use Rattle.rb_match.specs.declared.knowledge.Spot.{Spot}
@@ -162,7 +162,7 @@ KeepsOthers n dests s s' = (x : ℕ) → x < n → (IsOneOf x dests → ⊥) →
 pub record PartIsSaved (plan : Plan) (n t leaf : ℕ) (path words : List ℕ) (spot : Spot) (old new : Sheet) : Type 0 where
   pub has : HasPart plan t leaf path
   pub adds : Adds plan old new
-  pub apart : AreApart spot.slots words
+  pub apart : SlotsAreApart spot.slots words
   pub runs : (clean : Bool) (v part : Value) (layout : Layout) (s0 : List ℕ) → layout_of plan.layouts t ≡ Some layout
       → leaf_of layout v ≡ Some leaf → part_at v path ≡ Some part
       → Piece plan n old new Nowhere (mend_at plan.layouts t leaf path)

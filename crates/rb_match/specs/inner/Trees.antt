@@ -38,7 +38,7 @@ pub record LeavesTree (plan : Plan) (ty : Ty) (pats : List Pat) (tree : Tree) (f
 -- what the code of a decision tree owes in one plan: the code from old to new, over reads of the words of a value of
 -- type ty, adds to the old code, and each run of it, in any finished code that closes its holes, leaves by a hole of
 -- the clause that the tree takes of the value; of a value of which the tree takes no clause it says nothing
-pub record TreeTakes (plan : Plan) (ty : Ty) (words : List Read) (pats : List Pat) (tree : Tree) (old new : Sheet)
+pub record TakesTreeIn (plan : Plan) (ty : Ty) (words : List Read) (pats : List Pat) (tree : Tree) (old new : Sheet)
     (holes : List Hole) : Type 0 where
   pub adds : Adds plan old new
   pub leaves : (final : List Instr) (callee : Callee) (next : Next) → Law final callee next
@@ -52,7 +52,7 @@ pub record TreeTakes (plan : Plan) (ty : Ty) (words : List Read) (pats : List Pa
 abbrev pub TakesTree : LaidOut → Ty → List Read → List Pat → Tree → Sheet → Sheet → List Hole → Type 0
 TakesTree agreed ty words pats tree old new holes =
     (plan : Plan) → IsPlanOf agreed plan → ((k : ℕ) → old.slots ≤ k → AllFit k words) → length words ≡ words_of plan ty
-    → TreeTakes plan ty words pats tree old new holes
+    → TakesTreeIn plan ty words pats tree old new holes
 
 -- the code from old to new leads each value out by a hole of the clause that the tree takes to which the graph
 -- unfolds, whatever tree that is

@@ -5,14 +5,14 @@ use Rattle.std.specs.Prelude.{◌≡◌, ◌<◌, ℕ, List, [], ◌∷◌, Cont
 use Rattle.rb_core.specs.declared.value.Value.{Value}
 use Rattle.rb_core.specs.declared.pattern.Pat.{Pat}
 use Rattle.rb_core.specs.Matching.{matches_of, clause_matches}
-use Rattle.rb_matrix.specs.Apart.{AreApart}
+use Rattle.rb_matrix.specs.Apart.{PatternsAreApart}
 use Rattle.rb_matrix.specs.Rows.{row_matches, any_row}
 use Rattle.rb_matrix.specs.inner.OneColumn.{any_matches}
 
 -- in some one place of both lists stand two patterns that no value matches both
 abbrev pub HaveApart : List Pat → List Pat → Type 0
 HaveApart ps qs =
-    (i : ℕ) × (p : Pat) × (q : Pat) × (slice_get ps i ≡ Some p) × (slice_get qs i ≡ Some q) × AreApart p q
+    (i : ℕ) × (p : Pat) × (q : Pat) × (slice_get ps i ≡ Some p) × (slice_get qs i ≡ Some q) × PatternsAreApart p q
 
 -- p matches each value that q matches
 abbrev pub Covers : Pat → Pat → Type 0

@@ -13,7 +13,7 @@ use Rattle.rb_core.specs.declared.pattern.Pat.{Pat}
 use Rattle.rb_core.specs.Matching.{matches_of}
 use Rattle.rb_core.specs.Values.{subs}
 use Rattle.rb_matrix.specs.declared.index.Index.{Index}
-use Rattle.rb_matrix.specs.Apart.{AreApart}
+use Rattle.rb_matrix.specs.Apart.{PatternsAreApart}
 
 -- the number that a value, given by its layer, is, or that of its constructor in its type
 abbrev pub head_number : Value-F Value → ℕ
@@ -35,16 +35,16 @@ abbrev pub IsIn : Index → ℕ → ℕ → Type 0
 IsIn x k j = MatchOption (tree.get nat_cmp x.groups k) ⊥ (λ g. Contains g j)
 
 -- pattern p, with number j, stands among those without a key, or in the group of a key that it has
-abbrev pub IsKept : Index → ℕ → Pat → Type 0
-IsKept x j p = Contains x.keyless j ⊎ ((k : ℕ) × HasKey p x.path k × IsIn x k j)
+abbrev pub IsIndexed : Index → ℕ → Pat → Type 0
+IsIndexed x j p = Contains x.keyless j ⊎ ((k : ℕ) × HasKey p x.path k × IsIn x k j)
 
 -- x is an index of these patterns: each has its place among the numbers in x, which may hold other numbers too
 abbrev pub IsIndex : List Pat → Index → Type 0
-IsIndex ps x = (j : ℕ) (p : Pat) → slice_get ps j ≡ Some p → IsKept x j p
+IsIndex ps x = (j : ℕ) (p : Pat) → slice_get ps j ≡ Some p → IsIndexed x j p
 
 -- wherever the old index is one of i patterns, the new one is an index of these and of p behind them
-abbrev pub Extends : ℕ → Pat → Index → Index → Type 0
-Extends i p old new = (ps : List Pat) → length ps ≡ i → IsIndex ps old → IsIndex (ps ++ p ∷ []) new
+abbrev pub ExtendsIndex : ℕ → Pat → Index → Index → Type 0
+ExtendsIndex i p old new = (ps : List Pat) → length ps ≡ i → IsIndex ps old → IsIndex (ps ++ p ∷ []) new
 
 -- the new index is the old one with number i in the group of key k: the path and the patterns without a key stay,
 -- and each group keeps what it holds
@@ -57,4 +57,4 @@ pub record IsGrouped (k i : ℕ) (old new : Index) : Type 0 where
 -- wherever x is an index of n patterns, each of them has its number among js, or no value matches both it and p
 abbrev pub AreNear : Pat → ℕ → Index → List ℕ → Type 0
 AreNear p n x js = (ps : List Pat) → length ps ≡ n → IsIndex ps x
-    → (j : ℕ) (q : Pat) → slice_get ps j ≡ Some q → Contains js j ⊎ AreApart q p
+    → (j : ℕ) (q : Pat) → slice_get ps j ≡ Some q → Contains js j ⊎ PatternsAreApart q p

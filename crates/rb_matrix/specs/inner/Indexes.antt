@@ -3,8 +3,8 @@
 use Rattle.std.specs.Prelude.{◌≡◌, ℕ, List, length, Contains, Some, slice_get, ◌⊎◌}
 use Rattle.rb_core.specs.declared.pattern.Pat.{Pat}
 use Rattle.rb_matrix.specs.declared.indexes.Indexes.{Indexes}
-use Rattle.rb_matrix.specs.Apart.{AreApart}
-use Rattle.rb_matrix.specs.inner.Index.{IsIndex, Extends}
+use Rattle.rb_matrix.specs.Apart.{PatternsAreApart}
+use Rattle.rb_matrix.specs.inner.Index.{IsIndex, ExtendsIndex}
 
 -- both are indexes of these patterns
 pub record AreIndexes (ps : List Pat) (x : Indexes) : Type 0 where
@@ -13,11 +13,11 @@ pub record AreIndexes (ps : List Pat) (x : Indexes) : Type 0 where
 
 -- wherever the two old indexes are of i patterns, the two new ones are of these and of p behind them
 pub record BothExtend (i : ℕ) (p : Pat) (old new : Indexes) : Type 0 where
-  pub first : Extends i p old.first new.first
-  pub second : Extends i p old.second new.second
+  pub first : ExtendsIndex i p old.first new.first
+  pub second : ExtendsIndex i p old.second new.second
 
 -- wherever the two are indexes of n patterns, each of them has its number among js, or no value matches both it and
 -- p
 abbrev pub AreNearIn : Pat → ℕ → Indexes → List ℕ → Type 0
 AreNearIn p n x js = (ps : List Pat) → length ps ≡ n → AreIndexes ps x
-    → (j : ℕ) (q : Pat) → slice_get ps j ≡ Some q → Contains js j ⊎ AreApart q p
+    → (j : ℕ) (q : Pat) → slice_get ps j ≡ Some q → Contains js j ⊎ PatternsAreApart q p

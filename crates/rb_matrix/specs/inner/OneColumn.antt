@@ -8,7 +8,7 @@ use Rattle.rb_core.specs.declared.types.DataDecl.{DataDecl}
 use Rattle.rb_core.specs.declared.pattern.Pat.{Pat}
 use Rattle.rb_core.specs.Matching.{matches_of, IsUnreached}
 use Rattle.rb_matrix.specs.Exhaust.{IsReached}
-use Rattle.rb_matrix.specs.Search.{IsFound, IsNowhere}
+use Rattle.rb_matrix.specs.Search.{RowIsFound, IsNowhere}
 
 -- the patterns, in their order, each as a row of its own
 abbrev pub one_each : List Pat → List (List Pat)
@@ -30,4 +30,4 @@ IsReachAnswer types ty ps i false = IsUnreached types ty ps i
 -- row of plain patterns that matches sought vectors alone, and one at least
 abbrev pub IsOneAnswer : List DataDecl → Ty → List (List Pat) → List (List Pat) → Option Pat → Type 0
 IsOneAnswer types ty wanted unwanted None = IsNowhere types (ty ∷ []) wanted unwanted
-IsOneAnswer types ty wanted unwanted (Some q) = IsFound types (ty ∷ []) wanted unwanted (q ∷ [])
+IsOneAnswer types ty wanted unwanted (Some q) = RowIsFound types (ty ∷ []) wanted unwanted (q ∷ [])

@@ -18,7 +18,7 @@ use Rattle.rb_matrix.specs.declared.problem.Step.TheVariants.{Front, Fold}
 use Rattle.rb_matrix.specs.declared.problem.Problem.{Problem}
 use Rattle.rb_matrix.specs.Counts.{rows_heads}
 use Rattle.rb_matrix.specs.Heads.{begins}
-use Rattle.rb_matrix.specs.Search.{AreTypesIn, sought, IsFound, IsNowhere}
+use Rattle.rb_matrix.specs.Search.{AreTypesIn, sought, RowIsFound, IsNowhere}
 
 -- The way from the root: how a row for a problem becomes one for its parent -------------------------
 
@@ -50,7 +50,7 @@ with_column ty p = record { tys = ty ∷ p.tys; wanted = p.wanted; unwanted = p.
 -- the row answers a problem: it is of numbers, constructors and wildcards, of the columns' types; all vectors of
 -- these types that it matches are asked for, and it matches one
 abbrev pub FoundIn : List DataDecl → Problem → List Pat → Type 0
-FoundIn types p row = IsFound types p.tys p.wanted p.unwanted row
+FoundIn types p row = RowIsFound types p.tys p.wanted p.unwanted row
 
 -- there is no vector that a problem asks for
 abbrev pub NoneIn : List DataDecl → Problem → Type 0

@@ -88,7 +88,7 @@ fn is_op_front(word: &[u8]) -> bool
 
 /// The number below 2^64 that is written so.
 pub fn number_of(word: &[u8]) -> Option<u64>
-    ensures { result ≡ spec.number_of word.now }
+    ensures { result ≡ spec.number_of_word word.now }
 {
     number_in(0, u64::MAX, word)
 }

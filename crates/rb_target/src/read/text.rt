@@ -1,7 +1,7 @@
 //! Code texts.
 
 ghost use Rattle.std.specs.Prelude.{◌≡◌, List, IfOk};
-ghost use Rattle.rb_target.specs.Stopping.{IsReading, IsTextOf};
+ghost use Rattle.rb_target.specs.Stopping.{IsCodeReading, IsTextOf};
 ghost use Rattle.rb_target.specs.Reading.{IsRun};
 
 use super::step::Reader;
@@ -29,7 +29,7 @@ fn read_bytes(alloc: Global, bytes: &[u8]) -> Result<Reader, CodeFault>
 ///
 /// The byte at which no text goes on; want of memory.
 pub fn read_text(alloc: Global, bytes: &[u8]) -> Result<Seq<CodeFun>, CodeFault>
-    ensures reading { IsReading bytes.now result }
+    ensures reading { IsCodeReading bytes.now result }
     ensures only { (funs : List CodeFun) → IsTextOf bytes.now funs → IfOk result (λ read. read ≡ funs) }
 {
     let reader = read_bytes(alloc, bytes)?;

@@ -28,8 +28,8 @@ abbrev pub Hold : List ℕ → Memory → List Fact → Type 0
 Hold s m facts = (fact : Fact) → Contains facts fact → IsSo s m fact
 
 -- what a way tells of the slots before it holds, if it tells anything
-abbrev pub Says : Option Fact → List ℕ → Memory → Type 0
-Says told s m = IfSome told (λ fact. IsSo s m fact)
+abbrev pub FactSays : Option Fact → List ℕ → Memory → Type 0
+FactSays told s m = IfSome told (λ fact. IsSo s m fact)
 
 -- Slots and memory before an instruction, and behind it where the run goes on in the function. What a store, a place
 -- and a call do to memory is left open.
@@ -52,5 +52,5 @@ Turns (Return froms) s m s' m' = ⊥
 -- tells `told`
 pub record Follows (facts : List Fact) (told : Option Fact) (i : Instr) (behind : List Fact) : Type 0 where
   pub by : (slots : ℕ) (s s' : List ℕ) (m m' : Memory) → slots ≤ length s → SlotsFit slots i → Hold s m facts
-      → Says told s m
+      → FactSays told s m
       → Turns i s m s' m' → Hold s' m' behind

@@ -8,7 +8,7 @@ use Rattle.rb_target.specs.declared.instr.Instr.TheVariants.{Const, Copy, Alu, T
 use Rattle.rb_trim.specs.declared.fact.Content.{Content}
 use Rattle.rb_trim.specs.declared.fact.Content.TheVariants.{Number, Same, Part, Computed, Loaded}
 use Rattle.rb_trim.specs.declared.fact.Fact.{Fact}
-use Rattle.rb_trim.specs.inner.Facts.{IsContent, IsSo, Hold, Says, Turns}
+use Rattle.rb_trim.specs.inner.Facts.{IsContent, IsSo, Hold, FactSays, Turns}
 
 -- two slots hold the same word where the facts hold
 abbrev pub AreSame : List Fact → ℕ → ℕ → Type 0
@@ -85,7 +85,7 @@ Sets (Place d size align) k = d ≡ k
 Sets i k = ⊥
 
 -- the slots s' are s with a word in the fact's slot that was its content before, and memory stays
-pub record Made (fact : Fact) (slots : ℕ) (s s' : List ℕ) (m m' : Memory) : Type 0 where
+pub record FactIsMade (fact : Fact) (slots : ℕ) (s s' : List ℕ) (m m' : Memory) : Type 0 where
   pub word : ℕ
   pub is : IsContent s m fact.content word
   pub slot : s' ≡ slice_set s fact.slot word
@@ -96,7 +96,7 @@ pub record Made (fact : Fact) (slots : ℕ) (s s' : List ℕ) (m m' : Memory) : 
 pub record IsTold (facts : List Fact) (i : Instr) (fact : Fact) : Type 0 where
   pub sets : Sets i fact.slot
   pub by : (slots : ℕ) (s s' : List ℕ) (m m' : Memory) → SlotsFit slots i → Hold s m facts → Turns i s m s' m'
-      → Made fact slots s s' m m'
+      → FactIsMade fact slots s s' m m'
 
 -- the instruction may change memory
 abbrev pub Changes : Instr → Type 0
@@ -106,12 +106,12 @@ Changes (Call f ds froms) = Unit {0}
 Changes i = ⊥
 
 -- the instruction changes nothing that the content is told by
-abbrev pub Keeps : Instr → Content → Type 0
-Keeps i (Number c) = Unit {0}
-Keeps i (Same a) = ¬ WritesTo i a
-Keeps i (Part a o l) = ¬ WritesTo i a
-Keeps i (Computed op n a b) = (¬ WritesTo i a) × (¬ WritesTo i b)
-Keeps i (Loaded a offset width) = (¬ WritesTo i a) × (¬ Changes i)
+abbrev pub KeepsContent : Instr → Content → Type 0
+KeepsContent i (Number c) = Unit {0}
+KeepsContent i (Same a) = ¬ WritesTo i a
+KeepsContent i (Part a o l) = ¬ WritesTo i a
+KeepsContent i (Computed op n a b) = (¬ WritesTo i a) × (¬ WritesTo i b)
+KeepsContent i (Loaded a offset width) = (¬ WritesTo i a) × (¬ Changes i)
 
 -- one fact holds behind the instruction, where the facts hold before it
 pub record FollowsOne (facts : List Fact) (i : Instr) (fact : Fact) : Type 0 where
@@ -123,7 +123,7 @@ pub record FollowsOne (facts : List Fact) (i : Instr) (fact : Fact) : Type 0 whe
 -- `told`
 pub record HoldsBehind (facts : List Fact) (told : Option Fact) (i : Instr) (fact : Fact) : Type 0 where
   pub by : (slots : ℕ) (s s' : List ℕ) (m m' : Memory) → slots ≤ length s → SlotsFit slots i → Hold s m facts
-      → Says told s m
+      → FactSays told s m
       → Turns i s m s' m' → IsSo s' m' fact
 
 -- the fact with number k among `behind`, if there is one, holds behind the instruction as in `HoldsBehind`

@@ -59,24 +59,24 @@ abbrev pub IsEverRead : Hints → ℕ → Type 0
 IsEverRead h k = 0 < slice_index h.reads k
 
 -- a slot is read from an instruction on: a later line reads it, and it is not known that none of them is come to
-abbrev pub IsRead : Hints → ℕ → ℕ → Type 0
-IsRead h pc k = (pc < slice_index h.reads k) × (¬ Contains (dead_at h pc) k)
+abbrev pub SlotIsRead : Hints → ℕ → ℕ → Type 0
+SlotIsRead h pc k = (pc < slice_index h.reads k) × (¬ Contains (dead_at h pc) k)
 
 -- no instruction from pc on that a run comes to reads the slot k
 pub record IsUnread (h : Hints) (pc k : ℕ) : Type 0 where
-  pub by : ¬ IsRead h pc k
+  pub by : ¬ SlotIsRead h pc k
 
 -- slots that are read from an instruction on hold the same under their new numbers
 abbrev pub Agree : Hints → ℕ → List ℕ → List ℕ → Type 0
-Agree h pc s s' = (k : ℕ) → IsRead h pc k → slice_index s' (slice_index h.names k) ≡ slice_index s k
+Agree h pc s s' = (k : ℕ) → SlotIsRead h pc k → slice_index s' (slice_index h.names k) ≡ slice_index s k
 
 -- the slot k, if it is read, has a new number of its own
 abbrev pub IsApart : Hints → ℕ → Type 0
 IsApart h k = IsEverRead h k → slice_index h.origins (slice_index h.names k) ≡ k
 
 -- each slot that is read has a new number of its own
-abbrev pub AreApart : Hints → Type 0
-AreApart h = (k : ℕ) → IsApart h k
+abbrev pub NumbersAreApart : Hints → Type 0
+NumbersAreApart h = (k : ℕ) → IsApart h k
 
 -- the slot k, if it is read, keeps its number where it is a parameter, and has none of a parameter where it is none
 abbrev pub KeepsParam : Hints → ℕ → ℕ → Type 0
@@ -120,17 +120,17 @@ abbrev pub moved_arm : Hints → SwitchArm → SwitchArm
 moved_arm h arm = record arm { target = landing h arm.target }
 
 -- the new instruction puts the content into the new slot d'; none does so with a loaded word
-abbrev pub Makes : Hints → List Fact → ℕ → Content → ℕ → Instr → Type 0
-Makes h facts pc (Number c) d' j = j ≡ Const d' c
-Makes h facts pc (Same a) d' j = (a' : ℕ) × (j ≡ Copy d' a') × IsName h facts pc a a'
-Makes h facts pc (Part a o l) d' j = (a' : ℕ) × (j ≡ Take d' a' o l) × IsName h facts pc a a'
-Makes h facts pc (Computed op n a b) d' j =
+abbrev pub MakesContent : Hints → List Fact → ℕ → Content → ℕ → Instr → Type 0
+MakesContent h facts pc (Number c) d' j = j ≡ Const d' c
+MakesContent h facts pc (Same a) d' j = (a' : ℕ) × (j ≡ Copy d' a') × IsName h facts pc a a'
+MakesContent h facts pc (Part a o l) d' j = (a' : ℕ) × (j ≡ Take d' a' o l) × IsName h facts pc a a'
+MakesContent h facts pc (Computed op n a b) d' j =
     (a' b' : ℕ) × (j ≡ Alu op n d' a' b') × IsName h facts pc a a' × IsName h facts pc b b'
-Makes h facts pc (Loaded a offset width) d' j = ⊥
+MakesContent h facts pc (Loaded a offset width) d' j = ⊥
 
 -- the new instruction puts the fact's content into its slot, under new numbers
 abbrev pub IsWrite : Hints → List Fact → ℕ → Fact → Instr → Type 0
-IsWrite h facts pc fact j = (d' : ℕ) × IsDest h fact.slot d' × Makes h facts pc fact.content d' j
+IsWrite h facts pc fact j = (d' : ℕ) × IsDest h fact.slot d' × MakesContent h facts pc fact.content d' j
 
 -- the new instruction makes what the old one makes
 abbrev pub IsRemade : Hints → List Fact → ℕ → Instr → Instr → Type 0
@@ -194,7 +194,7 @@ EndsWell h pc i = (end h pc ≡ pc) ⊎ EndsOn h pc i
 
 -- each slot that is read at a place behind an instruction is read from the instruction on, or set by it
 pub record LivesOn (h : Hints) (pc : ℕ) (i : Instr) (t : ℕ) : Type 0 where
-  pub by : (k : ℕ) → IsRead h t k → IsRead h pc k ⊎ Sets i k
+  pub by : (k : ℕ) → SlotIsRead h t k → SlotIsRead h pc k ⊎ Sets i k
 
 -- what the way of a number behind a switch tells of the slot
 abbrev pub tells : ℕ → ℕ → Option Fact
@@ -218,12 +218,12 @@ pub record JumpsOn (h : Hints) (pc : ℕ) (i : Instr) (told : Option Fact) (t : 
 
 -- F holds of the next instruction's number, where the run goes on there, and J of each target to which it may jump,
 -- with what the way to it tells; nothing is said behind a return
-abbrev pub Leads : (ℕ → Type 0) → (Option Fact → ℕ → Type 0) → Instr → ℕ → Type 0
-Leads F J (Jump t) pc = J None t
-Leads F J (Switch a other arms) pc =
+abbrev pub LeadsAhead : (ℕ → Type 0) → (Option Fact → ℕ → Type 0) → Instr → ℕ → Type 0
+LeadsAhead F J (Jump t) pc = J None t
+LeadsAhead F J (Switch a other arms) pc =
     IfSome other (J None) × All (λ (arm : SwitchArm). J (tells a arm.number) arm.target) arms
-Leads F J (Return froms) pc = Unit {0}
-Leads F J i pc = F (pc + 1)
+LeadsAhead F J (Return froms) pc = Unit {0}
+LeadsAhead F J i pc = F (pc + 1)
 
 -- the instruction with number `at` copies the word of `slot` to slot `to`, and none behind it reads `slot`
 pub record IsCopied (h : Hints) (body : List Instr) (at slot to : ℕ) : Type 0 where
@@ -299,14 +299,14 @@ abbrev pub IsMerged : Hints → List Instr → ℕ → Instr → Instr → Type 
 IsMerged h body pc i j = IsInto h body pc i j ⊎ (IsFolded h body pc i j ⊎ IsBack h body pc i j)
 
 -- the new instruction j stands for the instruction i of a body, alone or with others behind it
-abbrev pub Stands : Hints → List Instr → ℕ → Instr → Instr → Type 0
-Stands h body pc i j =
+abbrev pub StandsFor : Hints → List Instr → ℕ → Instr → Instr → Type 0
+StandsFor h body pc i j =
     (IsPlain h pc × IsMoved h (facts_at h pc) body pc i j × (place h (pc + 1) ≡ place h pc + 1)) ⊎ IsMerged h body
     pc i j
 
 -- an instruction that stands for instruction pc has its place in the new body
-abbrev pub IsKept : Hints → List Instr → List Instr → ℕ → Instr → Type 0
-IsKept h body new pc i = (j : Instr) × (slice_get new (place h pc) ≡ Some j) × Stands h body pc i j
+abbrev pub InstrIsKept : Hints → List Instr → List Instr → ℕ → Instr → Type 0
+InstrIsKept h body new pc i = (j : Instr) × (slice_get new (place h pc) ≡ Some j) × StandsFor h body pc i j
 
 -- no new instruction stands for instruction pc: it may be left out, or no run comes to it
 abbrev pub IsSkipped : Hints → ℕ → Instr → Type 0
@@ -315,9 +315,9 @@ IsSkipped h pc i = (IsReached h pc → IsLeftOut h pc i) × IsPlain h pc × (pla
 -- what makes the new body right at instruction pc: one stands for it or need not, a jump to it goes on well, and what
 -- the hints say of the places behind it holds
 pub record IsStep (h : Hints) (body new : List Instr) (pc : ℕ) (i : Instr) : Type 0 where
-  pub stands : IsKept h body new pc i ⊎ IsSkipped h pc i
+  pub stands : InstrIsKept h body new pc i ⊎ IsSkipped h pc i
   pub ends : EndsWell h pc i
-  pub known : Leads (FallsOn h pc i) (JumpsOn h pc i) i pc
+  pub known : LeadsAhead (FallsOn h pc i) (JumpsOn h pc i) i pc
 
 -- functions with the same heads, maybe among more
 abbrev pub HaveSameHeads : List CodeFun → List CodeFun → Type 0
@@ -329,7 +329,7 @@ pub record IsTrimmed (f q : CodeFun) : Type 0 where
   pub head : HasSameHead f q
   pub valid : (funs funs' : List CodeFun) → HaveSameHeads funs funs' → IsValidFun funs f → IsValidFun funs' q
   pub hints : Hints
-  pub apart : AreApart hints
+  pub apart : NumbersAreApart hints
   pub params : KeepParams hints f.params
   pub begins : (place hints 0 ≡ 0) × (facts_at hints 0 ≡ []) × IsReached hints 0
   pub steps : (pc : ℕ) (i : Instr) → slice_get f.body pc ≡ Some i → IsStep hints f.body q.body pc i

@@ -8,7 +8,7 @@ use Rattle.rb_target.specs.declared.instr.Instr.TheVariants.{Const, Alu, Take}
 use Rattle.rb_target.specs.declared.code.CodeFun.{CodeFun}
 use Rattle.rb_trim.specs.declared.hints.Hints.{Hints}
 use Rattle.rb_trim.specs.inner.Following.{Sets}
-use Rattle.rb_trim.specs.inner.Moving.{place, tells, IsUnread, EndsWell, FallsOn, JumpsOn, Stands, IsSkipped, IsStep, IsTrimmed, Leads, ComesBack}
+use Rattle.rb_trim.specs.inner.Moving.{place, tells, IsUnread, EndsWell, FallsOn, JumpsOn, StandsFor, IsSkipped, IsStep, IsTrimmed, LeadsAhead, ComesBack}
 
 -- the slot with number k in the list, if there is one, is set by the instruction, or not read from place t on
 pub record LivesAt (h : Hints) (slots : List ℕ) (i : Instr) (t k : ℕ) : Type 0 where
@@ -28,14 +28,14 @@ HasArm arms number = Any (λ (arm : SwitchArm). arm.number ≡ number) arms
 
 -- what the hints say of the places holds wherever a run goes on behind instruction pc
 abbrev pub IsKnownOn : Hints → ℕ → Instr → Type 0
-IsKnownOn h pc i = Leads (FallsOn h pc i) (JumpsOn h pc i) i pc
+IsKnownOn h pc i = LeadsAhead (FallsOn h pc i) (JumpsOn h pc i) i pc
 
 -- `new` is `old` and behind it an instruction that stands for instruction pc, in its place
 pub record IsAppended (h : Hints) (body : List Instr) (pc : ℕ) (i : Instr) (old new : List Instr) : Type 0 where
   pub here : place h pc ≡ length old
   pub instr : Instr
   pub more : new ≡ old ++ instr ∷ []
-  pub for : Stands h body pc i instr
+  pub for : StandsFor h body pc i instr
 
 -- one step of the walk: to the new body is added what stands for instruction pc, or nothing if it is left out, and
 -- what the hints say of it is right
@@ -48,7 +48,7 @@ pub record Steps (h : Hints) (body : List Instr) (pc : ℕ) (i : Instr) (old new
 abbrev pub HaveOrigins : Hints → List Instr → List Instr → Type 0
 HaveOrigins h body new =
     (at : ℕ) (j : Instr) → slice_get new at ≡ Some j
-    → (pc : ℕ) × (i : Instr) × (slice_get body pc ≡ Some i) × Stands h body pc i j
+    → (pc : ℕ) × (i : Instr) × (slice_get body pc ≡ Some i) × StandsFor h body pc i j
 
 -- the first `count` instructions of a body are gone through, and `new` has what stands for them
 pub record Walks (h : Hints) (body : List Instr) (count : ℕ) (new : List Instr) : Type 0 where

@@ -13,9 +13,9 @@ use Rattle.rb_values.specs.inner.Typing.{IsTyped}
 
 -- what may be kept of state s, where a value of type `root` is read: nothing, only where it has more than `limit`
 -- nodes; or how it fits that type so far
-abbrev pub IsKept : List DataDecl → Ty → ℕ → State → Option Typing → Type 0
-IsKept types root limit s None = limit < (outline_of s).nodes
-IsKept types root limit s (Some t) = IsTyped types root s t
+abbrev pub TypingIsKept : List DataDecl → Ty → ℕ → State → Option Typing → Type 0
+TypingIsKept types root limit s None = limit < (outline_of s).nodes
+TypingIsKept types root limit s (Some t) = IsTyped types root s t
 
 -- what is answered for a term that is read whole: its value, where it fits the type, or the
 -- first node that does not fit

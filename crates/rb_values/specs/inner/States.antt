@@ -112,7 +112,7 @@ shown (named at x os) rest = shown_waits os (sign.Name at x ∷ rest)
 shown (complete t os) rest = shown_waits os (spelled t rest)
 
 -- the signs `ss` lead to state s: the state shows just them, and what follows on them is read as from the state
-pub record Reached (ss : List Sign) (s : State) : Type 0 where
+pub record IsStateOf (ss : List Sign) (s : State) : Type 0 where
   pub said : (rest : List Sign) → shown s rest ≡ ss ++ rest
   pub same : (rest : List Sign) → answer (expecting []) (ss ++ rest) ≡ answer s rest
 

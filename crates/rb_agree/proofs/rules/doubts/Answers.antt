@@ -1,6 +1,6 @@
 use Rattle.std.proofs.Common.{subst}
 use Rattle.rb_agree.specs.declared.rules.Rule.{Rule}
-use Rattle.rb_agree.specs.inner.Rules.{IsReady}
+use Rattle.rb_agree.specs.inner.Rules.{RuleIsReady}
 use Rattle.rb_agree.proofs.Ruling.{holds-nowhere, holds-tests, holds-values, inhabited, type-in}
 use Rattle.rb_agree.proofs.rules.doubts.Goals as goal
 
@@ -42,4 +42,4 @@ sharing-requires-clause-ty c =
 
 pub failing-requires : goal.failing-requires
 failing-requires c = λ n leaf at.
-    subst (λ (r : Rule). IsReady c.args.ruled.now.layouts.now r) c.in-Tests.is c.requires.ready c.args.ruled.now.ty c.args.ruled.now.layout.now n leaf c.requires.ruled.layout at
+    subst (λ (r : Rule). RuleIsReady c.args.ruled.now.layouts.now r) c.in-Tests.is c.requires.ready c.args.ruled.now.ty c.args.ruled.now.layout.now n leaf c.requires.ruled.layout at

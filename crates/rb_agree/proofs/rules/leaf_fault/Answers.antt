@@ -9,7 +9,7 @@ use Rattle.rb_layout.specs.A7.{FailsTests, MeetsAll}
 use Rattle.rb_layout.specs.Spots as S
 use Rattle.rb_layout.specs.declared.evidence.Why.{Why}
 use Rattle.rb_agree.specs.declared.rules.Rule.TheVariants.{Roots, Blocks, Values, Fields, Tests, Splits, Flattening, Holding}
-use Rattle.rb_agree.specs.inner.Rules.{IsReady}
+use Rattle.rb_agree.specs.inner.Rules.{RuleIsReady}
 use Rattle.rb_agree.specs.Pointing.{AreMarks}
 use Rattle.rb_agree.specs.Written.{shown_items}
 use Rattle.rb_agree.specs.declared.rules.Rule.{Rule}
@@ -78,7 +78,7 @@ apart_fault-requires-clause-leaf c = slice_get_within c.args.ruled.now.layout.no
 
 pub tests_fault-requires : goal.tests_fault-requires
 tests_fault-requires c =
-    subst (λ (r : Rule). IsReady c.args.ruled.now.layouts.now r) c.in-Tests.is c.requires.ready c.args.ruled.now.ty c.args.ruled.now.layout.now c.args.n c.args.leaf.now c.requires.ruled.layout c.requires.leaf
+    subst (λ (r : Rule). RuleIsReady c.args.ruled.now.layouts.now r) c.in-Tests.is c.requires.ready c.args.ruled.now.ty c.args.ruled.now.layout.now c.args.n c.args.leaf.now c.requires.ruled.layout c.requires.leaf
 
 pub pointer_fault-requires : goal.pointer_fault-requires
 pointer_fault-requires c = subst (λ (ms : List Bool). AreMarks c.args.ruled.now.layouts.now ms) (sym c.as_slice-in-Flattening.ensures) c.requires.ruled.known.marks

@@ -1,5 +1,5 @@
 use Rattle.std.proofs.Common.{◌∙◌, Some, None, ap, subst, sym}
-use Rattle.rb_check.specs.Answers.{HasFault}
+use Rattle.rb_check.specs.Answers.{AnswersFault}
 use Rattle.rb_check.proofs.ProgramLemmas.{HasFault-fails, tree_fault, other_fault, tree_fault-Split}
 use Rattle.rb_check.proofs.program.+leaves.Goals as goal
 
@@ -17,4 +17,4 @@ pub check_tree-returns-in-Some : goal.check_tree-returns-in-Some
 check_tree-returns-in-Some t c =
     let same = tree_fault-Split c.args.types.now c.args.ty c.args.tree.now _ _ _ _ None c.in-Split.is c.as_slice.ensures c.in_ok-check_arms-in-Split.ensures
     ∙ ap (other_fault c.args.types.now c.args.ty) c.in-Some.is ∙ ap (tree_fault c.args.types.now c.args.ty) (sym c.get.ensures) in
-    subst (HasFault c.check_tree.result) (sym same) c.check_tree.ensures
+    subst (AnswersFault c.check_tree.result) (sym same) c.check_tree.ensures

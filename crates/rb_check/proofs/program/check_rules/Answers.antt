@@ -1,5 +1,5 @@
 use Rattle.std.proofs.Common.{Some, None, subst, sym}
-use Rattle.rb_check.specs.Answers.{HasFault}
+use Rattle.rb_check.specs.Answers.{AnswersFault}
 use Rattle.rb_check.proofs.ProgramLemmas.{HasFault-fails, rule_fault-opens}
 use Rattle.rb_check.proofs.program.check_rules.Goals as goal
 
@@ -10,6 +10,6 @@ returns-in_err-check_layouts c =
 
 pub returns : goal.returns
 returns c =
-    subst (HasFault c.check_functions.result)
+    subst (AnswersFault c.check_functions.result)
     (sym (rule_fault-opens c.args.program.now None (rw (c.as_slice.ensures, c.as_slice-2.ensures) at c.in_ok-check_layouts.ensures)))
     (rw c.as_slice-3.ensures at c.check_functions.ensures)

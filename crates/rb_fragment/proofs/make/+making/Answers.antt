@@ -3,7 +3,7 @@ use Rattle.rb_target.proofs.Growing.{Grows-append, Grows-refl, Grows-trans}
 use Rattle.rb_target.specs.Growth.{Grows}
 use Rattle.rb_fragment.specs.declared.reads.Read.{Bits, Joined}
 use Rattle.rb_fragment.specs.declared.reads.Share.{Share}
-use Rattle.rb_fragment.specs.Reads.{Makes, fits}
+use Rattle.rb_fragment.specs.Reads.{MakesReadIn, fits}
 use Rattle.rb_fragment.proofs.Moves.{drop_item}
 use Rattle.rb_fragment.proofs.ReadForms.{both, fits-Bits, fits-Address, fits-Joined, fits-Loaded, fits-Share}
 use Rattle.rb_fragment.proofs.Making.{Begins, made_slot, made_number, made_bits, made_loaded, put_share, drop_past, puts_none, puts_more, puts_all, begins_zero, begins_taken, joined_all, share_bits}
@@ -109,10 +109,10 @@ make_joined-returns-then-first-eq0-clause-makes t c plan k le fit =
     let item : shares ≡ p ∷ rest = first ∙ ap (λ ps. p ∷ ps) (sym (take_all after (length shares - 1) (omega (arith, long)))) in
     let fit1 = sym (ap (λ ps. fits k (Joined ps)) item) ∙ fit in
     let f = share_bits plan p rest k fit1 in
-    let made : Makes plan (Bits p.read p.o p.l) a c.emit_take.new.body c.in_ok-slot.slot =
+    let made : MakesReadIn plan (Bits p.read p.o p.l) a c.emit_take.new.body c.in_ok-slot.slot =
     rw (c.in_ok-slot.ensures.code, c.in_ok-slot.ensures.slot) (made_bits plan p.read p.o p.l a c.make.new.body c.in_ok-from.from k f.1 (c.in_ok-from.ensures.makes plan k le f.0)) in
     let begun = begins_taken plan p rest a c.emit_take.new.body c.in_ok-slot.slot k le fit1 c.if-first-eq0.true (omega (arith, c.in_ok-slot.ensures.slot, c.in_ok-from.ensures.more)) made in
-    subst (λ ps. Makes plan (Joined ps) a c.put_shares.new.body c.in_ok-slot.slot) (sym item)
+    subst (λ ps. MakesReadIn plan (Joined ps) a c.put_shares.new.body c.in_ok-slot.slot) (sym item)
     (joined_all plan (p ∷ rest) rest a c.emit_take.new.body c.put_shares.new.body c.in_ok-slot.slot k le f.2 begun c.in_ok-put_shares.ensures.puts)
 
 pub make_joined-returns-then-first-eq0-clause-grows : goal.make_joined-returns-then-first-eq0-clause-grows

@@ -1,12 +1,12 @@
 use Rattle.rb_layout.specs.inner.Barring.{AreAsked}
-use Rattle.rb_layout.specs.inner.Finding.{Keeps}
+use Rattle.rb_layout.specs.inner.Finding.{KeepsGoals}
 use Rattle.rb_layout.specs.inner.Settling.{AreTrue, pending}
 use Rattle.rb_layout.proofs.settling.settle.Given as goal
 
 abbrev pub invariant-loop : goal.invariant-loop
 invariant-loop l = record {
   asked : AreAsked l.entries;
-  keeps : Keeps l.fn.entries l.entries;
+  keeps : KeepsGoals l.fn.entries l.entries;
   true_ones : AreTrue l.types l.layouts l.fn.entries → AreTrue l.types l.layouts l.entries;
 }
 

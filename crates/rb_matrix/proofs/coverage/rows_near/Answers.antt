@@ -4,7 +4,7 @@ use Rattle.std.specs.Bool.{OnTrue}
 use Rattle.std.proofs.lemmas.List.{take_more}
 use Rattle.std.proofs.lemmas.Option.{slice_get_read}
 use Rattle.rb_core.specs.Matching.{option_matches}
-use Rattle.rb_matrix.specs.Apart.{AreApart}
+use Rattle.rb_matrix.specs.Apart.{PatternsAreApart}
 use Rattle.rb_matrix.proofs.Differing.{rows-same, rows-more}
 use Rattle.rb_matrix.proofs.coverage.rows_near.Goals as goal
 
@@ -13,7 +13,7 @@ loop-number-preserved-then-are_apart c =
     let pats = c.args.pats.now in let p = c.args.pat.now in let js = c.args.numbers.now in let i = c.loop-number.number-index in let q = c.in-Some.other.now in
     let j = slice_index_or js i 0 in
     let at : slice_get pats j ≡ Some q = slice_get_read pats _ j q refl c.in-Some.ensures.lookup.3.0 c.in-Some.ensures.lookup.1 in
-    let apart = subst (λ b. OnTrue b (AreApart q p)) c.if-are_apart.true c.are_apart.ensures in
+    let apart = subst (λ b. OnTrue b (PatternsAreApart q p)) c.if-are_apart.true c.are_apart.ensures in
     rows-same p pats (take i js) (take (i + 1) js) c.loop-number.rows j (take_more js i 0 c.loop-number-test.true) c.loop-number.invariant
     (λ v m e. apart v (sym (ap (λ o. option_matches o v) at) ∙ e) m)
 

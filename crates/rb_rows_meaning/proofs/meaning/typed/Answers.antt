@@ -1,5 +1,5 @@
 use Rattle.std.proofs.Common.{subst, arith, List, Ok}
-use Rattle.rb_read.specs.Files.{IsAnswer}
+use Rattle.rb_read.specs.Files.{IsFileAnswer}
 use Rattle.rb_syntax.specs.Cutting.{IsRight}
 use Rattle.rb_syntax.specs.Lexing.{Lexed}
 use Rattle.rb_syntax.specs.Tokens.{tokens}

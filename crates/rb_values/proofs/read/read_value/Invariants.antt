@@ -1,7 +1,7 @@
 use Rattle.std.proofs.Common.{◌≡◌, ◌-◌, ◌≤◌, List, length}
 use Rattle.rb_syntax.specs.declared.token.Placed.{Placed}
 use Rattle.rb_values.specs.inner.States.{State, outline_of}
-use Rattle.rb_values.specs.inner.Finishing.{IsKept}
+use Rattle.rb_values.specs.inner.Finishing.{TypingIsKept}
 use Rattle.rb_values.proofs.ReadLemmas.{At}
 use Rattle.rb_values.proofs.read.read_value.Given as goal
 
@@ -14,7 +14,7 @@ invariant-loop-typing l = record {
   outline : l.outline ≡ outline_of state;
   -- each node has a byte
   nodes : l.outline.nodes ≤ l.at;
-  kept : IsKept l.types l.fn.ty l.fn.limit state l.typing;
+  kept : TypingIsKept l.types l.fn.ty l.fn.limit state l.typing;
 }
 
 abbrev pub decreases-loop-typing : goal.decreases-loop-typing
