@@ -3,7 +3,7 @@
 //! calls an incomplete signature, and none where they are a complete one: where each value of the
 //! column's type begins with one of them.
 
-ghost use Rattle.std.specs.Prelude.{◌≡◌, ◌+◌, ◌^◌, ◌<◌, ◌≤◌, ℕ, [], length, IfOk, IfSome, MatchOption, true, false};
+ghost use Rattle.std.specs.Prelude.{◌≡◌, ◌+◌, ◌^◌, ◌<◌, ◌≤◌, ℕ, [], IfOk, IfSome, MatchOption, true, false};
 ghost use Rattle.rb_core.specs.declared.value.Value.TheOpen as Layers;
 ghost use Rattle.rb_core.specs.declared.types.Ty.TheVariants as Tys;
 ghost use Rattle.rb_matrix.specs.Beside.{IsFirstCon, IsFirstBeside, IsBesideAnswer};

@@ -5,12 +5,12 @@
 //! is what becomes of the row in S or in D; a row without an image is left out. Rows need not be
 //! typed.
 
-ghost use Rattle.std.specs.Prelude.{◌≡◌, ◌∷◌, ◌++◌, List, ℕ, length, drop, true, false, IfOk, OnOk, IsSome, slice_get, nat_lt, ◌^◌};
+ghost use Rattle.std.specs.Prelude.{◌≡◌, ◌∷◌, ◌++◌, List, length, drop, true, false, IfOk, OnOk, IsSome, slice_get, nat_lt, ◌^◌};
 ghost use Rattle.std.specs.Option.{option_copied};
 ghost use Rattle.rb_core.specs.declared.value.Value as Values;
 ghost use Rattle.rb_core.specs.Values.{subs, fields_in};
-ghost use Rattle.rb_matrix.specs.Heads.{begins, unfolded, row_head, option_begins, column_begins, column_fields, fields_at};
-ghost use Rattle.rb_matrix.specs.Rows.{row_matches, any_row, image_matches, vector_of};
+ghost use Rattle.rb_matrix.specs.Heads.{begins, unfolded, row_head, option_begins, column_fields, fields_at};
+ghost use Rattle.rb_matrix.specs.Rows.{row_matches, image_matches};
 ghost use Rattle.rb_matrix.specs.Specialize.{wilds, special_row, special, default_row, defaults, specialized, defaulted, UnfoldsAlike, RestsAlike};
 
 use crate::matrix::{Head, Matrix};
