@@ -3,6 +3,10 @@
 //! A unit is a bit of an integer or a word of a data type. What the parts of the leaf hold of a position
 //! is a list of runs of units. Take a field of type u8, bits 0 up to 4 of which stand in one part and bits
 //! 3 up to 8 in another. The runs are 4 units from 0 on and 5 units from 3 on, so unit 3 is held twice.
+//!
+//! The items are the leaf's words and inlined fields as they are written, and `prov` is its
+//! provenance. A function that says how something fails gives the fault that it finds first, or
+//! None where nothing fails.
 
 ghost use Rattle.std.specs.Prelude.{◌≡◌, IfOk, MatchOption};
 ghost use Rattle.std.specs.List.{flat_map};

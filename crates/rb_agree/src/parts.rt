@@ -1,4 +1,9 @@
 //! Whether the parts of written words lie in them, are disjoint, and fit what they hold.
+//!
+//! An item of a leaf, by number `i`, is a word with its parts or an inlined field. A part is `l`
+//! bits of its word from bit `o` on. The program has the data types `types` and the layout
+//! declarations `decls`, and the leaf's provenance is `prov`. A function that says how something
+//! fails gives the fault that it finds first, or None where nothing fails.
 
 ghost use Rattle.std.specs.Prelude.{◌≡◌, ◌↔◌, ◌<◌, ◌≤◌, length, IfOk, IsTrue, MatchOption};
 ghost use Rattle.rb_layout.specs.Flattening.{IsOpenIn};

@@ -1,4 +1,6 @@
-//! The sizes and the types of a value's nodes.
+//! The sizes and the types of a value's nodes. A node is the outermost level of a subvalue, the
+//! value of the node. It stands behind the nodes of its fields, so that the last node is that of
+//! the whole.
 
 ghost use Rattle.std.specs.Prelude.{◌≡◌, ◌++◌, List, map, true, IfOk, OnOk};
 ghost use Rattle.rb_core.specs.Values.{is_of_type, node_count};
@@ -15,7 +17,8 @@ use rb_values::forest::Forest;
 use rb_values::nodes::Layer;
 use std::alloc::{AllocError, Global};
 
-/// How many nodes the value of each node has.
+/// How many nodes the value of each node has, the node itself among them, node by node; promised of
+/// what is a value of some type.
 pub(crate) fn sizes_of(alloc: Global, value: &Forest) -> Result<Seq<usize>, AllocError>
     ensures { IfOk result (λ sizes. (types : List Decl) (ty : Type_) → is_of_type types value.now ty ≡ true
         → sizes ≡ map node_count (posts value.now)) }

@@ -1,4 +1,6 @@
-//! The tree of a matrix, unless it is too large.
+//! The tree of a matrix, unless it is too large. A column of the matrix is a position of the value
+//! that is matched, and a row has a clause's number and a pattern for each column. `left` is how
+//! many nodes may still be built; where None is given, what is left of it says nothing.
 
 ghost use Rattle.std.specs.Prelude.{◌≡◌, ◌<◌, IfOk, is_some};
 ghost use Rattle.rb_matrix.specs.Heads.{first_head};
@@ -18,7 +20,8 @@ use rb_matrix::matrix::Head;
 use std::alloc::{AllocError, Global};
 
 /// The tree of a matrix, with its size taken off the number of nodes that may still be built; None
-/// where these are too few.
+/// where these are too few. It takes the clause of the first row that matches; where there is no
+/// row, as never comes of an exhaustive match, it is clause 0.
 ///
 /// # Errors
 ///
@@ -54,8 +57,8 @@ pub fn build(
     }
 }
 
-// A test of the first column, in which a row has a head, with its branches; None where too few
-// nodes may still be built.
+// A test of the first column, in which a row has a head, with its branches; clause 0 where there is
+// no column; None where too few nodes may still be built.
 #[cycle(building)]
 fn build_test(
     alloc: Global,

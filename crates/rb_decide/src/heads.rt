@@ -1,4 +1,5 @@
-//! The heads of a column, in their order.
+//! The heads of a column, in their order. A head is what a pattern begins with: a constructor, or a
+//! number. A wildcard and a variable have none.
 
 ghost use Rattle.std.specs.Prelude.{◌≡◌, IfOk};
 ghost use Rattle.rb_decide.specs.ClauseMatrices.{column_heads};
@@ -9,7 +10,8 @@ use rb_matrix::matrix::Head;
 use rb_matrix::numbers::Numbers;
 use std::alloc::{AllocError, Global};
 
-/// The heads that stand in the first column, each once, in the order of first standing there.
+/// The heads that stand in the rows' first column, each once, in the order of first standing there;
+/// a row whose first pattern has no head, or that is empty, adds none.
 ///
 /// # Errors
 ///

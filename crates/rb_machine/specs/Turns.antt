@@ -89,7 +89,7 @@ pub record IsPlace (funs : List CodeFun) (fun pc : ℕ) (held : List ℕ) : Type
   pub inside : pc < length (body_of funs fun)
   pub slots : length held ≡ width_of funs fun
 
--- a call that waits is not at the end of its body
+-- a call that waits is of a function of the code, and its body goes on behind the call instruction, at number pc
 pub record IsFrame (funs : List CodeFun) (frame : Frame) : Type 0 where
   pub known : frame.fun < length funs
   pub goes_on : frame.pc + 1 < length (body_of funs frame.fun)

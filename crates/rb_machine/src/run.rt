@@ -17,9 +17,10 @@ use rb_target::code::{Code, CodeFun};
 use rb_target::outcome::{End, Ran};
 use std::alloc::{AllocError, Global};
 
-/// Runs a function of the code over a memory, with at most so many calls, its own included. One step
-/// is ticked for each instruction that is begun. Memory is taken here and at calls alone, for their slots
-/// and for a frame for each call that waits; after want of memory the steps stand anywhere between.
+/// Runs function `fun` of the code on these words, over a memory, with at most so many calls, its
+/// own included; with none it is `Spent` at once. One step is ticked for each instruction that is
+/// begun. Memory is taken here and at calls alone, for their slots and for a frame for each call
+/// that waits; after want of memory the steps stand anywhere between.
 ///
 /// # Errors
 ///
@@ -70,7 +71,8 @@ pub fn run<M: ByteMemory, L: Ledger>(
     }
 }
 
-// A run as it begins.
+// A run as it begins, at the first instruction of function `fun`: the words stand in its first
+// slots and 0 in all others, no call waits, and `left` more calls may be made.
 fn first_state(
     alloc: Global,
     funs: &[CodeFun],

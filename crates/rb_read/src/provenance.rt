@@ -3,7 +3,9 @@
 //!
 //! Each reader takes the tokens that are left, `placed`, and gives what it read with those behind
 //! it. Of the file there are `total` tokens in all, so that a token's number follows from how many
-//! are left. A node's first token has number `at`. How many levels are left, `levels` says.
+//! are left. A node's first token has number `at`. How many levels are left, `levels` says. A
+//! reader is `Stuck` at the first token that may not stand where it does, or at the end of the
+//! tokens, and at a node for which no level is left it stops with `Deep`.
 
 ghost use Rattle.std.specs.Prelude.{◌≡◌, ◌<◌, ◌^◌};
 ghost use Rattle.rb_syntax.specs.declared.tree.PatTree.TheVariants as pats;

@@ -1,4 +1,5 @@
-//! The lines of leaves.
+//! The lines of leaves. A way leads to a leaf from the root of the splits: it has the leaf's
+//! number, and the lines of the conditions of the splits above it.
 
 ghost use Rattle.std.specs.Prelude.{◌≡◌, ◌++◌, OnOk};
 ghost use Rattle.rb_show.specs.Lines.{leaf_lines};

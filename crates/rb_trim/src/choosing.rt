@@ -1,4 +1,6 @@
-//! What is wanted of a body, from its last instruction back, which two instructions become one, and what runs come to.
+//! What is wanted of a body, from its last instruction back, which two instructions become one, and
+//! what runs come to. `facts` are those known before an instruction, or lists of them, one for each
+//! instruction of the body.
 
 use crate::fact::{Content, Fact};
 use crate::hints::RETURNS;

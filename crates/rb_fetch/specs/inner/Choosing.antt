@@ -196,7 +196,8 @@ pub record TakesOneWay (plan : Plan) (old new : Sheet) (ways : List Way) (v : Va
 
 -- Choosing -----------------------------------------------------------------------------------
 
--- the plan of an agreed program, some leaves for values of constructor k of type t, and parts in slots below n
+-- what the choice of a leaf begins with: `plan` is one of the agreed program, `layout` is that of type t, `leaves`
+-- are numbers of its leaves for values of constructor k, and the parts xs are in slots below n
 pub record ChoiceIsReady (agreed : LaidOut) (plan : Plan) (t k : ℕ) (layout : Layout) (leaves : List ℕ)
     (xs : List Subvalue) (n : ℕ) : Type 0 where
   pub of : IsPlanOf agreed plan
@@ -204,7 +205,8 @@ pub record ChoiceIsReady (agreed : LaidOut) (plan : Plan) (t k : ℕ) (layout : 
   pub are_leaves : AreLeavesOf layout k leaves
   pub given : PartsGiven plan n xs
 
--- the code takes each value of one of the leaves to a way of its leaf
+-- the code from old to new takes each value of type t and of one of the leaves, of which `seen` is known and whose
+-- parts xs are in slots, to a way of its leaf, with at most the switches that are left for constructor k
 pub record ChoosesWays (plan : Plan) (t k : ℕ) (layout : Layout) (leaves : List ℕ) (seen : Seen)
     (xs : List Subvalue) (old new : Sheet) (ways : List Way) : Type 0 where
   pub adds : Adds plan old new

@@ -65,8 +65,9 @@ path_of p = p.path
 abbrev pub looks : Plan → List Place → ℕ
 looks plan path = looks_with (choosing_look plan.layouts) path
 
--- what is asked of the code of a graph, and the code behind which it begins; the slots below the base are kept, and
--- parts are saved in spots whose slots are from it on
+-- what is asked of the code of a graph, and the code `first` behind which it begins; the slots below the base are
+-- kept, and parts are saved in spots whose slots are from it on; the value is of type ty, the reads `words` give its
+-- words, and the clauses have the patterns pats; the graph has these nodes, of which `root` is where it begins
 pub record Job : Type 0 where
   pub base : ℕ
   pub spots : List Spot
@@ -165,7 +166,7 @@ pub record IsFineJob (agreed : LaidOut) (job : Job) : Type 0 where
 
 -- Nodes -----------------------------------------------------------------------------------------
 
--- the job that is done for a graph from some code on
+-- the job of these parts: a graph's code, to be made behind the code `first`
 abbrev pub job_of : Plan → ℕ → List Spot → Ty → List Read → List Pat → List GraphNode → ℕ → Sheet → Job
 job_of plan base spots ty words pats nodes root first = record {
   base = base;

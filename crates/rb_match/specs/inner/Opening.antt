@@ -1,5 +1,8 @@
 -- The ways of a part whose fields are saved: made leaf by leaf. A way is code behind that which finds the part's
--- leaf: for values of one leaf it saves fields, and leaves by an edge, an open target for a node.
+-- leaf: for values of one leaf it saves fields, and leaves by an edge, an open target for a node. The part is tested:
+-- by one of the `arms` its value is led to a node, or to node `other`, if there is one, where no arm is taken. What
+-- is matched is `graph`: a type, patterns, and nodes with tests, perhaps none. The facts `known` are so where the
+-- test stands; `found`, or an entry of `onward`, says where the values of a leaf go on behind it, if anywhere.
 use denote.Ref.{Bor}
 use Rattle.std.specs.Prelude.{◌≡◌, ℕ, ◌+◌, ◌-◌, ◌<◌, ◌≤◌, nat_le, List, [], ◌∷◌, ◌++◌, map, length, Bool, true, Option, Some, None, slice_get, if◌then◌else◌}
 use Rattle.rb_core.specs.declared.value.Value.{Value, out-Value}
@@ -78,8 +81,8 @@ abbrev pub ShowOnward : LaidOut → List Known → Option Onward → Type 0
 ShowOnward agreed known None = Unit {0}
 ShowOnward agreed known (Some found) = AllFollow agreed known found.known
 
--- where the values of a leaf of data type t go on behind a test of the part at a position, if they are led anywhere,
--- and what is known then
+-- `found` says where the values of a leaf of data type t, all of constructor `con`, go on behind a test of the part
+-- at a position, if they are led anywhere, and what is known then
 pub record LeadsLeaf (agreed : LaidOut) (graph : Whole) (t : ℕ) (known : List Known) (position : Bor (List ℕ))
     (arms : List GraphArm) (other : Option ℕ) (leaf : ℕ) (found : Option Onward) : Type 0 where
   pub con : ℕ
