@@ -1,4 +1,7 @@
-//! Laws of files that are accepted.
+//! Laws of files that are accepted. Each function does nothing: the law is its contract. A text is
+//! the bytes of a file. It is accepted where it is the file of a program that is typed, whose
+//! matches are exhaustive and whose layouts agree. It is refused where one of the steps on the way
+//! there, from its tokens to its layouts, finds a fault.
 
 ghost use Rattle.rb_accept.specs.Laws.{HaveNoRefusal, HaveOneCut, HaveOneProgram, HaveOneTree};
 
@@ -17,7 +20,7 @@ pub fn texts_have_one_program()
     ensures { HaveOneProgram }
 {}
 
-/// A text that is accepted is not refused.
+/// A text that is accepted is refused at no step.
 pub fn accepted_texts_have_no_refusal()
     ensures { HaveNoRefusal }
 {}

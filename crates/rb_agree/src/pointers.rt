@@ -1,4 +1,5 @@
-//! Whether the types that a leaf flattens have no pointer in their leaves.
+//! Whether the types that a leaf flattens have no pointer in their leaves. A leaf flattens the
+//! types of the constructors that stand below the root of its provenance.
 
 ghost use Rattle.std.specs.Prelude.{◌≡◌, IfOk, MatchBool, MatchOption};
 ghost use Rattle.std.specs.List.{flat_map};
@@ -83,7 +84,7 @@ fn leaves_point(leaves: &[Leaf]) -> bool
     false
 }
 
-/// For each layout whether one of its leaves has a pointer part.
+/// For each layout, in their order, whether one of its leaves has a pointer part.
 ///
 /// # Errors
 ///
@@ -108,7 +109,8 @@ fn is_marked(marks: &[bool], ty: u32) -> bool
     }
 }
 
-// The first marked type of whose constructors one stands in a pattern.
+// The first marked type of whose constructors one stands in a pattern, its root included; None
+// where there is none.
 #[cycle(marking)]
 fn marked_in(marks: &[bool], pat: &Pat) -> Option<u32>
     ensures { FindsIn (IsUnmarked marks.now) (IsMarked marks.now) (cons_of pat.now) result }
@@ -126,7 +128,8 @@ fn marked_in(marks: &[bool], pat: &Pat) -> Option<u32>
     }
 }
 
-// The first marked type of whose constructors one stands in these patterns, from left to right.
+// The first marked type of whose constructors one stands in these patterns, from left to right;
+// None where there is none.
 #[cycle(marking)]
 fn marked_among(marks: &[bool], pats: &[Pat]) -> Option<u32>
     ensures { FindsIn (IsUnmarked marks.now) (IsMarked marks.now) (flat_map cons_of pats.now) result }
@@ -139,7 +142,8 @@ fn marked_among(marks: &[bool], pats: &[Pat]) -> Option<u32>
     None
 }
 
-// The first marked type of whose constructors one stands below the root of a provenance.
+// The first marked type of whose constructors one stands below the root of a provenance; None where
+// there is none.
 fn marked_below(marks: &[bool], prov: &Pat) -> Option<u32>
     ensures { FindsIn (IsUnmarked marks.now) (IsMarked marks.now) (cons_below prov.now) result }
 {
@@ -151,8 +155,9 @@ fn marked_below(marks: &[bool], prov: &Pat) -> Option<u32>
     }
 }
 
-/// A type that a leaf flattens and whose leaves have a pointer part, where `marks` tells of each type
-/// whether its leaves have one.
+/// Why a leaf fails: the first type that it flattens and of whose leaves one has a pointer part.
+/// None where there is no such type. `marks` tells of each type whether one of its leaves has a
+/// pointer part, as `pointing` finds it.
 pub fn pointer_fault(layouts: &[Layout], marks: &[bool], leaf: &Leaf) -> Option<Why>
     requires { AreMarks layouts.now marks.now }
     ensures { MatchOption result (FlattensNoPointer layouts.now leaf.now) (FailsNoPointer layouts.now leaf.now) }

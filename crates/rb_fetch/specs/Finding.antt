@@ -1,5 +1,7 @@
 -- What code that finds a value's leaf owes. It leaves by holes: a hole is a target of a jump or switch that is still
--- open, and its `leaf` is the number of the leaf, or of the group of leaves, to which it leads.
+-- open, and its `leaf` is the number of the leaf, or of the group of leaves, to which it leads. A list of groups has
+-- at each leaf's number that of its group, or None; past its end a leaf has no group either. A plan has a program and
+-- its layouts.
 use Rattle.std.specs.Prelude.{◌≡◌, ℕ, List, Bool, Option, Some, None, length}
 use Rattle.rb_core.specs.declared.value.Value.{Value}
 use Rattle.rb_core.specs.declared.types.Ty.TheVariants.{Named}
@@ -19,7 +21,7 @@ use Rattle.rb_fragment.specs.WordReads.{AreMeant, AllFit}
 use Rattle.rb_fragment.specs.declared.reads.Read.{Read}
 use Rattle.rb_fetch.specs.Pruning.{group_at, nesting_in, pruned_of}
 
--- the words represent a value of the type, whose leaf is number n
+-- the words represent, over memory m, a value of type t, whose leaf is number n
 pub record HasLeaf (plan : Plan) (t n : ℕ) (ws : List ℕ) (m : Memory) : Type 0 where
   pub layout : Layout
   pub is_layout : layout_of plan.layouts t ≡ Some layout
@@ -55,7 +57,7 @@ FindsLeafOf agreed t reads old new holes =
     → Branches plan old.slots old new holes (depth_of plan.layouts (Named t))
     (λ n s m. HasLeafMeant plan t n reads s m) (λ n s m. Unit {0})
 
--- the words represent a value of type t, whose leaf has group g
+-- the words represent, over memory m, a value of type t, whose leaf has group g in the list of groups
 pub record HasGroup (plan : Plan) (t : ℕ) (groups : List (Option ℕ)) (g : ℕ) (ws : List ℕ) (m : Memory) : Type 0 where
   pub leaf : ℕ
   pub is_group : group_at groups leaf ≡ Some g

@@ -1,4 +1,5 @@
--- Words that represent a value from which all pointers fall, and that the images of such words are sound.
+-- Words that represent a value from which all pointers fall, and that the images of such words are sound. A pointer
+-- falls where it leads to a lower address than that of the block in which it is kept, or is kept in no block.
 use Rattle.std.specs.Prelude.{◌≡◌, ◌⊎◌, ℕ, ◌^◌, ◌<◌, List, [], ◌∷◌, false, Option, Some, None, slice_get}
 use Rattle.rb_core.specs.declared.program.Program.{Program}
 use Rattle.rb_core.specs.declared.types.DataDecl.{DataDecl}

@@ -1,4 +1,6 @@
-//! Code that saves the fields of a part, from the leaf that it is known to have.
+//! Code that saves the fields of a part, from the leaf that it is known to have. A position leads
+//! from the whole value to a part, a path from a part to what stands below it: field numbers, the
+//! outermost first. A part is opened where its fields are saved in its stead.
 
 ghost use Rattle.std.specs.Prelude.{◌≡◌, ◌++◌, IfOk, IfSome, OnOk, true, false};
 ghost use Rattle.rb_target.specs.Growth.{Grows};
@@ -32,7 +34,7 @@ pub struct LeafSlots<'b> {
 ///
 /// # Errors
 ///
-/// Want of memory.
+/// Want of memory, or a leaf that has no part of this type at the path.
 pub fn fetch_part(
     alloc: Global,
     body: &mut Body,
@@ -53,7 +55,7 @@ pub fn fetch_part(
     Ok(slots)
 }
 
-// The type of what stands at a path of a pattern of a type.
+// The type of what stands at a path of a pattern of a type; None where nothing stands there.
 fn type_below(types: &[DataDecl], ty: Ty, pat: &Pat, path: &[u32]) -> Option<Ty>
     ensures { IfSome result (λ at. HasBelow types.now ty pat.now path.now at) }
 {
@@ -72,7 +74,8 @@ fn type_below(types: &[DataDecl], ty: Ty, pat: &Pat, path: &[u32]) -> Option<Ty>
     }
 }
 
-// Whether a leaf has a part of this type at a path.
+// Whether leaf number `leaf` of type `ty` has a part of type `at` at a path; false without such a
+// leaf.
 fn is_position(agreed: &Agreed, ty: u32, leaf: usize, path: &[u32], at: Ty) -> bool
     ensures { result ≡ true → IsPositionOf agreed.now ty leaf path.now at }
 {
@@ -125,7 +128,8 @@ pub fn spot_at(spots: &[Spot], position: &[u32], ty: Ty) -> Option<usize>
     None
 }
 
-// Saves the part at a path in a spot, whose slots are none of the value's.
+// Saves the part at a path in a spot, whose slots are none of the value's: an error where one is,
+// or where the leaf has no part of the spot's type at the path.
 fn save_part(
     alloc: Global,
     body: &mut Body,
@@ -168,7 +172,8 @@ pub struct Source<'b, 'a> {
     pub needs: &'b Needs<'a>,
 }
 
-// Saves what stands at a path of a part whole, where there is a spot for its position.
+// Saves what stands at a path of a part whole, where there is a spot for its position, `below`, and
+// its type. The answer is what was known and, where it is saved, that it is.
 fn save_whole<'a>(
     alloc: Global,
     body: &mut Body,
@@ -199,8 +204,9 @@ fn save_whole<'a>(
     }
 }
 
-// Saves what is needed of what stands at a path of a part: whole, or field by field where it is opened, which asks that
-// no test looks at it itself.
+// Saves what is needed of what stands at a path of a part, the subpattern `sub` of its provenance
+// at type `at`: whole, or field by field where it is opened, which asks that no test looks at it
+// itself. The answer is what was known and what is saved.
 #[cycle(saving)]
 fn save_at<'a>(
     alloc: Global,
@@ -229,8 +235,10 @@ fn save_at<'a>(
     Ok(whole)
 }
 
-// Saves what is needed of each field of what stands at a path of a part: whole, or field by field
-// where it is opened. A pattern that is no constructor has no fields there.
+// Saves what is needed of each field of what stands at a path of a part, which is `pat` of its
+// provenance: whole, or field by field where the field is opened. Where `pat` is no constructor
+// there are no fields, and nothing is saved. A field that its constructor's declaration lacks is an
+// error. The answer is what was known and what is saved.
 #[cycle(saving)]
 fn save_below<'a>(
     alloc: Global,

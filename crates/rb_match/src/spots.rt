@@ -1,4 +1,7 @@
-//! Spots: slots in which parts of a value are saved, so that they are there on all ways.
+//! Spots: slots in which parts of a value are saved, so that they are there on all ways. A position
+//! is the field numbers that lead from the value to a part of it, the outermost first; that of the
+//! value itself is empty. A leaf takes a subvalue apart where its provenance, the pattern of its
+//! values, has a constructor in a field of its root.
 
 ghost use Rattle.std.specs.Prelude.{◌≡◌, ◌++◌, ◌∷◌, [], IfOk, OnOk, true, false, nat_eq};
 ghost use Rattle.std.specs.List.{list_any, starts_with};
@@ -31,7 +34,7 @@ pub struct Wanted {
 
 // Which parts are saved --------------------------------------------------------------------------
 
-// Whether a leaf takes a subvalue apart.
+// Whether a leaf takes a subvalue apart: its provenance has a constructor in a field of its root.
 fn takes_apart(leaf: &Leaf) -> bool
     ensures { result ≡ true → is_shallow leaf.now ≡ false }
 {
@@ -54,7 +57,7 @@ fn has_constructor(subs: &[Pat]) -> bool
     false
 }
 
-/// Whether some leaf of a type takes a subvalue apart.
+/// Whether some leaf of a type takes a subvalue apart; false where the type has no layout.
 pub fn is_deep(agreed: &Agreed, ty: u32) -> bool
     ensures { result ≡ true → is_plain agreed.now.layouts ty ≡ false }
 {
@@ -140,14 +143,15 @@ fn parts_to_save(alloc: Global, agreed: &Agreed, pats: &[Pat]) -> Result<Seq<Wan
     Ok(found)
 }
 
-// Whether a position is that of a field of the part at another.
+// Whether a position is that of a field of the part at another: the other with one field number
+// more.
 fn is_field_of(position: &[u32], above: &[u32]) -> bool
     ensures { result ≡ is_field position.now above.now }
 {
     position.len() > above.len() && position.len() - above.len() == 1 && is_within(position, above)
 }
 
-/// Whether there is a spot for a field of the part at a position.
+/// Whether there is a spot for a field of the part at a position, itself and not one below it.
 pub fn has_spot_below(spots: &[Spot], position: &[u32]) -> bool
     ensures { result ≡ list_any (λ (spot : Spot). is_field spot.position position.now) spots.now }
 {
@@ -241,7 +245,7 @@ pub fn needs_from<'a>(
     Ok(Needs::Tests(tests))
 }
 
-/// Whether the part at a position is needed, or one below it.
+/// Whether later tests need the part at a position, or one below it; so it is where all is needed.
 pub fn is_needed(needs: &Needs, position: &[u32]) -> bool {
     match needs {
         Needs::All => true,
@@ -252,7 +256,7 @@ pub fn is_needed(needs: &Needs, position: &[u32]) -> bool {
     }
 }
 
-/// Whether the part at a position is looked at itself.
+/// Whether a later test looks at the part at a position itself; so it is where all is needed.
 pub fn is_tested(needs: &Needs, position: &[u32]) -> bool {
     match needs {
         Needs::All => true,

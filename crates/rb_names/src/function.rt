@@ -1,4 +1,5 @@
-//! Functions.
+//! Functions, whose names become numbers: a variable gets that of its binder, a data type its
+//! number in the tables.
 
 ghost use Rattle.std.specs.Prelude.{◌≡◌, ◌+◌, length, map, OnOk, IfErr};
 ghost use Rattle.rb_names.specs.declared.fault.NameFault.TheVariants.{Memory};
@@ -41,7 +42,8 @@ pub fn number_function(alloc: Global, tables: &Tables, tree: &FunTree) -> Result
     })
 }
 
-// Goes into the scope of parameters, which are numbered from `next` on.
+// Goes into the scope of parameters, which are numbered from `next` on; `next` is then the number
+// of the binder that follows them. The fault is want of memory.
 fn enter_params<'a>(
     alloc: Global,
     scope: &mut Scope<'a>,
@@ -70,7 +72,8 @@ fn bind_params<'a>(frame: &mut Frame<'a>, trees: &'a [ParamTree]) -> Result<(), 
     Ok(())
 }
 
-// A parameter with the numbers of its variable and of its type.
+// A parameter with the numbers of its variable, which the scope has, and of its type. `Unknown`
+// where no type has the name of its type; or want of memory.
 fn number_param(
     alloc: Global,
     tables: &Tables,
@@ -88,7 +91,8 @@ fn number_param(
     })
 }
 
-// The parameters of a function, in their order.
+// The parameters of a function, in their order, with the numbers of their variables, which the
+// scope has, and of their types. `Unknown` for the first name that no type has; or want of memory.
 fn number_params(
     alloc: Global,
     tables: &Tables,

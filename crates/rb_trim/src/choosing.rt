@@ -20,9 +20,11 @@ const MOST_ARMS: usize = 12;
 // How many words a switch returns at most.
 const MOST_WORDS: usize = 12;
 
-// What is wanted of a body, and what is read: for each instruction 1 where it is wanted, slots that are not read from
-// there on though a later line reads them, and where a jump to it goes on; for each slot one more than the number of the
-// last instruction that reads it.
+// What is wanted of a body, and what is read. An instruction that is wanted may not be left out,
+// unless it is a jump over nothing. For each instruction, `wanted` has 1 where it is wanted and
+// else 0, `dead` slots that are not read from there on though a later instruction reads them, and
+// `ends` where a jump to it goes on. For each slot, `reads` has one more than the number of the
+// last wanted instruction that reads it, or 0 where none does.
 #[derive(Drop)]
 pub(crate) struct Rest {
     pub(crate) wanted: Seq<usize>,
@@ -38,8 +40,9 @@ pub(crate) fn put(numbers: &mut Seq<usize>, i: usize, number: usize) {
     }
 }
 
-// Whether a slot is read from an instruction on: it or a later line reads the slot, and it is not
-// known that no way comes to one that does.
+// Whether a slot is read from instruction `pc` on: it or a later one reads the slot, and it is not
+// known that no way from there comes to one that does. False past the last instruction, and for a
+// slot that is not in the list of reads.
 fn is_read(rest: &Rest, pc: usize, slot: usize) -> bool {
     let is_dead = match rest.dead.get(pc) {
         None => false,
@@ -108,7 +111,7 @@ fn is_read_on(rest: &Rest, pc: usize, instr: &Instr, slot: usize) -> bool {
 }
 
 // Those of some slots that are not read from an instruction on, which itself reads `reads`, though
-// a later line reads them.
+// a later one reads them.
 fn unread(
     alloc: Global,
     rest: &Rest,
@@ -303,8 +306,9 @@ fn turns_back(
     Ok(is_whole(facts_at(facts, pc), *slot, *other, arms))
 }
 
-// For each instruction 1 where one instruction stands for it and another: a load of a word that is copied right behind,
-// and read by nothing else, and a switch whose other way leads to one on the same word. 2 where a switch returns.
+// For each instruction 1 where one instruction stands for it and another: a load of a word that is
+// copied right behind, and read by nothing else, and a switch whose other way leads to one on the
+// same word. 2 where a switch returns, and else 0.
 pub(crate) fn give(
     alloc: Global,
     body: &[Instr],
@@ -352,7 +356,9 @@ pub(crate) fn clear_unreached(given: &mut Seq<usize>, reached: &[usize]) {
     }
 }
 
-// What is wanted of a body and what is read, found from the last instruction back.
+// What is wanted of a body and what is read, found from the last instruction back. `facts` has for
+// each instruction what is known before it, and `late` some slots that were set on a way to it and
+// not read on that way.
 pub(crate) fn choose(
     alloc: Global,
     fun: &CodeFun,
@@ -406,7 +412,8 @@ fn reach_next(reached: &mut Seq<usize>, body: &[Instr], ends: &[usize], other: O
     }
 }
 
-// For each instruction 1 where a run may come to it, else 0.
+// For each instruction 1 where a run may come to it, else 0. `ends` has for each where a jump to it
+// goes on, and `given` is as `give` has it, or empty where each instruction stands for itself.
 pub(crate) fn reach(
     alloc: Global,
     body: &[Instr],
@@ -452,7 +459,7 @@ pub(crate) fn reach(
 }
 
 // For each instruction, and for the end, how many stay from there on: all that are reached and
-// wanted, but for jumps over nothing.
+// wanted, but for jumps over nothing. `reached` is as `reach` has it.
 pub(crate) fn stays(
     alloc: Global,
     body: &[Instr],
@@ -489,7 +496,8 @@ pub(crate) fn stays(
     Ok(stay)
 }
 
-// For each slot 1 where an instruction that stays writes it, and 2 where only loads would that write another slot.
+// For each slot 1 where an instruction that stays writes it, 2 where only loads would that write
+// another slot, and else 0. `reached` is as `reach` has it, and `given` as `give` has it.
 pub(crate) fn used(
     alloc: Global,
     fun: &CodeFun,

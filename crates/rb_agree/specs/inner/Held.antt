@@ -1,5 +1,6 @@
--- What the parts of a leaf hold of an open position: runs of its units. A unit is a bit of an integer or a word of a
--- data type; a run has so many units from its first on.
+-- What the parts of a leaf hold of an open position: runs of its units. An open position is a wildcard or a variable
+-- in a leaf's provenance, with its type; its path is the field numbers that lead there from the root. A unit is a bit
+-- of an integer or a word of a data type; a run has so many units from its first on.
 use Rattle.std.specs.Prelude.{◌≡◌, ℕ, ◌+◌, ◌<◌, ◌&&◌, leb, ltb, List, [], ◌∷◌, ◌++◌, Bool, if◌then◌else◌}
 use Rattle.std.specs.List.{flat_map}
 use Rattle.rb_core.specs.declared.types.Ty.{Ty}
@@ -60,7 +61,8 @@ block_runs ty path b = flat_map (word_runs ty path) b.words
 abbrev pub leaf_runs : Leaf → Ty → List ℕ → List Run
 leaf_runs leaf ty path = flat_map (word_runs ty path) leaf.root ++ flat_map (block_runs ty path) leaf.blocks
 
--- how unit i of the position at a path fails: none of its runs has the unit, or more than one do
+-- how unit i of the position at a path fails, by the evidence: none of its runs has the unit, or more than one do; no
+-- other evidence says so
 abbrev pub FailsUnit : List ℕ → List Run → ℕ → Why → Type 0
 FailsUnit path runs i (NotHeld q j) = (q ≡ path) × (j ≡ i) × (times runs i ≡ 0)
 FailsUnit path runs i (HeldTwice q j) = (q ≡ path) × (j ≡ i) × (1 < times runs i)
@@ -78,7 +80,8 @@ FailsUnits path runs n why = (i : ℕ) × (i < n) × FailsUnit path runs i why
 abbrev pub HoldsPlace : Program → Leaf → Open → Type 0
 HoldsPlace p leaf o = (i : ℕ) → i < units_of p o.ty → held leaf o.ty o.path i ≡ 1
 
--- how a unit of an open position fails: no part of the leaf holds it, or more than one do
+-- how a unit of an open position fails, by the evidence: no part of the leaf holds it, or more than one do; no other
+-- evidence says so
 abbrev pub FailsPlace : Program → Leaf → Open → Why → Type 0
 FailsPlace p leaf o (NotHeld q j) = (q ≡ o.path) × (j < units_of p o.ty) × (held leaf o.ty o.path j ≡ 0)
 FailsPlace p leaf o (HeldTwice q j) = (q ≡ o.path) × (j < units_of p o.ty) × (1 < held leaf o.ty o.path j)
@@ -92,7 +95,7 @@ FailsEach p leaf why = SomeOf (λ (o : Open). FailsPlace p leaf o why) (open_pos
 abbrev pub IsOpenPath : List Open → List ℕ → Type 0
 IsOpenPath opens path = IsOpenIn opens path
 
--- a path is that of none of these open positions, and `why` names it
+-- a path is that of none of these open positions, and `why` names it so; no other evidence does
 abbrev pub FailsPath : List Open → List ℕ → Why → Type 0
 FailsPath opens path (NotOpen q) = (q ≡ path) × (IsOpenIn opens path → ⊥)
 FailsPath opens path why = ⊥

@@ -1,4 +1,5 @@
--- Nodes in post-order with their types and sizes, and where the nodes of subvalues stand.
+-- Nodes in post-order with their types and sizes, and where the nodes of subvalues stand. A node is named by its
+-- number, from 0, and a list of nodes has the value of each.
 use Rattle.std.specs.Prelude.{ℕ, zero, suc, ◌+◌, ◌-◌, List, [], ◌∷◌, ◌++◌, length, map, slice_get, slice_index, slice_index_or}
 use Rattle.rb_core.specs.declared.value.Value.{Value, Num, Con}
 use Rattle.rb_core.specs.declared.value.Value.TheOpen as V
@@ -57,11 +58,13 @@ start_of sizes end (suc count) = let start = start_of sizes end count in start -
 abbrev pub arity_of : List Value → ℕ → ℕ
 arity_of nodes node = length (subs (at nodes node))
 
--- the node of a field of a node: the nodes of the fields behind it stand between it and the node
+-- the number of the node of a field of a node: the nodes of the fields behind it stand between it and the node; of a
+-- field that the node lacks, the answer says nothing
 abbrev pub field_node : List Value → List ℕ → ℕ → ℕ → ℕ
 field_node nodes sizes node field = start_of sizes node (arity_of nodes node - (field + 1)) - 1
 
--- the node at a path of field numbers below a node
+-- the number of the node at a path of field numbers below a node, which is the node itself where the path is empty;
+-- of a path on which some node lacks the field, the answer says nothing
 abbrev pub node_at : List Value → List ℕ → ℕ → List ℕ → ℕ
 node_at nodes sizes node [] = node
 node_at nodes sizes node (field ∷ path) = node_at nodes sizes (field_node nodes sizes node field) path

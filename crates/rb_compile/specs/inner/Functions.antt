@@ -1,4 +1,5 @@
--- What is known of functions, and of the code of the first of them.
+-- What is known of functions, and of the code of the first of them. A plan has a program with its layouts, and says
+-- how many switches each match may cost. A match is ready where it is exhaustive and costs no more than that.
 use Rattle.std.specs.Prelude.{◌≡◌, ℕ, ◌^◌, ◌<◌, ◌≤◌, true, List, map, length, Some, Ok, slice_get}
 use Rattle.rb_core.specs.declared.program.Fun.{Fun}
 use Rattle.rb_core.specs.Coverage.{function_sites}
@@ -11,8 +12,9 @@ use Rattle.rb_fragment.specs.Functions.{Compiles, param_words}
 use Rattle.rb_fetch.specs.Fetching.{PlanIsSound}
 use Rattle.rb_compile.specs.inner.Ready.{SitesAreReady}
 
--- function number g is as in a program that was accepted: its body is typed and numbered, its matches are ready, its
--- parameters have few words, and its name is spelled as one
+-- f, as function number g, is as in a program that was accepted: the plan's program is typed and its layouts agree,
+-- f's body has the type of its result and is well numbered within some variables, its matches are ready, its
+-- parameters have at most 256 words together, and its name is spelled as a function's
 pub record FunIsReady (plan : Plan) (g : ℕ) (f : Fun) : Type 0 where
   pub sound : PlanIsSound plan
   pub typed : type_of plan.program.types plan.program.funs f.body (Some f.result) (map binder_of f.params) ≡ Ok f.result

@@ -51,7 +51,7 @@ bare_paths types (h ∷ hs) = if is_bare types h.con then h.path ∷ bare_paths 
 
 -- Leaves
 
--- whether h, if it stands at `path`, is by constructor con; true where it stands elsewhere
+-- whether h, if it stands at `path`, is constructor number con of its type; true where it stands elsewhere
 abbrev pub is_at : List ℕ → ℕ → Head → Bool
 is_at path con h = if same_path h.path path then h.con.con == con else true
 

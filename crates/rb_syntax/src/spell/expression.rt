@@ -1,4 +1,6 @@
-//! Expressions.
+//! Expressions as tokens. Tokens are gathered last first, since a tree is written in front of what
+//! follows it: to put a part is to add its tokens to `out`, the last of them first. The comments
+//! name them in the order of the text.
 
 ghost use Rattle.std.specs.Prelude.{◌≡◌, ◌∷◌, ℕ, suc, map, OnOk};
 ghost use Rattle.rb_core.specs.declared.expression.Op.{Op};
@@ -89,7 +91,7 @@ fn put_call(
     Ok(())
 }
 
-// Puts an operator with its two operands, as `add(a, b)`.
+// Puts an operator, as its reserved word, with its two operands, as `add(a, b)`.
 #[cycle(expression)]
 fn put_binary(
     alloc: Global,
@@ -190,7 +192,7 @@ fn put_fields(alloc: Global, out: &mut Vec<Token>, fields: &[ExprTree]) -> Resul
     }
 }
 
-// Puts one expression or more with commas between: `first`, then the `others`.
+// Puts one expression or more with commas between: `first`, then the `others`, together `exprs`.
 #[cycle(expression)]
 fn put_exprs(
     alloc: Global,
@@ -231,7 +233,8 @@ fn put_clauses(
     }
 }
 
-// Puts one clause of a match or more with commas between: `first`, then the `others`.
+// Puts one clause of a match or more with commas between: `first`, then the `others`, together
+// `clauses`.
 #[cycle(expression)]
 fn put_some_clauses(
     alloc: Global,
