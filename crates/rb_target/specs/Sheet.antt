@@ -1,7 +1,7 @@
 -- What contracts see of code that grows: a sheet, the body of a function to which instructions are added one by
--- one, and in which targets are set later. A hole is the place of a target that is not set yet: the number of an
+-- one, and in which targets are set later. A hole is the place of a target that is to be set: the number of an
 -- instruction, and the number of an arm of a switch, or no arm for the target of a jump or the other target of a
--- switch.
+-- switch; its `leaf` says nothing here.
 use Rattle.std.specs.Prelude.{◌≡◌, ℕ, zero, suc, ◌+◌, ◌^◌, ◌<◌, ◌≤◌, List, [], ◌∷◌, ◌++◌, length, Option, Some, None, slice_get, slice_set, Contains}
 use Rattle.rb_target.specs.Validity.{dests}
 use Rattle.rb_target.specs.declared.instr.SwitchArm.{SwitchArm}
@@ -14,7 +14,8 @@ use Rattle.rb_target.specs.declared.code.CodeFun.{CodeFun}
 abbrev pub most_instrs : ℕ
 most_instrs = 2 ^ 24
 
--- the instructions so far, the number of parameters, and the number of slots, the parameters' among them
+-- a body that grows: its instructions so far, the number of its parameters, and the number of its slots, the first of
+-- which are the parameters'
 pub record Sheet : Type 0 where
   pub code : List Instr
   pub params : ℕ
@@ -42,7 +43,8 @@ retargeted_arm (arm ∷ arms) zero t = record arm { target = t } ∷ arms
 retargeted_arm (arm ∷ arms) (suc k) t = arm ∷ retargeted_arm arms k t
 
 -- an instruction with t as one target: that of the arm with the number given, or without a number the target of a
--- jump or the other target of a switch; an instruction without such a target is unchanged
+-- jump or the other target of a switch, which a switch without one gets; any other instruction is unchanged, and so
+-- is a switch without an arm of that number
 abbrev pub retargeted : Instr → Option ℕ → ℕ → Instr
 retargeted (Jump old) None t = Jump t
 retargeted (Switch a other arms) None t = Switch a (Some t) arms
@@ -61,12 +63,13 @@ IsHoleIn i arm = ⊥
 abbrev pub IsHole : List Instr → Hole → Type 0
 IsHole code h = IsHoleIn (slice_get code h.pc) h.arm
 
--- the code with t as the target at the hole, where the instruction there is known; unchanged where there is none
+-- the code with t as the target at the hole, by `retargeted`; the instruction there is given first, and where it is
+-- None the code is unchanged
 abbrev pub with_instr : Option Instr → List Instr → Hole → ℕ → List Instr
 with_instr None code h t = code
 with_instr (Some i) code h t = slice_set code h.pc (retargeted i h.arm t)
 
--- the sheet with t as the target at a hole; unchanged where there is no instruction
+-- the sheet with t as the target at a hole, by `retargeted`; unchanged where the hole's instruction is not there
 abbrev pub patched : Sheet → Hole → ℕ → Sheet
 patched b h t = record b { code = with_instr (slice_get b.code h.pc) b.code h t }
 
@@ -75,7 +78,7 @@ abbrev pub finished : Sheet → List ℕ → ℕ → CodeFun
 finished b name results =
     record { name = name; params = b.params; results = results; slots = b.slots; body = b.code }
 
--- each slot behind the parameters is written by some instruction
+-- each slot behind the parameters, if there is one, is named by some instruction as one that it writes
 abbrev pub AreWritten : Sheet → Type 0
 AreWritten b = (s : ℕ) → b.params ≤ s → s < b.slots → (pc : ℕ) × (i : Instr) × (slice_get b.code pc ≡ Some i)
     × Contains (dests i) s

@@ -1,4 +1,5 @@
--- Functions that a code text can hold, valid together or not. A word is what stands between two blanks of a line.
+-- Functions that a code text can hold, valid together or not. Words are what stands behind the first word of a line,
+-- each after a blank: numbers, names of operations, `-` and `of`.
 use Rattle.std.specs.Prelude.{◌^◌, ◌<◌, List, All}
 use Rattle.rb_target.specs.Validity.{IsBounded, IsLower}
 use Rattle.rb_target.specs.Text.{words_of}
@@ -7,7 +8,7 @@ use Rattle.rb_target.specs.declared.word.Word.TheVariants.{Number, Op, Dash, Of}
 use Rattle.rb_target.specs.declared.instr.Instr.{Instr}
 use Rattle.rb_target.specs.declared.code.CodeFun.{CodeFun}
 
--- a word that is a number has at most 64 bits; the others are all short
+-- the word, if it is a number, has at most 64 bits; nothing is asked of other words
 abbrev pub IsShort : Word → Type 0
 IsShort (Number n) = n < 2 ^ 64
 IsShort (Op op) = Unit {0}
@@ -15,13 +16,13 @@ IsShort Dash = Unit {0}
 IsShort Of = Unit {0}
 
 -- an instruction with all of its numbers short, and those that are no slots and no targets within their bounds; its
--- slots and targets may be those of no function
+-- slots, its targets and the function that it calls need not be there
 pub record IsSpelledInstr (i : Instr) : Type 0 where
   pub bounded : IsBounded i
   pub short : All IsShort (words_of i)
 
--- a function with a name as functions have, counts of at most 64 bits and such instructions, of which there may
--- be none
+-- a function whose name begins with a small letter and goes on with letters, digits and underscores, whose counts
+-- have at most 64 bits, and whose instructions can stand in a text; its body may be empty
 pub record IsSpelledFun (f : CodeFun) : Type 0 where
   pub named : IsLower f.name
   pub params : f.params < 2 ^ 64

@@ -7,7 +7,8 @@ use Rattle.rb_target.specs.declared.code.CodeFun.{CodeFun}
 use Rattle.rb_target.specs.declared.fault.CodeFault.{CodeFault}
 use Rattle.rb_target.specs.declared.fault.CodeFault.TheVariants.{CodeSyntax, Memory}
 
--- the bytes are the text of these functions, which may not be valid together; no bytes are the text of no functions
+-- the bytes are the text of these functions, which a text can hold and which may not be valid together; where there
+-- are no functions, there are no bytes
 pub record IsTextOf (bytes : List ℕ) (funs : List CodeFun) : Type 0 where
   pub spelled : AreSpelled funs
   pub is : bytes ≡ code_text funs
@@ -16,12 +17,12 @@ pub record IsTextOf (bytes : List ℕ) (funs : List CodeFun) : Type 0 where
 abbrev pub IsCode : List ℕ → Type 0
 IsCode bytes = (funs : List CodeFun) × IsTextOf bytes funs
 
--- some code text begins with these bytes, or is them
+-- some code text begins with these bytes, or is them; the empty list is a front, too
 abbrev pub IsFront : List ℕ → Type 0
 IsFront bytes = BeginsSome IsCode bytes
 
--- the bytes before number `at` begin some code text; with the byte there they do not, or there is none, since the
--- bytes end at `at`, and they are no whole text
+-- the bytes before number `at`, counted from 0, begin some code text; with the byte there they do not, or `at` is the
+-- number of all bytes and they are no whole text. So at most one `at` is so
 abbrev pub StopsAt : List ℕ → ℕ → Type 0
 StopsAt bytes at = StopsAtIn IsCode bytes at
 

@@ -58,35 +58,35 @@ impl Key {
     }
 }
 
-/// The key that is written so.
+/// The key that is written so, or none if none is; `end` is none.
 pub fn key_of(word: &[u8]) -> Option<Key>
     ensures { result ≡ spec.key_of word.now }
 {
     KEYS.iter().copied().find(|key| key.text() == word)
 }
 
-// The operation that is written so.
+// The operation that is written so, or none if none is.
 fn op_of(word: &[u8]) -> Option<AluOp>
     ensures { result ≡ spec.op_of word.now }
 {
     OPS.iter().copied().find(|op| op_name(*op) == word)
 }
 
-/// Whether some key begins so.
+/// Whether some key begins with these bytes, or is them.
 pub fn is_key_front(word: &[u8]) -> bool
     ensures { result ≡ spec.is_key_front word.now }
 {
     KEYS.iter().any(|key| key.text().starts_with(word))
 }
 
-// Whether some operation's name begins so.
+// Whether some operation's name begins with these bytes, or is them.
 fn is_op_front(word: &[u8]) -> bool
     ensures { result ≡ spec.is_op_front word.now }
 {
     OPS.iter().any(|op| op_name(*op).starts_with(word))
 }
 
-/// The number below 2^64 that is written so.
+/// The number below 2^64 that is written so, in decimal without a leading zero, or none.
 pub fn number_of(word: &[u8]) -> Option<u64>
     ensures { result ≡ spec.number_of_word word.now }
 {
@@ -94,7 +94,7 @@ pub fn number_of(word: &[u8]) -> Option<u64>
 }
 
 impl Field {
-    // Whether a number may stand there.
+    // Whether a number may stand there; none may where just a name may stand, or no word.
     fn has(self, number: u64) -> bool
         ensures { result ≡ spec.has self number }
     {
@@ -114,7 +114,8 @@ impl Field {
         }
     }
 
-    // Whether a number isn't whole, but digits behind it can make it so.
+    // Whether a number may not stand there, but digits behind it can make one that may, as `1` is
+    // no width in bits and `16` is one.
     fn leads(self, number: u64) -> bool
         ensures { result ≡ spec.leads self number }
     {
@@ -135,7 +136,8 @@ impl Field {
         }
     }
 
-    /// Whether some word may stand there.
+    /// Whether some word may stand there: in each field but `Nothing`. `FromOne(0)`, where none may,
+    /// is no field of any line.
     pub fn is_open(self) -> bool
         ensures { result ≡ spec.is_open self }
     {
@@ -156,7 +158,7 @@ impl Field {
         }
     }
 
-    // The word, if it is no number and may stand there.
+    // The word that is written so, which is no number, if it may stand there; else none.
     fn name(self, text: &[u8]) -> Option<Word>
         ensures { result ≡ spec.named_word self text.now }
     {
@@ -182,7 +184,7 @@ impl Field {
         }
     }
 
-    /// The word that is written so, if it may stand there.
+    /// The word that is written so, if it may stand there; else none, as for the empty word.
     pub fn word(self, text: &[u8]) -> Option<Word>
         ensures { result ≡ spec.word_in self text.now }
     {
@@ -193,7 +195,7 @@ impl Field {
         }
     }
 
-    // Whether some word that is no number and may stand there begins so.
+    // Whether some word that is no number and may stand there begins with these bytes, or is them.
     fn is_name_front(self, text: &[u8]) -> bool
         ensures { result ≡ spec.named_front self text.now }
     {
@@ -214,7 +216,8 @@ impl Field {
         }
     }
 
-    /// Whether some word that may stand there begins so.
+    /// Whether some word that may stand there begins with these bytes, which are not empty, or is
+    /// them.
     pub fn is_front(self, text: &[u8]) -> bool
         ensures { result ≡ spec.is_word_front self text.now }
     {

@@ -1,4 +1,5 @@
-//! Lines that are read in part, and the instructions that they become at their ends.
+//! Lines that are read in part, by the table of fields, and the instructions that they become at
+//! their ends.
 
 ghost use Rattle.std.specs.Prelude.{◌≡◌, IfOk, slice_get, drop, map};
 ghost use Rattle.rb_target.specs.Fields as spec;
@@ -12,7 +13,9 @@ use std::alloc::{AllocError, Global};
 // Fields ---------------------------------------------------------------------------------------
 
 impl Key {
-    // The table of fields: what the words behind a key may be, one field after the other.
+    // The table of fields: what the words behind a key may be, one field after the other. For a
+    // list it has the field of an item; the field of a length of bits is not in it, as the offset
+    // before says how great a length may be.
     fn fields(self) -> &'static [Field]
         ensures { result.now ≡ spec.fields self }
     {
@@ -37,7 +40,8 @@ impl Key {
     }
 }
 
-// The fields to come behind a word that is in the first of them; none behind the last.
+// The fields to come behind a word in the first of those given; none where none are left. Behind
+// an offset of bits comes the length that fits; a list leaves a field for its next item.
 fn fields_after(rest: Seq<Field>, word: Word) -> Seq<Field>
     ensures { result ≡ spec.fields_after rest word }
 {
@@ -72,7 +76,7 @@ fn fields_after(rest: Seq<Field>, word: Word) -> Seq<Field>
 }
 
 impl Line {
-    /// The line behind its key.
+    /// The line behind its key, of which no other word is read.
     ///
     /// # Errors
     ///
@@ -87,7 +91,7 @@ impl Line {
         })
     }
 
-    /// What the next word may be.
+    /// What the next word may be; `Nothing` where no field is left.
     pub fn field(&self) -> Field
         ensures { result ≡ spec.next_field self.now.rest }
     {
@@ -97,7 +101,8 @@ impl Line {
         }
     }
 
-    /// Whether the line may end here.
+    /// Whether the line may end here: where no field is left, or a list may go on that needs no
+    /// item more.
     pub fn may_end(&self) -> bool
         ensures { result ≡ spec.may_end self.now.rest }
     {
@@ -120,7 +125,7 @@ impl Line {
         }
     }
 
-    /// The line with one word more.
+    /// The line with one word more, which may stand in the next field.
     ///
     /// # Errors
     ///
@@ -141,7 +146,7 @@ impl Line {
         })
     }
 
-    /// The instruction that the words of a whole line spell.
+    /// The instruction that the line's key and words spell, where it is whole.
     ///
     /// # Errors
     ///
@@ -155,7 +160,7 @@ impl Line {
 
 // Instructions ---------------------------------------------------------------------------------
 
-// The number that a word is, or 0 if it is none.
+// The number that a word is, or 0 for a word that is no number.
 fn value_of(word: Word) -> u64
     ensures { result ≡ spec.value_of word }
 {
@@ -175,14 +180,15 @@ fn number_at(words: &[Word], at: usize) -> u64
     }
 }
 
-// The number at a place as a slot, a target or a function's number.
+// The number at a place as a slot, a target or a function's number, or 0 as above.
 fn slot_at(words: &[Word], at: usize) -> usize
     ensures { result ≡ spec.number_at words.now at }
 {
     number_at(words, at) as usize
 }
 
-// The number at a place, of which its field lets none through above 255: its low byte.
+// The number at a place as a byte: its last eight bits, which are the whole number in a whole
+// line, as numbers of bits, offsets and lengths of bits and widths are at most 64 there.
 fn byte_at(words: &[Word], at: usize) -> u8
     ensures { result ≡ spec.byte_at words.now at }
 {
@@ -227,7 +233,7 @@ fn slots_in(alloc: Global, words: &[Word]) -> Result<Seq<usize>, AllocError>
     Ok(slots)
 }
 
-/// The arms that are read, and the number of one whose target is not.
+/// The arms that are read, and the number of one more whose target is not, or none.
 #[derive(Drop)]
 pub struct Arms {
     arms: Seq<SwitchArm>,
@@ -253,7 +259,8 @@ fn paired(read: Arms, word: Word) -> Result<Arms, AllocError>
     }
 }
 
-// The arms that words spell, each a number and its target.
+// The arms that words spell, each a number and its target; a last number without a target is left
+// out.
 fn arms_in(alloc: Global, words: &[Word]) -> Result<Seq<SwitchArm>, AllocError>
     ensures { IfOk result (λ arms. arms ≡ spec.arms_in words.now) }
 {
@@ -268,7 +275,8 @@ fn arms_in(alloc: Global, words: &[Word]) -> Result<Seq<SwitchArm>, AllocError>
     Ok(arms)
 }
 
-/// The two lists of a call as far as they are read, and whether `of` is.
+/// The two lists of a call as far as they are read, the slots of its results and those of its
+/// arguments, and whether the `of` between them is read.
 #[derive(Drop)]
 pub struct Lists {
     dests: Seq<usize>,
@@ -276,7 +284,7 @@ pub struct Lists {
     behind: bool,
 }
 
-// The lists with one word more: `of` begins the second.
+// The lists with one word more: `of` begins the second, and once more it changes nothing.
 fn listed(read: Lists, word: Word) -> Result<Lists, AllocError>
     ensures { IfOk result (λ l. l ≡ spec.listed read word) }
 {
@@ -307,7 +315,8 @@ fn listed(read: Lists, word: Word) -> Result<Lists, AllocError>
     }
 }
 
-// The two lists that words spell, the first before `of` and the second behind it.
+// The two lists that words spell, the first before `of` and the second behind it; without `of` the
+// second is empty.
 fn lists_in(alloc: Global, words: &[Word]) -> Result<Lists, AllocError>
     ensures { IfOk result (λ l. l ≡ spec.lists_in words.now) }
 {
@@ -322,7 +331,8 @@ fn lists_in(alloc: Global, words: &[Word]) -> Result<Lists, AllocError>
     Ok(read)
 }
 
-// The instruction that a key and the words of a whole line spell.
+// The instruction that a key and the words of a whole line behind it spell; for words of no whole
+// line, 0 stands for a number that is missing and `Add` for an operation.
 fn instruction_of(alloc: Global, key: Key, words: &[Word]) -> Result<Instr, AllocError>
     ensures { IfOk result (λ i. i ≡ spec.instruction_of key words.now) }
 {

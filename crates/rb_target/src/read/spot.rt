@@ -1,10 +1,11 @@
-//! Where reading stands between two words.
+//! What is known of a code text between two words: where reading stands, what is read of the line,
+//! and what the next word may be.
 
 use crate::code::CodeFun;
 use crate::word::Word;
 use rb_core::seq::Seq;
 
-/// The first word of an instruction's line.
+/// The first word of an instruction's line. `end` begins no such line and is none.
 #[derive(Clone, Copy, PartialEq, Eq)]
 pub enum Key {
     Const,
@@ -21,7 +22,7 @@ pub enum Key {
     Return,
 }
 
-/// Which of a function's three counts comes next.
+/// Which of the three counts behind a function's name comes next.
 #[derive(Clone, Copy, PartialEq, Eq)]
 pub enum Turn {
     /// The parameters.
@@ -32,7 +33,7 @@ pub enum Turn {
     Third,
 }
 
-/// What a word may be.
+/// What one word of an instruction's line behind its key may be. Numbers are below 2^64.
 #[derive(Clone, Copy, PartialEq, Eq)]
 pub enum Field {
     /// Any number.
@@ -41,25 +42,26 @@ pub enum Field {
     Upto(u64),
     /// A number from 1 on, up to this one.
     FromOne(u64),
-    /// A width in bits.
+    /// A width in bits: 8, 16, 32 or 64.
     Width,
-    /// An alignment in bytes.
+    /// An alignment in bytes: a power of two up to 64.
     Align,
-    /// An offset of bits within a word; behind it stands a length that stays within the word.
+    /// An offset of bits from 0 to 63; behind it stands a length from 1 on, which with the offset
+    /// is at most 64.
     Range,
     /// An operation's name.
     Operation,
-    /// A number or `-`.
+    /// The other target of a switch, a number, or `-` for none.
     OrDash,
     /// The number of an arm, if there is one more; behind it stands the arm's target.
     Pairs,
     /// The target of an arm; behind it more arms may stand.
     Target,
-    /// A number, behind which more may stand, or `of`, which ends them.
+    /// A slot, behind which more may stand, or `of`, which ends them and must come.
     OrOf,
-    /// A number, if there is one more.
+    /// A slot, if there is one more.
     Slots,
-    /// There is no word.
+    /// No word: the line has no more fields.
     Nothing,
 }
 
@@ -87,12 +89,13 @@ pub enum Spot {
     Within(CodeFun, Line),
 }
 
-/// What a word and the byte behind it do.
+/// What a word and the blank or line's end behind it do.
 #[derive(Drop)]
 pub enum Move {
+    /// Reading goes on from there.
     To(Spot),
     /// The function is whole.
     Closed(CodeFun),
-    /// No code text goes on so.
+    /// No code text goes on with that word and that byte.
     Refused,
 }

@@ -12,7 +12,8 @@ use std::alloc::{AllocError, Global};
 use std::marker::Model;
 use std::mem;
 
-/// What is read of a text: whole functions, and the front of a word.
+/// What is read of a text: whole functions, where reading stands behind them, and the bytes of the
+/// next word that are read.
 #[derive(Drop)]
 pub struct Reader {
     funs: Seq<CodeFun>,
@@ -53,7 +54,9 @@ fn is_name_byte(byte: u8) -> bool
         || byte == b'_'
 }
 
-// Behind a word of an instruction's line.
+// The move behind a word of an instruction's line, by the byte behind it: on to the next word at a
+// blank, where there may be one, or at a line's end, where the line may end, on to the next line,
+// with the line's instruction in the function; else refused.
 fn line_next(alloc: Global, fun: CodeFun, line: Line, gap: u8) -> Result<Move, AllocError>
     ensures { IfOk result (λ m. m ≡ spec.line_next fun line gap) }
 {
@@ -67,7 +70,7 @@ fn line_next(alloc: Global, fun: CodeFun, line: Line, gap: u8) -> Result<Move, A
     Ok(Move::Refused)
 }
 
-// The function with one instruction more.
+// The function with one instruction more, at the end.
 fn with_instr(fun: CodeFun, instr: Instr) -> Result<CodeFun, AllocError>
     ensures { IfOk result (λ f. f ≡ record fun { body = fun.body ++ instr ∷ [] }) }
 {
@@ -88,7 +91,7 @@ fn with_instr(fun: CodeFun, instr: Instr) -> Result<CodeFun, AllocError>
     })
 }
 
-// Behind the word `end` within a function.
+// The move behind a function's `end`, by the byte behind it, which must be a line's end.
 fn closing(fun: CodeFun, gap: u8) -> Move
     ensures { result ≡ spec.closing fun gap }
 {
@@ -99,7 +102,8 @@ fn closing(fun: CodeFun, gap: u8) -> Move
     }
 }
 
-// Behind the first word of a line within a function.
+// The move behind the first word of a line within a function, a key or `end`, by the byte behind
+// it; refused for any other word.
 fn starting(alloc: Global, fun: CodeFun, word: &[u8], gap: u8) -> Result<Move, AllocError>
     ensures { IfOk result (λ m. m ≡ spec.step (Spot.Starting fun) word.now gap) }
 {
@@ -112,7 +116,8 @@ fn starting(alloc: Global, fun: CodeFun, word: &[u8], gap: u8) -> Result<Move, A
     }
 }
 
-// Behind a count of a function's first line.
+// The move behind a count of a function's first line, `turn` saying which, by the byte behind it:
+// a blank, or a line's end behind the third.
 fn headed(fun: CodeFun, turn: Turn, gap: u8, count: usize) -> Move
     ensures { result ≡ spec.headed fun turn gap (Some count) }
 {
@@ -145,7 +150,8 @@ fn headed(fun: CodeFun, turn: Turn, gap: u8, count: usize) -> Move
     }
 }
 
-// Behind a function's name.
+// The move behind a function's name, by the byte behind it, which must be a blank; an empty name
+// is refused. That the bytes are a name's was seen as they were read.
 fn named(alloc: Global, name: &[u8], gap: u8) -> Result<Move, AllocError>
     ensures { IfOk result (λ m. m ≡ spec.step Spot.Naming name.now gap) }
 {
@@ -162,7 +168,8 @@ fn named(alloc: Global, name: &[u8], gap: u8) -> Result<Move, AllocError>
     Ok(Move::To(Spot::Heading(fun, Turn::First)))
 }
 
-// Behind a word outside of functions, where only `fun` and a blank go on.
+// The move behind a word outside of functions, by the byte behind it: only `fun` and a blank go
+// on.
 fn outside(word: &[u8], gap: u8) -> Move
     ensures { result ≡ spec.step Spot.Outside word.now gap }
 {
@@ -173,7 +180,8 @@ fn outside(word: &[u8], gap: u8) -> Move
     }
 }
 
-// What a word and the byte behind it do.
+// What a word and the blank or line's end behind it do from a spot; an empty word is refused
+// everywhere.
 fn step(alloc: Global, spot: Spot, word: &[u8], gap: u8) -> Result<Move, AllocError>
     ensures { IfOk result (λ m. m ≡ spec.step spot word.now gap) }
 {
@@ -192,7 +200,8 @@ fn step(alloc: Global, spot: Spot, word: &[u8], gap: u8) -> Result<Move, AllocEr
     }
 }
 
-// Whether some word begins so; the word's last byte is also given alone.
+// Whether some word that may stand at a spot begins with these bytes, or is them. There is one at
+// least, and the last is also given alone.
 fn goes_on(spot: &Spot, word: &[u8], last: u8) -> bool
     ensures { result ≡ spec.goes_on spot.now word.now last }
 {
@@ -212,7 +221,7 @@ fn goes_on(spot: &Spot, word: &[u8], last: u8) -> bool
 }
 
 impl Reader {
-    /// Nothing is read.
+    /// A reader at the beginning of a text, which has read nothing.
     pub fn new(alloc: Global) -> Reader
         ensures { result ≡ spec.start }
     {
@@ -224,7 +233,8 @@ impl Reader {
         }
     }
 
-    // Reads a blank or a line's end.
+    // Reads a blank or a line's end, or says by false that no code text goes on so; the reader is
+    // of no use then.
     fn feed_gap(&mut self, gap: u8) -> Result<bool, AllocError>
         ensures { IfOk result (λ fed. spec.IsFed
             (spec.moved self.old.funs (spec.step self.old.spot self.old.word gap)) self.new fed) }
@@ -240,7 +250,8 @@ impl Reader {
         Ok(true)
     }
 
-    // Reads a byte of a word.
+    // Reads a byte of a word, or says by false that no word there begins so; the reader is of no
+    // use then.
     fn feed_word(&mut self, byte: u8) -> Result<bool, AllocError>
         ensures { IfOk result (λ fed. spec.IsFed (spec.spelled_on self.old byte) self.new fed) }
     {
@@ -248,7 +259,7 @@ impl Reader {
         Ok(goes_on(&self.spot, self.word.as_slice(), byte))
     }
 
-    /// Reads one byte, or says by false that no code text goes on so.
+    /// Reads one byte, or says by false that no code text goes on so; the reader is of no use then.
     ///
     /// # Errors
     ///
@@ -263,14 +274,15 @@ impl Reader {
         }
     }
 
-    /// Whether the bytes are a whole text.
+    /// Whether the bytes that were read are a whole text: they end behind a function, or there are
+    /// none.
     pub fn is_done(&self) -> bool
         ensures { result ≡ spec.is_done self.now }
     {
         matches!(&self.spot, Spot::Outside) && self.word.len() == 0
     }
 
-    /// The functions that are read whole.
+    /// The functions that are read whole; none before the first `end`.
     pub fn into_funs(self) -> Seq<CodeFun>
         ensures { result ≡ self.funs }
     {

@@ -1,4 +1,4 @@
-//! Code texts.
+//! Whole code texts, read from the first byte to the last.
 
 ghost use Rattle.std.specs.Prelude.{◌≡◌, List, IfOk};
 ghost use Rattle.rb_target.specs.Stopping.{IsCodeReading, IsTextOf};
@@ -10,7 +10,8 @@ use crate::fault::CodeFault;
 use rb_core::seq::Seq;
 use std::alloc::Global;
 
-// Reads all bytes.
+// The reader behind all bytes; else the number of the first byte that it refuses, or want of
+// memory.
 fn read_bytes(alloc: Global, bytes: &[u8]) -> Result<Reader, CodeFault>
     ensures { IsRun bytes.now result }
 {
@@ -27,7 +28,7 @@ fn read_bytes(alloc: Global, bytes: &[u8]) -> Result<Reader, CodeFault>
 ///
 /// # Errors
 ///
-/// The byte at which no text goes on; want of memory.
+/// The byte at which no text goes on, the length where the end is missing; want of memory.
 pub fn read_text(alloc: Global, bytes: &[u8]) -> Result<Seq<CodeFun>, CodeFault>
     ensures reading { IsCodeReading bytes.now result }
     ensures only { (funs : List CodeFun) → IsTextOf bytes.now funs → IfOk result (λ read. read ≡ funs) }
