@@ -136,8 +136,8 @@ impl Field {
         }
     }
 
-    /// Whether some word may stand there: in each field but `Nothing`. `FromOne(0)`, where none may,
-    /// is no field of any line.
+    /// Whether some word may stand there: in each field but `Nothing`. `FromOne(0)`, where none
+    /// may, is no field of any line.
     pub fn is_open(self) -> bool
         ensures { result ≡ spec.is_open self }
     {
