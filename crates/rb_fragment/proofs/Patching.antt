@@ -16,7 +16,6 @@ use Rattle.rb_fragment.specs.Plan.{Plan}
 use Rattle.rb_fragment.specs.Slots.{AllFrom}
 use Rattle.rb_target.proofs.Growing.{get-set_other, get-set_same}
 use Rattle.rb_target.proofs.Shapes.{HoleView, IsPatched, branch, jump, other, patch_is}
-use Rattle.rb_target.specs.Fields.{has}
 use Rattle.rb_target.specs.Growth.{Grows}
 use Rattle.rb_target.specs.Meaning.{from}
 

@@ -26,7 +26,6 @@ use Rattle.rb_rel.specs.Placing.{lay, requests_at, requests_of}
 use Rattle.rb_target.proofs.Growing.{Agrees-part, Grows-refl, Keeps-refl, Keeps-set, Keeps-trans, get-seam}
 use Rattle.rb_target.proofs.Shapes.{IsPatched, patch_is}
 use Rattle.rb_target.specs.Growth.{AgreesBut, Keeps, Nowhere}
-use Rattle.rb_target.specs.Reading.{start}
 use Rattle.rb_target.specs.Targets.{Finishes, IsIn}
 
 pub later-refl : (w : World) → IsLater 0 w w

@@ -14,8 +14,8 @@ use Rattle.rb_core.specs.Decimal.{is_numeral}
 use Rattle.rb_core.proofs.Decimals.{numeral_spelled, numeral-decimal, value-decimal}
 use Rattle.rb_target.specs.Text.{word_text, op_text}
 use Rattle.rb_target.specs.Spelled.{IsShort}
-use Rattle.rb_target.specs.Reading.{is_gap}
-use Rattle.rb_target.specs.Fields.{number_of_word, has, leads, is_open, ops, op_of, op_word, named_word, numbered_word, word_in, named_front, numbered_front, is_word_front, key_bytes, keys, key_of}
+use Rattle.rb_target.specs.inner.Reading.{is_gap}
+use Rattle.rb_target.specs.inner.Fields.{number_of_word, has, leads, is_open, ops, op_of, op_word, named_word, numbered_word, word_in, named_front, numbered_front, is_word_front, key_bytes, keys, key_of}
 use Rattle.rb_target.specs.declared.instr.AluOp.{AluOp}
 use Rattle.rb_target.specs.declared.instr.AluOp.TheVariants.{Add, Sub, Mul, And, Or, Xor, Eq, Lt}
 use Rattle.rb_target.specs.declared.word.Word.{Word}

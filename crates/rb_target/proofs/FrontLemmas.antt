@@ -9,8 +9,8 @@ use Rattle.rb_target.proofs.RunLemmas.{pushed, counts}
 use Rattle.rb_target.specs.Text.{word_text, key_text, spaced, instr_text, head_text, body_text, fun_text}
 use Rattle.rb_target.specs.Validity.{IsLower}
 use Rattle.rb_target.proofs.SpelledForms.{IsFit, AreFit, IsFitFun}
-use Rattle.rb_target.specs.Fields.{number_of_word, is_open, word_in, key_bytes, key_of, next_field, may_end, first_line, after_word, instruction_of}
-use Rattle.rb_target.specs.Reading.{named, line_next, closing, started, worded, headed, step}
+use Rattle.rb_target.specs.inner.Fields.{number_of_word, is_open, word_in, key_bytes, key_of, next_field, may_end, first_line, after_word, instruction_of}
+use Rattle.rb_target.specs.inner.Reading.{named, line_next, closing, started, worded, headed, step}
 use Rattle.rb_target.specs.declared.instr.Instr.{Instr}
 use Rattle.rb_target.specs.declared.word.Word.{Word}
 use Rattle.rb_target.specs.declared.word.Word.TheVariants.{Number}

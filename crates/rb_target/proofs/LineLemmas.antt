@@ -10,7 +10,7 @@ use Rattle.rb_target.specs.Text.{key_text, words_of, numbers, pairs}
 use Rattle.rb_target.specs.Validity.{IsBounded}
 use Rattle.rb_target.specs.Spelled.{IsShort}
 use Rattle.rb_target.proofs.SpelledForms.{AreShort, IsFit}
-use Rattle.rb_target.specs.Fields.{has, is_open, key_bytes, fields, next_field, behind_field, fields_after, may_end, first_line, after_word, value_of, paired, arms_in, listed, lists_in, instruction_of}
+use Rattle.rb_target.specs.inner.Fields.{has, is_open, key_bytes, fields, next_field, behind_field, fields_after, may_end, first_line, after_word, value_of, paired, arms_in, listed, lists_in, instruction_of}
 use Rattle.rb_target.specs.declared.instr.AluOp.{AluOp}
 use Rattle.rb_target.specs.declared.instr.AluOp.TheVariants.{Add}
 use Rattle.rb_target.specs.declared.instr.SwitchArm.{SwitchArm}

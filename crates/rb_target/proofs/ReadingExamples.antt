@@ -1,9 +1,9 @@
 -- Worked examples of reading, which the checker computes.
 use Rattle.std.proofs.Common.{◌≡◌, ℕ, List, [], ◌∷◌, ◌++◌, codes, true, false, arith, Some, None, refl}
-use Rattle.rb_target.specs.Fields.{word_in, is_word_front, fields, behind_field, fields_after, may_end, first_line, after_word, instruction_of}
+use Rattle.rb_target.specs.inner.Fields.{word_in, is_word_front, fields, behind_field, fields_after, may_end, first_line, after_word, instruction_of}
 use Rattle.rb_target.proofs.StopLemmas.{stops_here, stops_at_end}
 use Rattle.rb_target.specs.Stopping.{StopsAt}
-use Rattle.rb_target.specs.Reading.{Progress, step, goes_on, named}
+use Rattle.rb_target.specs.inner.Reading.{Progress, step, goes_on, named}
 use Rattle.rb_target.specs.declared.instr.AluOp.TheVariants.{Add}
 use Rattle.rb_target.specs.declared.instr.Instr.TheVariants.{Call, Return}
 use Rattle.rb_target.specs.declared.word.Word.TheVariants.{Number, Op, Of}

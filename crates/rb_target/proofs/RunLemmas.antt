@@ -8,8 +8,8 @@ use Rattle.rb_target.proofs.LineLemmas.{whole, whole_next, Reads, key_for, reads
 use Rattle.rb_target.specs.Text.{word_text, words_of, spaced, line, instr_text, head_text, body_text, fun_text, code_text}
 use Rattle.rb_target.specs.Validity.{IsSmall, IsNameByte, IsLower}
 use Rattle.rb_target.proofs.SpelledForms.{AreShort, IsFit, AreFit, IsFitFun, AreFitFuns}
-use Rattle.rb_target.specs.Fields.{number_of_word, is_open, key_bytes, next_field, may_end, first_line, after_word, instruction_of}
-use Rattle.rb_target.specs.Reading.{is_gap, is_small, is_name_byte, named, line_next, headed, step, is_some, goes_on, Progress, start, moved, feed, then_feed, run}
+use Rattle.rb_target.specs.inner.Fields.{number_of_word, is_open, key_bytes, next_field, may_end, first_line, after_word, instruction_of}
+use Rattle.rb_target.specs.inner.Reading.{is_gap, is_small, is_name_byte, named, line_next, headed, step, is_some, goes_on, Progress, start, moved, feed, then_feed, run}
 use Rattle.rb_target.specs.declared.instr.Instr.{Instr}
 use Rattle.rb_target.specs.declared.word.Word.{Word}
 use Rattle.rb_target.specs.declared.word.Word.TheVariants.{Number}

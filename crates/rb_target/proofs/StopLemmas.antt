@@ -15,8 +15,8 @@ use Rattle.rb_target.specs.Validity.{IsSmall, IsNameByte, IsLower}
 use Rattle.rb_target.specs.Spelled.{AreSpelled}
 use Rattle.rb_target.specs.Stopping.{IsCode, IsFront, StopsAt, IsTextOf}
 use Rattle.rb_target.proofs.SpelledForms.{IsFitFun, AreFitFuns, funs_fit, fit_funs}
-use Rattle.rb_target.specs.Fields.{number_of_word, is_open, is_word_front, key_bytes, keys, next_field, after_word}
-use Rattle.rb_target.specs.Reading.{is_gap, is_small, is_name_byte, named, line_next, worded, headed, step, is_some, goes_on, Progress, start, moved, feed, run, is_outside, is_done}
+use Rattle.rb_target.specs.inner.Fields.{number_of_word, is_open, is_word_front, key_bytes, keys, next_field, after_word}
+use Rattle.rb_target.specs.inner.Reading.{is_gap, is_small, is_name_byte, named, line_next, worded, headed, step, is_some, goes_on, Progress, start, moved, feed, run, is_outside, is_done}
 use Rattle.rb_target.specs.declared.word.Word.{Word}
 use Rattle.rb_target.specs.declared.word.Word.TheVariants.{Number}
 use Rattle.rb_target.specs.declared.code.CodeFun.{CodeFun}

@@ -9,8 +9,7 @@ pub mod Calls
 pub mod Text
 pub mod Spelled
 pub mod Stopping
-pub mod Fields
-pub mod Reading
 pub mod Refusals
 pub mod Faults
 pub mod Checking
+pub mod inner

@@ -1,7 +1,7 @@
 //! The words that may stand in a field.
 
 ghost use Rattle.std.specs.Prelude.{◌≡◌};
-ghost use Rattle.rb_target.specs.Fields as spec;
+ghost use Rattle.rb_target.specs.inner.Fields as spec;
 
 use super::spot::{Field, Key};
 use crate::instr::AluOp;

@@ -2,7 +2,7 @@
 //! their ends.
 
 ghost use Rattle.std.specs.Prelude.{◌≡◌, IfOk, slice_get, drop, map};
-ghost use Rattle.rb_target.specs.Fields as spec;
+ghost use Rattle.rb_target.specs.inner.Fields as spec;
 
 use super::spot::{Field, Key, Line};
 use crate::instr::{AluOp, Instr, SwitchArm};

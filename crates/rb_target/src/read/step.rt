@@ -1,7 +1,7 @@
 //! One byte more of a code text.
 
-ghost use Rattle.std.specs.Prelude.{◌≡◌, ◌∷◌, [], ◌++◌, IfOk, MatchBool, Some, None, true};
-ghost use Rattle.rb_target.specs.Reading as spec;
+ghost use Rattle.std.specs.Prelude.{◌≡◌, ◌∷◌, [], ◌++◌, IfOk, Some, None, true};
+ghost use Rattle.rb_target.specs.inner.Reading as spec;
 
 use super::field::{is_key_front, key_of, number_of};
 use super::spot::{Line, Move, Spot, Turn};
@@ -23,7 +23,7 @@ pub struct Reader {
 }
 
 impl Model for Reader {
-    ghost use Rattle.rb_target.specs.Reading.{Progress};
+    ghost use Rattle.rb_target.specs.inner.Reading.{Progress};
 
     ghost Value = { Progress };
 

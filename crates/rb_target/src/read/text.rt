@@ -2,7 +2,7 @@
 
 ghost use Rattle.std.specs.Prelude.{◌≡◌, List, IfOk};
 ghost use Rattle.rb_target.specs.Stopping.{IsCodeReading, IsTextOf};
-ghost use Rattle.rb_target.specs.Reading.{IsRun};
+ghost use Rattle.rb_target.specs.inner.Reading.{IsRun};
 
 use super::step::Reader;
 use crate::code::CodeFun;

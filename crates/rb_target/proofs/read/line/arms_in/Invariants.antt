@@ -1,6 +1,6 @@
 use Rattle.std.proofs.Common.{◌≡◌, [], take, None}
 use Rattle.std.specs.List.{fold}
-use Rattle.rb_target.specs.Fields.{paired}
+use Rattle.rb_target.specs.inner.Fields.{paired}
 use Rattle.rb_target.proofs.read.line.arms_in.Given as goal
 
 abbrev pub invariant-loop-word : goal.invariant-loop-word

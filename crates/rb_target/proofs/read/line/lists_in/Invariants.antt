@@ -1,6 +1,6 @@
 use Rattle.std.proofs.Common.{◌≡◌, [], take, false}
 use Rattle.std.specs.List.{fold}
-use Rattle.rb_target.specs.Fields.{listed}
+use Rattle.rb_target.specs.inner.Fields.{listed}
 use Rattle.rb_target.proofs.read.line.lists_in.Given as goal
 
 abbrev pub invariant-loop-word : goal.invariant-loop-word

@@ -1,5 +1,5 @@
 use Rattle.std.proofs.Common.{◌≡◌, map, take}
-use Rattle.rb_target.specs.Fields.{value_of}
+use Rattle.rb_target.specs.inner.Fields.{value_of}
 use Rattle.rb_target.proofs.read.line.slots_in.Given as goal
 
 abbrev pub invariant-loop-word : goal.invariant-loop-word

@@ -1,5 +1,5 @@
 use Rattle.std.proofs.Common.{◌≡◌, List, true, false, sym, subst, ◌∙◌}
-use Rattle.rb_target.specs.Reading.{is_done}
+use Rattle.rb_target.specs.inner.Reading.{is_done}
 use Rattle.rb_target.specs.Stopping.{IsTextOf}
 use Rattle.rb_target.specs.declared.code.CodeFun.{CodeFun}
 use Rattle.rb_target.proofs.StopLemmas.{stops_at_end, read_whole, whole_only}

@@ -7,7 +7,7 @@ use Rattle.std.specs.Cmp.Lexicographic.{pointwise}
 use Rattle.rb_target.specs.Stopping.{StopsAt}
 use Rattle.rb_target.specs.declared.fault.CodeFault.{CodeFault}
 use Rattle.rb_target.specs.declared.fault.CodeFault.TheVariants.{CodeSyntax, Memory}
-use Rattle.rb_target.specs.Fields.{number_of_word, is_open, word_in, is_word_front, is_key_front, key_of, next_field, may_end, first_line, after_word, instruction_of}
+use Rattle.rb_target.specs.inner.Fields.{number_of_word, is_open, word_in, is_word_front, is_key_front, key_of, next_field, may_end, first_line, after_word, instruction_of}
 use Rattle.rb_target.specs.declared.word.Word.{Word}
 use Rattle.rb_target.specs.declared.code.CodeFun.{CodeFun}
 use Rattle.rb_target.specs.declared.read.spot.Key.{Key}
