@@ -1,4 +1,8 @@
--- How many switches a match may cost.
+-- How many switches a match may cost. A match looks at a place where it tests what constructor or number stands
+-- there. A leaf is one of the forms in which a layout stores the values of a data type; its provenance is the pattern
+-- of the values that it stores. It takes a subvalue apart where it has the subvalue's fields in place of its words:
+-- to have the subvalue's words, code rebuilds (mends) them. `types` are the declarations of the program's data types,
+-- `layouts` their layouts, both by the types' numbers, and `pats` the patterns of a match's clauses.
 use Rattle.std.specs.Prelude.{◌≡◌, ◌≤◌, Some, slice_get, ℕ, ◌+◌, ◌*◌, List, [], ◌∷◌, ◌++◌, map, filter, length, Bool, ◌&&◌, not, nat_lt, if◌then◌else◌}
 use Rattle.std.specs.List.{flat_map, list_all}
 use Rattle.rb_core.specs.declared.types.Ty.{Ty}
@@ -25,13 +29,14 @@ abbrev pub place_below : ℕ → Place → Place
 place_below i p = record { path = i ∷ p.path; ty = p.ty }
 
 -- the places of subpatterns, the first of which stands in field i: each is taken at the type of its field, and its
--- places are seen from above the fields
+-- places are seen from above the fields; where one of the lists ends, so do the places
 abbrev pub places_below : List (Ty → List Place) → List Ty → ℕ → List Place
 places_below [] ts i = []
 places_below (p ∷ ps) [] i = []
 places_below (p ∷ ps) (t ∷ ts) i = map (place_below i) (p t) ++ places_below ps ts (i + 1)
 
--- the places of a pattern at a type, from those of its subpatterns
+-- the places of a pattern at a type, from those of its subpatterns: its own first, if it is a number or a
+-- constructor, and none for a wildcard or a variable
 abbrev pub places_step : List DataDecl → Pat-F (Ty → List Place) → Ty → List Place
 places_step types (P.Wild at) t = []
 places_step types (P.Var at x) t = []
@@ -46,7 +51,7 @@ places_in types = fold-Pat (Ty → List Place) (places_step types)
 abbrev pub same_place : Place → Place → Bool
 same_place a b = same_path a.path b.path && same_type a.ty b.ty
 
--- the places of a list, each of them once
+-- the places of a list, each of them once, in the order in which they are first met
 abbrev pub distinct_places : List Place → List Place
 distinct_places [] = []
 distinct_places (p ∷ ps) = p ∷ filter (λ other. not (same_place p other)) (distinct_places ps)
@@ -55,11 +60,12 @@ distinct_places (p ∷ ps) = p ∷ filter (λ other. not (same_place p other)) (
 abbrev pub places_of_patterns : List DataDecl → Ty → List Pat → List Place
 places_of_patterns types t pats = distinct_places (flat_map (λ pat. places_in types pat t) pats)
 
--- how often places are looked at: once, or once a clause where the decision tree is too large to be made
+-- how often places are looked at by a match on values of type t: once, or once a clause where its decision tree has
+-- more than 512 nodes and is not made
 abbrev pub rounds : List DataDecl → Ty → List Pat → ℕ
 rounds types t pats = if nat_lt 512 (size (match_tree types t pats)) then length pats else 1
 
--- what one look at each of some places costs together, where `look` says what it costs at a type
+-- what one look at each of some places costs together, where `look` says what it costs at a type; 0 for no places
 abbrev pub looks_with : (Ty → ℕ) → List Place → ℕ
 looks_with look [] = 0
 looks_with look (p ∷ ps) = look p.ty + looks_with look ps
@@ -75,7 +81,7 @@ bound_of types layouts t pats = rounds types t pats * looks_of layouts (places_o
 -- Choosing and binding ---------------------------------------------------------------------------
 
 -- whether no leaf of data type t takes a subvalue apart, that is, tells the subvalue's constructor and has its fields
--- in place of its words
+-- in place of its words; true of a type without leaves
 abbrev pub is_plain : List Layout → ℕ → Bool
 is_plain layouts t = list_all is_shallow (leaves_in (layout_of layouts t))
 

@@ -1,4 +1,8 @@
--- What code that chooses a match's clause owes, and what code that binds a pattern's variables owes.
+-- What code that chooses a match's clause owes, and what code that binds a pattern's variables owes. A sheet is the
+-- code and the number of slots so far: `old` before some code is appended, `new` behind it. `agreed` is the program
+-- with the layouts of its types, a plan of it those with the switches that its matches may cost. `words` are the
+-- slots of a value's words. A memory is good where it is one that can come to be; `clean` asks that bits that no part
+-- of a value takes are 0. `bound` lists variables, each with its type and the slots of its value.
 use Rattle.std.specs.Prelude.{◌≡◌, ℕ, ◌≤◌, ◌⊎◌, List, [], ◌∷◌, length, Bool, true, Some}
 use Rattle.rb_core.specs.declared.value.Value.{Value}
 use Rattle.rb_core.specs.declared.types.Ty.{Ty}
@@ -24,7 +28,7 @@ use Rattle.rb_match.specs.Bounding.{binding_bound, choosing_bound}
 
 -- Choosing --------------------------------------------------------------------------------------
 
--- each pattern of the list is typed at t, the type of the value that is matched
+-- each pattern of the list is typed at t, the type of the value that is matched; so it is of no patterns
 abbrev pub PatternsAreTyped : List DataDecl → Ty → List Pat → Type 0
 PatternsAreTyped types t [] = Unit {0}
 PatternsAreTyped types t (p ∷ ps) = PatternIsTyped types t p × PatternsAreTyped types t ps
@@ -48,8 +52,9 @@ Chooses agreed t pats words old new holes =
 
 -- Binding ---------------------------------------------------------------------------------------
 
--- the appended code leaves what a pattern binds in slots that are new or the value's own, within the share of the
--- bound that is left to binding
+-- Run on the words of a value of type t that the pattern matches, the appended code leaves what the pattern binds in
+-- slots that are new or the value's own, and goes on at its end. It keeps all slots that there were, and does at most
+-- as many switches as are left to binding.
 pub record Binds (plan : Plan) (pat : Pat) (t : Ty) (words : List ℕ) (old new : Sheet)
     (bound : List Local) : Type 0 where
   pub adds : Adds plan old new
@@ -61,7 +66,8 @@ pub record Binds (plan : Plan) (pat : Pat) (t : Ty) (words : List ℕ) (old new 
       (λ s m. IsGood m × Rep plan m clean t v (slots_at s words))
       (AtEnd new (λ s m. Holds plan clean s m bound (bindings pat v)))
 
--- run on words of a value that the pattern matches, the appended code binds the pattern's variables
+-- in each plan of the layouts, and where each word of type t has a slot that there was, the appended code binds the
+-- variables of a pattern that matches the value in these slots
 abbrev pub BindsPattern : LaidOut → Ty → Pat → List ℕ → Sheet → Sheet → List Local → Type 0
 BindsPattern agreed t pat words old new bound =
     (plan : Plan) → IsPlanOf agreed plan → AllBelow old.slots words → length words ≡ words_of plan t

@@ -1,6 +1,13 @@
 -- The code of one test. A hole is a target of a jump or a switch that is still open. An edge is a way out of the
 -- code: a hole, whose `leaf` is the number of the node to which it is to lead, with what is known of the value there.
--- A spot is slots in which the part of a value at a position may be saved.
+-- A spot is slots in which the part of a value at a position may be saved. A position is the numbers of the fields
+-- that lead from the value to a part of it. The part there is tested: its head, the constructor or number with which
+-- it begins, takes it by one of the `arms` to a node, and other values go to node `other`, if there is one; a node is
+-- a test or a clause. A leaf is one of the forms in which a layout stores the values of data type t, given by its
+-- number; its provenance is the pattern of these values. A group is leaves that the code doesn't tell apart. The
+-- facts `known` say what is known before the test: which leaves parts have, and which spots hold theirs. A sheet is
+-- the code and the number of slots so far, `old` before the test's code and `new` behind it. A read says where a word
+-- is, by bits of slots and of memory.
 use denote.Ref.{Bor}
 use Rattle.std.specs.Prelude.{◌≡◌, ℕ, ◌+◌, ◌-◌, ◌<◌, ◌≤◌, ◌^◌, List, [], ◌∷◌, ◌++◌, map, length, Bool, true, false, ◌&&◌, nat_lt, Option, Some, None, slice_get, if◌then◌else◌}
 use Rattle.rb_core.specs.declared.value.Value.{Value, out-Value}
@@ -101,19 +108,20 @@ abbrev pub edge_in : List GraphNode → ℕ → Option ℕ → ℕ → List Know
 edge_in nodes pc arm node known = edge_at pc arm node (carried nodes node known)
 
 -- the edges by the arms of the switch at instruction pc, counted from arm k, each to the node of one of these arms of
--- a test
+-- a test, and with these facts where that node is a test
 abbrev pub arm_edges : List GraphNode → ℕ → List Known → List GraphArm → ℕ → List Edge
 arm_edges nodes pc known [] k = []
 arm_edges nodes pc known (a ∷ arms) k = edge_in nodes pc (Some k) a.under known ∷ arm_edges nodes pc known arms (k + 1)
 
--- the edge by the other target of the switch at instruction pc, where a test has a node for all other values
+-- the edge by the other target of the switch at instruction pc, where a test has a node for all other values; no edge
+-- where it has none
 abbrev pub else_edges : List GraphNode → ℕ → List Known → Option ℕ → List Edge
 else_edges nodes pc known None = []
 else_edges nodes pc known (Some link) = edge_in nodes pc None link known ∷ []
 
 -- Constructors ----------------------------------------------------------------------------------
 
--- the number of the constructor that a pattern begins with, if it begins with one
+-- the number of the constructor that a pattern begins with; none for a wildcard, a variable or a number
 abbrev pub con_of_layer : Pat-F Pat → Option ℕ
 con_of_layer (P.Wild at) = None
 con_of_layer (P.Var at x) = None
@@ -126,7 +134,7 @@ abbrev pub con_in : Option Leaf → Option ℕ
 con_in None = None
 con_in (Some leaf) = con_of_layer (out-Pat leaf.prov)
 
--- leaf l of a layout, if there is one
+-- leaf l of a layout, if there is a layout and it has such a leaf
 abbrev pub leaf_in : Option Layout → ℕ → Option Leaf
 leaf_in None l = None
 leaf_in (Some layout) l = slice_get layout.leaves l
@@ -136,7 +144,8 @@ leaf_in (Some layout) l = slice_get layout.leaves l
 abbrev pub leaf_con : LaidOut → ℕ → ℕ → Option ℕ
 leaf_con agreed t l = con_in (leaf_in (layout_of agreed.layouts t) l)
 
--- the node to which a test leads the values of a constructor; none where there is none for them, or no constructor
+-- the node to which a test leads the values of the constructor with this number; none where the test has none for
+-- them, or where no constructor is given
 abbrev pub link_at : List GraphArm → Option ℕ → Option ℕ → Option ℕ
 link_at arms other None = None
 link_at arms other (Some c) = take_link arms other (V.Con c [])
@@ -172,12 +181,13 @@ pub record AreGroups {A : Type 0} (IsGroup : ℕ → A → Type 0) (count : ℕ)
   pub long : length groups ≡ count
   pub each : (leaf : ℕ) → leaf < count → (group : A) × (slice_get groups leaf ≡ Some group) × IsGroup leaf group
 
--- the edge by a hole to a node with these facts, if there is a node
+-- the edge by the target of a hole to a node, which carries these facts where that is a test; none without a node
 abbrev pub edge_to : List GraphNode → Hole → List Known → Option ℕ → Option Edge
 edge_to nodes h facts None = None
 edge_to nodes h facts (Some node) = Some (edge_in nodes h.pc h.arm node facts)
 
--- the edge by a hole whose number is that of a group of leaves, where they lead to a node
+-- the edge by a hole whose number is that of a group of leaves, to the node to which they lead; none where they lead
+-- to none
 abbrev pub edge_for : LaidOut → List GraphNode → ℕ → Bor (List ℕ) → List Known → List GraphArm → Option ℕ → Hole
     → Option Edge
 edge_for agreed nodes t position known arms other h =
@@ -188,7 +198,8 @@ abbrev pub keep_edge : Option Edge → List Edge → List Edge
 keep_edge None es = es
 keep_edge (Some e) es = e ∷ es
 
--- the edges by these holes, each of which has the number of a group of leaves, where these lead to a node
+-- the edges by these holes, in their order, each of which has the number of a group of leaves; a hole whose leaves
+-- lead to no node gives no edge
 abbrev pub leaf_edges_of : LaidOut → List GraphNode → ℕ → Bor (List ℕ) → List Known → List GraphArm → Option ℕ
     → List Hole → List Edge
 leaf_edges_of agreed nodes t position known arms other [] = []
@@ -221,8 +232,9 @@ pub record StandOpen (old new : Sheet) (edges : List Edge) : Type 0 where
   pub are_open : AreOpen (length old.code) new.code edges
   pub one : LeadOneWay edges
 
--- The run goes out by an edge, whatever its target, to a node of which `To` is so, with what the edge says is known.
--- It does at most `most` more switches, and keeps the first n slots.
+-- The run from instruction `start`, with the slots s and the world w, goes out by an edge, whatever its target, to a
+-- node of which `To` is so, with what the edge says is known of value v. It does at most `most` more switches, and
+-- keeps the first n slots.
 pub record LeavesWhere (To : View → ℕ → Type 0) (plan : Plan) (final : List Instr) (next : Next) (edges : List Edge)
     (n most start : ℕ) (s : List ℕ) (w : World) (clean : Bool) (v : Value) (spots : List Spot) : Type 0 where
   pub edge : Edge
@@ -250,8 +262,8 @@ LeavesBy plan final next edges n most start s w clean v spots node =
 
 -- Tests -----------------------------------------------------------------------------------------
 
--- spots that code may write: their slots are from n on and below m, as many as their types have words, and
--- no two share one
+-- spots that code may write: their slots are from n on and below m, each spot has as many as its type has words, and
+-- no slot is given twice, within a spot or in two of them
 pub record AreSpots (plan : Plan) (n m : ℕ) (spots : List Spot) : Type 0 where
   pub low : n ≤ m
   pub from : (k : ℕ) (spot : Spot) → slice_get spots k ≡ Some spot → AllFrom n spot.slots

@@ -1,4 +1,11 @@
--- What code that binds owes at parts of a pattern.
+-- What code that binds owes at parts of a pattern. To bind a pattern is to give the value of each of its variables
+-- slots: `bound` lists them, `scope` the variables with their types, and `bs` with their values. A leaf is one of the
+-- forms in which a layout stores the values of data type t, given by its number; its provenance is the pattern of
+-- these values. It takes a subvalue apart where it has the subvalue's fields in place of its words: to bind the
+-- subvalue, code rebuilds (mends) it. A spot is slots in which a field is saved, whichever leaf it comes from; the
+-- facts `known` say which spots hold their fields. `subs` are the patterns of a constructor's fields, or of those
+-- from field i on, and `fields` the types of the same. A sheet is the code and the number of slots so far, `old`
+-- before some code is appended and `new` behind it. The slots `words` hold the value's words.
 use Rattle.std.specs.Prelude.{◌≡◌, ℕ, ◌+◌, ◌<◌, ◌≤◌, ◌&&◌, ◌⊎◌, List, [], ◌∷◌, map, length, Bool, true, false, Some, slice_get}
 use Rattle.rb_core.specs.declared.value.Value.{Value}
 use Rattle.rb_core.specs.declared.types.Ty.{Ty}
@@ -54,7 +61,7 @@ IsOnly agreed t p leaf count = (n : ℕ) → n < count → (n ≡ leaf) ⊎ IsLe
 abbrev pub IsOnlyLeaf : LaidOut → ℕ → Pat → ℕ → Type 0
 IsOnlyLeaf agreed t p leaf = IsOnly agreed t p leaf (leaf_count agreed t)
 
--- whether none of some subpatterns has a variable, where that is given of each
+-- whether none of some subpatterns has a variable, where that is given of each; so it is of no subpatterns
 abbrev pub all_unbound : List Bool → Bool
 all_unbound [] = true
 all_unbound (b ∷ bs) = b && all_unbound bs
@@ -77,7 +84,8 @@ BindsAt agreed t pat words old new bound =
     → Binds plan pat t words old new bound
 
 -- where the value has this leaf of data type t, the appended code leaves what some patterns bind in slots that are
--- new or the value's own
+-- new or the value's own, with at most `most` switches; `Parts` says of a value which bindings are asked of the
+-- patterns
 pub record BindsParts (plan : Plan) (most t leaf : ℕ) (words : List ℕ) (scope : List Binder) (old new : Sheet)
     (bound : List Local) (Parts : Value → List Binding → Type 0) : Type 0 where
   pub adds : Adds plan old new
@@ -96,7 +104,7 @@ FieldsMatch subs i v bs =
     (vs : List Value) × ((j : ℕ) → part_at v ((i + j) ∷ []) ≡ slice_get vs j)
     × (all_pass (map matches_of subs) vs ≡ true) × (bs ≡ all_bound (map bindings subs) vs)
 
--- the switches that bind the variables of the patterns of some fields, at most, once the fields are there
+-- the switches that bind the variables of the patterns of some fields, at most, once the fields' words stand in slots
 abbrev pub fields_bound : Plan → List Pat → List Ty → ℕ
 fields_bound plan subs fields =
     looks_with (binding_look plan.layouts) (places_below (map (places_in plan.program.types) subs) fields 0)
@@ -123,12 +131,12 @@ BindsField agreed t leaf words sub field i old new bound =
 
 -- Saved fields ------------------------------------------------------------------------------------
 
--- facts on a value, in a good memory
+-- these facts are so of value v, with these spots, contents of the slots and memory, and the memory is good
 abbrev pub AreSeen : Plan → Bool → Value → List Spot → List Known → List ℕ → Memory → Type 0
 AreSeen plan clean v spots known s m = IsGood m × AreKnown (seen plan clean v spots s m) known
 
 -- Run on the words of a value that begins with the constructor, whatever its leaf, the appended code saves
--- fields: the facts are known then.
+-- fields: the facts are known then. It does at most the switches of one look, and keeps the first n slots.
 pub record SavedTogether (plan : Plan) (n : ℕ) (c : ConRef) (words : List ℕ) (spots : List Spot) (known : List Known)
     (old new : Sheet) : Type 0 where
   pub adds : Adds plan old new
@@ -143,7 +151,8 @@ SavesTogether agreed c words spots known old new =
     → length words ≡ words_of plan (Named c.ty)
     → SavedTogether plan n c words spots known old new
 
--- the appended code leaves what some patterns bind in slots from n on, where these facts are known of the value
+-- the appended code leaves what some patterns bind in slots from n on, where these facts are known of the value, with
+-- at most `most` switches; `Parts` says of a value which bindings are asked of the patterns
 pub record BindsSaved (plan : Plan) (n most : ℕ) (spots : List Spot) (known : List Known) (scope : List Binder)
     (old new : Sheet) (bound : List Local) (Parts : Value → List Binding → Type 0) : Type 0 where
   pub adds : Adds plan old new
@@ -178,7 +187,7 @@ BindsDeep agreed t c words subs fields old new bound =
 
 -- Sizes: each part of a pattern weighs less than what it is part of ------------------------------
 
--- the weights of a constructor's subpatterns together, and 2 more for each
+-- the weights of a constructor's subpatterns together, and 2 more for each; 0 for none
 abbrev pub weights : List ℕ → ℕ
 weights [] = 0
 weights (w ∷ ws) = w + 2 + weights ws

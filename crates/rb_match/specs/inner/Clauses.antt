@@ -1,4 +1,10 @@
--- Clause by clause.
+-- Clause by clause: code that tries one pattern of a match after another. A hole is a target of a jump or a switch
+-- that is still open, with the number of what it is to lead to, its way: here mostly that of a clause, its place
+-- among the patterns. A sheet is the code and the number of slots so far: `old` before some code is appended, `new`
+-- behind it. `words` are reads of the words of a value of type `ty`: each says where a word is, by bits of slots and
+-- of memory. `final` is the finished code of a whole function, and `next start s w` what a run in it comes to from
+-- instruction `start` with the slots s and the world w. To look at a place, a position and its type, is to test what
+-- stands there.
 use Rattle.std.specs.Prelude.{◌≡◌, ℕ, ◌+◌, ◌*◌, ◌<◌, ◌≤◌, ◌==◌, List, [], ◌∷◌, length, Bool, true, false, Some, slice_get, if◌then◌else◌}
 use Rattle.rb_core.specs.declared.value.Value.{Value}
 use Rattle.rb_core.specs.declared.types.Ty.{Ty}
@@ -24,7 +30,7 @@ use Rattle.rb_fetch.specs.Finding.{IsPlanOf}
 use Rattle.rb_match.specs.Bounding.{choosing_look, looks_with, places_of_patterns}
 use Rattle.rb_match.specs.inner.Trees.{TakesTree}
 
--- those of the holes that have the number `way`, with the number `name` instead
+-- those of the holes that have the number `way`, with the number `name` instead, in their order
 abbrev pub way_holes : ℕ → ℕ → List Hole → List Hole
 way_holes way name [] = []
 way_holes way name (h ∷ hs) =
@@ -32,7 +38,7 @@ way_holes way name (h ∷ hs) =
     else way_holes way name hs
 
 -- the code leads each value out by a hole of 0 or of 1, as the decision tree of this pattern and of a wildcard behind
--- it says
+-- it says, whose clauses 0 and 1 are these two
 abbrev pub TakesAlone : LaidOut → Ty → List Read → Pat → Sheet → Sheet → List Hole → Type 0
 TakesAlone agreed ty words pat old new holes =
     TakesTree agreed ty words (pat ∷ Wild 0 ∷ [])
@@ -92,7 +98,7 @@ pub record TriesClause (agreed : LaidOut) (ty : Ty) (words : List Read) (pat : P
       → slice_get pats k ≡ Some pat → ClauseTried plan ty words pats pat number old new holes
 
 -- the code tries the first `count` clauses of a match: where the value chooses one of them, the run leaves by a hole
--- of it, and where it chooses a later one, it goes on behind the code
+-- of it, and where it chooses a later one, it goes on behind the code; each clause may cost a round of looks
 pub record AllTried (plan : Plan) (ty : Ty) (words : List Read) (pats : List Pat) (count : ℕ) (old new : Sheet)
     (holes : List Hole) : Type 0 where
   pub adds : Adds plan old new

@@ -1,6 +1,10 @@
 -- The code of a graph while it is made: the edges that are open, and what a run has done when it leaves by one. An
 -- edge is a hole, that is, an open target of the code, for the node to which it is to lead, with what is known of the
--- value there. A way through the graph is the positions that are tested on it, one after another.
+-- value there. A way through the graph is the positions that are tested on it, one after another. A position is the
+-- numbers of the fields that lead from the value to a part of it; a place is a position and the type there. A node of
+-- the graph is a test or a clause, given by its number. A spot is slots in which a part of the value is saved. A
+-- sheet is the code and the number of slots so far, `old` before some code is appended and `new` behind it. A job is
+-- what is asked of a graph's code. A run in the finished code `final` begins with the slots s and the world w.
 use Rattle.std.specs.Prelude.{◌≡◌, ℕ, ◌<◌, ◌≤◌, ◌++◌, ◌⊎◌, ◌==◌, List, [], ◌∷◌, map, length, Bool, Some, slice_get, if◌then◌else◌}
 use Rattle.rb_core.specs.declared.value.Value.{Value}
 use Rattle.rb_core.specs.declared.types.Ty.{Ty}
@@ -83,7 +87,9 @@ pub record Job : Type 0 where
 abbrev pub AllLookedAt : Job → List Place → Type 0
 AllLookedAt job path = (p : Place) → IsPlaceIn p path → IsLookedAt job.plan.program.types job.ty job.pats p.path p.ty
 
--- a value that came from the root to a node, at which these places were looked at on the way
+-- a value that came from the root to node n, at which these places were looked at on the way: the graph takes the
+-- same clause of it from there as from the root, and each way from there to a clause, behind these places, is one
+-- from the root
 pub record IsOn (job : Job) (v : Value) (n : ℕ) (path : List Place) : Type 0 where
   pub same : (k : ℕ) → taken (tree_at job.nodes job.root) v ≡ Some k → taken (tree_at job.nodes n) v ≡ Some k
   pub onward : (tail : Way) → HasWay (ways (tree_at job.nodes n)) tail
@@ -185,7 +191,8 @@ pub record JobStands (first new : Sheet) (edges : List Edge) : Type 0 where
   pub grows : Grows first.code new.code
   pub stand : StandOpen first new edges
 
--- one more node, number n, has its code: where the code led all values out by the old edges, it now does by the new
+-- one more node, number n, has its code: where the code led all values out by the old edges, it now does by the edges
+-- `more`, and where the old edges were open, these are
 pub record StepsNode (agreed : LaidOut) (ty : Ty) (words : List Read) (pats : List Pat) (spots : List Spot)
     (nodes : List GraphNode) (node : GraphNode) (n : ℕ) (old : Sheet) (edges : List Edge) (new : Sheet)
     (more : List Edge) : Type 0 where
@@ -204,20 +211,22 @@ pub record Begins (agreed : LaidOut) (ty : Ty) (words : List Read) (pats : List 
 
 -- Clauses ---------------------------------------------------------------------------------------
 
--- the hole of a clause, in the place of one that leads to its node
+-- the new hole is the same target as the old one, with the number of a clause, one of `count`, in place of the number
+-- of the clause's node
 pub record IsClauseHole (nodes : List GraphNode) (count : ℕ) (old new : Hole) : Type 0 where
   pub pc : new.pc ≡ old.pc
   pub arm : new.arm ≡ old.arm
   pub few : new.leaf < count
   pub node : slice_get nodes old.leaf ≡ Some (Clause new.leaf)
 
--- the holes are the edges, each with its clause
+-- the holes are those of the edges, in their order, each with the number of its clause
 pub record AreClauseHoles (nodes : List GraphNode) (count : ℕ) (edges : List Edge) (holes : List Hole) : Type 0 where
   pub long : length holes ≡ length edges
   pub each : (k : ℕ) (e : Edge) (h : Hole) → slice_get edges k ≡ Some e → slice_get holes k ≡ Some h
       → IsClauseHole nodes count e.hole h
 
--- the run leaves by a hole of clause k, after looks at the places of one way through the graph
+-- the run leaves by a hole of clause k, after looks at the places of one way through the graph, and keeps the slots
+-- below the job's base
 pub record LeavesOn (job : Job) (final : List Instr) (next : Next) (holes : List Hole) (s : List ℕ) (w : World)
     (k : ℕ) : Type 0 where
   pub path : List Place

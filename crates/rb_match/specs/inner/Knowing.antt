@@ -1,5 +1,9 @@
--- What is known of a value on its way through a graph: facts, each of which says which leaf a part has, or that a
--- part is saved in a spot. A spot is slots for the part at a position, an edge a way out of the code to a node.
+-- What is known of a value on its way through a decision graph, whose nodes are tests and clauses: facts, each of
+-- which says which leaf a part has, or that a part is saved in a spot. A position is the numbers of the fields that
+-- lead from the value to a part of it, the outermost first; that of the value itself is empty. A leaf is one of the
+-- forms in which a layout stores the values of a data type, given by its number there. A spot is slots for the part
+-- at a position, given by its number among the spots. An edge is a way out of the code to a node, given by its
+-- number, with what is known of the value there. `known` are facts, `slots` the contents of all slots in a run.
 use Rattle.std.specs.Prelude.{◌≡◌, ℕ, ◌⊎◌, List, Bool, Option, Some, None, slice_get}
 use Rattle.rb_core.specs.declared.value.Value.{Value}
 use Rattle.rb_core.specs.Values.{part_at}
@@ -14,8 +18,8 @@ use Rattle.rb_match.specs.declared.knowledge.Known.TheVariants.{Leaf, Saved}
 use Rattle.rb_match.specs.declared.knowledge.Spot.{Spot}
 use Rattle.rb_match.specs.declared.knowledge.Edge.{Edge}
 
--- what facts are judged by: a value, as cleanly represented as the flag says, the spots for its parts, and the slots
--- and the memory of a run
+-- what facts are judged by: a value, the spots for its parts, and the contents of the slots and the memory of a run;
+-- a saved part is represented cleanly, that is, with all bits 0 that no part takes, where `clean` says so
 pub record View : Type 0 where
   pub plan : Plan
   pub clean : Bool
@@ -32,13 +36,13 @@ seen plan clean v spots s m = record { plan = plan; clean = clean; value = v; sp
 abbrev pub SpotsBelow : ℕ → List Spot → Type 0
 SpotsBelow n spots = (k : ℕ) (spot : Spot) → slice_get spots k ≡ Some spot → AllBelow n spot.slots
 
--- the part of value v at the position has this leaf of data type ty
+-- there is a part of value v at the position, and it has this leaf of data type ty
 abbrev pub IsLeafAt : Plan → Value → List ℕ → ℕ → ℕ → Type 0
 IsLeafAt plan v position ty leaf =
     (part : Value) × (layout : Layout) × (part_at v position ≡ Some part) × (layout_of plan.layouts ty ≡ Some layout)
     × (leaf_of layout part ≡ Some leaf)
 
--- the spot's slots hold words that represent the part of the value at the spot's position
+-- the value has a part at the spot's position, and the spot's slots hold words that represent it
 abbrev pub HoldsPart : View → Spot → Type 0
 HoldsPart at spot =
     (part : Value) × (part_at at.value spot.position ≡ Some part)
@@ -53,7 +57,7 @@ abbrev pub IsKnown : View → Known → Type 0
 IsKnown at (Leaf position ty leaf) = IsLeafAt at.plan at.value position.now ty leaf
 IsKnown at (Saved k) = IsSaved at k
 
--- each of these facts is so of the value in this view
+-- each of these facts is so of the value in this view; so it is where there are none
 abbrev pub AreKnown : View → List Known → Type 0
 AreKnown at known = (i : ℕ) (x : Known) → slice_get known i ≡ Some x → IsKnown at x
 
@@ -80,8 +84,8 @@ abbrev pub AreFound : View → Option (List Known) → Type 0
 AreFound at None = ⊥
 AreFound at (Some known) = AreKnown at known
 
--- the facts r are so where those found at a node before are, or where this edge leads to the node and what it says is
--- so: they hold by whichever edge the node is reached
+-- the facts r are so where those found at the node with this number before are, or where this edge leads to it and
+-- what the edge says is so: they hold by whichever edge the node is reached; r is none only where neither can be
 abbrev pub IsMet : Option (List Known) → Edge → ℕ → Option (List Known) → Type 0
 IsMet found edge node r =
     (at : View) → AreFound at found ⊎ ((edge.hole.leaf ≡ node) × AreKnown at edge.known) → AreFound at r
@@ -90,7 +94,8 @@ IsMet found edge node r =
 abbrev pub IsEdge : Edge → List Edge → Type 0
 IsEdge e es = (k : ℕ) × (slice_get es k ≡ Some e)
 
--- the facts r are so wherever those are that one of the edges to the node carries; r is none only where that is never
+-- the facts r are so wherever those are that one of the edges to the node with this number carries; r is none only
+-- where that is never
 abbrev pub IsCommon : List Edge → ℕ → Option (List Known) → Type 0
 IsCommon edges node r =
     (at : View) (e : Edge) → IsEdge e edges → e.hole.leaf ≡ node → AreKnown at e.known → AreFound at r

@@ -2,7 +2,13 @@
 -- leaf: for values of one leaf it saves fields, and leaves by an edge, an open target for a node. The part is tested:
 -- by one of the `arms` its value is led to a node, or to node `other`, if there is one, where no arm is taken. What
 -- is matched is `graph`: a type, patterns, and nodes with tests, perhaps none. The facts `known` are so where the
--- test stands; `found`, or an entry of `onward`, says where the values of a leaf go on behind it, if anywhere.
+-- test stands; `found`, or an entry of `onward`, says where the values of a leaf go on behind it, if anywhere. A leaf
+-- is one of the forms in which a layout stores the values of data type t, given by its number. A group is leaves that
+-- the code doesn't tell apart: one leaf alone, or all that go on at one node and of which nothing is saved. A hole is
+-- an open target, with the number of a group. A spot is slots in which the part at a position may be saved. A sheet
+-- is the code and the number of slots so far: `mid` where a leaf is found, `b` behind some of the ways, `old` and
+-- `new` before and behind all of what is appended. The slots `words` hold the part's words; the first n slots are
+-- kept.
 use denote.Ref.{Bor}
 use Rattle.std.specs.Prelude.{◌≡◌, ℕ, ◌+◌, ◌-◌, ◌<◌, ◌≤◌, nat_le, List, [], ◌∷◌, ◌++◌, map, length, Bool, true, Option, Some, None, slice_get, if◌then◌else◌}
 use Rattle.rb_core.specs.declared.value.Value.{Value, out-Value}
@@ -52,8 +58,8 @@ pending i (h ∷ hs) = if nat_le i h.leaf then h ∷ pending i hs else pending i
 abbrev pub CanOpen : List Instr → List Hole → ℕ → Type 0
 CanOpen code holes i = (h : Hole) → IsIn h (pending i holes) → IsHole code h
 
--- Behind code that finds a leaf, which ends at a number, stand the ways of the leaves below i; the holes of
--- the others are open.
+-- Behind code that finds a leaf, from the sheet `mid` up to instruction `top`, stand the ways of the groups below i,
+-- and leave by these edges; the holes of the other groups are open. Each target of the edges leads to one node.
 pub record WaysStand (mid : Sheet) (top : ℕ) (holes : List Hole) (i : ℕ) (b : Sheet) (edges : List Edge) : Type 0 where
   pub grows : Grows mid.code b.code
   pub high : top ≤ length b.code
@@ -68,15 +74,16 @@ abbrev pub LeadsFrom : LaidOut → Whole → List Known → ℕ → ℕ → Type
 LeadsFrom agreed graph known node m =
     LeadsOn agreed graph.ty graph.pats.now graph.nodes.now known node m × (graph.nodes.now ≡ [] → m ≡ node)
 
--- the values of a leaf that a test leads to a node go on at one that `Leads` allows for it; those that it leads to no
--- node go nowhere
+-- the values of a leaf that a test leads to a node, the first of these if there is one, go on at a node that `Leads`
+-- allows for it; those that it leads to no node go nowhere
 abbrev pub GoOn : (ℕ → ℕ → Type 0) → Option ℕ → Option Onward → Type 0
 GoOn Leads None None = Unit {0}
 GoOn Leads None (Some found) = ⊥
 GoOn Leads (Some node) None = ⊥
 GoOn Leads (Some node) (Some found) = Leads node found.node
 
--- the facts that a leaf's values go on with are so where these are; nothing is asked of a leaf that goes nowhere
+-- the facts that a leaf's values go on with are so where the facts `known` are; nothing is asked of a leaf that goes
+-- nowhere
 abbrev pub ShowOnward : LaidOut → List Known → Option Onward → Type 0
 ShowOnward agreed known None = Unit {0}
 ShowOnward agreed known (Some found) = AllFollow agreed known found.known
@@ -103,7 +110,7 @@ abbrev pub group_onward : ℕ → ℕ → Option Onward → Option ℕ
 group_onward count leaf None = None
 group_onward count leaf (Some found) = group_for count found.saves leaf (Some found.node)
 
--- the leaf has this group, by where the list says that its values go on
+-- the leaf has this group, by where its entry of the list says that its values go on; no leaf past the list has one
 abbrev pub HasGroupOnward : List (Option Onward) → ℕ → Option ℕ → Type 0
 HasGroupOnward onward leaf group =
     (found : Option Onward) × (slice_get onward leaf ≡ Some found) × (group ≡ group_onward (length onward) leaf found)
@@ -117,8 +124,8 @@ shared_edge nodes count known h = edge_in nodes h.pc h.arm (h.leaf - count) know
 abbrev pub shared_edges : List GraphNode → ℕ → List Known → List Hole → List Edge
 shared_edges nodes count known holes = map (shared_edge nodes count known) (pending count holes)
 
--- some facts lead from the node on to node k that are so of the view's value, perhaps in other slots than the view's,
--- since those of spots may have been written on the way
+-- some facts lead from node number `node` on to node k that are so of the view's value, perhaps with other contents
+-- of the slots than the view's, since those of spots may have been written on the way
 abbrev pub IsOnward : LaidOut → Whole → ℕ → View → ℕ → Type 0
 IsOnward agreed graph node view k =
     (told : List Known) × (s : List ℕ) × AreKnown (seen view.plan view.clean view.value view.spots s view.memory) told
@@ -126,7 +133,8 @@ IsOnward agreed graph node view k =
 
 -- Ways ------------------------------------------------------------------------------------------
 
--- `Does` is so of each run of the code over a part, in slots, whose leaf a test leads to a node, in any finished code
+-- `Does` is so of each run of the code from mid to b over a part of data type t whose words stand in slots, where a
+-- test leads the part to a node, in any finished code, whatever these holes lead to
 abbrev pub OnLeaves : Plan → ℕ → List ℕ → List Spot → List Known → List ℕ → List GraphArm → Option ℕ → Sheet → Sheet
     → List Hole → (List Instr → Next → List ℕ → World → Bool → Value → ℕ → ℕ → Type 0) → Type 0
 OnLeaves plan t words spots known position arms other mid b holes Does =
@@ -137,7 +145,8 @@ OnLeaves plan t words spots known position arms other mid b holes Does =
     → part_at v position ≡ Some part → layout_of plan.layouts t ≡ Some layout → leaf_of layout part ≡ Some leaf
     → take_link arms other (out-Value part) ≡ Some node → Does final next s w clean v leaf node
 
--- A run on a part leaves by an edge where the number of its leaf's group is below i, and else by a hole of the group.
+-- A run on a part that the test leads to a node leaves by an edge where the number of its leaf's group is below i, to
+-- a node that `To` allows for that one, and else by a hole of the group.
 pub record WaysLead (To : ℕ → View → ℕ → Type 0) (plan : Plan) (n t : ℕ) (words : List ℕ) (spots : List Spot)
     (known : List Known) (position : List ℕ) (arms : List GraphArm) (other : Option ℕ) (groups : List (Option ℕ))
     (mid : Sheet) (holes : List Hole) (i : ℕ) (b : Sheet) (edges : List Edge) : Type 0 where
@@ -149,7 +158,7 @@ pub record WaysLead (To : ℕ → View → ℕ → Type 0) (plan : Plan) (n t : 
       × (i ≤ group → Leaves final next holes mid.slots (depth_of plan.layouts (Named t)) (length mid.code) s w group
       (λ s' m. Unit {0})))
 
--- only leaf i has the group i, and has fields to save
+-- only leaf i has the group i, and has fields to save; no leaf has it where leaf i goes nowhere
 abbrev pub IsAlone : List (Option ℕ) → ℕ → Option Onward → Type 0
 IsAlone groups i None = (leaf : ℕ) → group_at groups leaf ≡ Some i → ⊥
 IsAlone groups i (Some found) = (leaf : ℕ) → group_at groups leaf ≡ Some i → (leaf ≡ i) × (found.saves ≡ true)

@@ -1,5 +1,11 @@
--- Where the words of a part of a value are, and which places are looked at. A place is the type of a part and the
--- reads of its words; of a pattern, it is a position and the type there. A spot is slots in which a part is saved.
+-- Where the words of a part of a value are, and which places are looked at. A position is the numbers of the fields
+-- that lead from a value to a part of it, the outermost first; a path leads so from a part to what stands below it. A
+-- read says where a word is: bits of slots and of memory. A place is the type of a part and the reads of its words;
+-- of a pattern, it is a position and the type there. A spot is slots in which a part is saved. A leaf is one of the
+-- forms in which a layout stores values; its provenance is the pattern of the values that it stores. The facts
+-- `known` say which leaves parts have and which spots hold theirs. The reads `words` are those of the whole value, of
+-- type `ty`; a read fits n slots where it reads only slots below n and instructions can make it. `agreed` is the
+-- program with the layouts of its types.
 use Rattle.std.specs.Prelude.{◌≡◌, ℕ, ◌≤◌, ◌++◌, ◌∷◌, [], List, take, Bool, Some, length, slice_get}
 use Rattle.std.specs.List.{flat_map}
 use Rattle.rb_core.specs.declared.value.Value.{Value}
@@ -30,8 +36,9 @@ IsFieldOf agreed t leaf path ty = (plan : Plan) → IsPlanOf agreed plan → Fie
 abbrev pub HaveWords : Plan → List Spot → Type 0
 HaveWords plan spots = (k : ℕ) (spot : Spot) → slice_get spots k ≡ Some spot → length spot.slots ≡ words_of plan spot.ty
 
--- Over reads of a value's words, and spots: where these facts are known of the value, the place is where its part at
--- the position is.
+-- Where these facts are known of a value of type `ty`, over reads of its words and spots for its parts, the place has
+-- the reads of its part at the position, one for each word. They fit as many slots as the value's reads do, if the
+-- spots' slots are among these.
 pub record ReadsPlace (plan : Plan) (ty : Ty) (words : List Read) (spots : List Spot) (known : List Known)
     (position : List ℕ) (place : Place) : Type 0 where
   pub count : length place.reads ≡ words_of plan place.ty
@@ -46,12 +53,13 @@ FindsPlace agreed ty words spots known position place =
     (plan : Plan) → IsPlanOf agreed plan → length words ≡ words_of plan ty → HaveWords plan spots
     → ReadsPlace plan ty words spots known position place
 
--- the way to a part begins at a place that is that of the part at the first so many fields of the position
+-- the way to the part at a position begins at the place of the part at the first `from` fields of the position; where
+-- that is none of them, the way begins at the whole value
 abbrev pub BeginsPlace : LaidOut → Ty → List Read → List Spot → List Known → List ℕ → Begun → Type 0
 BeginsPlace agreed ty words spots known position begun =
     (begun.from ≤ length position) × FindsPlace agreed ty words spots known (take begun.from position) begun.place
 
--- where `place` is that of the part at a position, `next` is that of its field with this number
+-- where `place` is that of the part at the position `prefix`, `next` is that of its field with this number
 abbrev pub StepsPlace : LaidOut → Place → List Known → List ℕ → ℕ → Place → Type 0
 StepsPlace agreed place known prefix field next =
     (ty : Ty) (words : List Read) (spots : List Spot) → FindsPlace agreed ty words spots known prefix place

@@ -1,5 +1,11 @@
 -- Spots, that is, slots in which parts of a value are saved, and code that saves them. A leaf takes a subvalue apart
--- where it has the subvalue's fields in place of its words: to save the subvalue, code rebuilds (mends) it.
+-- where it has the subvalue's fields in place of its words: to save the subvalue, code rebuilds (mends) it. A leaf is
+-- one of the forms in which a layout stores the values of data type t, given by its number; its provenance is the
+-- pattern of these values. A position is the numbers of the fields that lead from the whole value to a part of it,
+-- the outermost first; a path leads so from a part, or from a pattern, to what stands below it. A source is a part
+-- whose leaf is known, from which parts are saved: the slots `words` hold its words. The facts `known` say which
+-- leaves parts have and which spots hold theirs; `more` are the facts behind some code. A sheet is the code and the
+-- number of slots so far, `old` before some code is appended and `new` behind it; of the slots the first n are kept.
 use Rattle.std.specs.Prelude.{◌≡◌, ℕ, zero, suc, ◌+◌, ◌<◌, ◌≤◌, ◌⊎◌, List, [], ◌∷◌, Bool, Option, Some, None, length, nat_eq, drop, slice_get, slice_index, ◌++◌, ◌==◌, ◌&&◌}
 use Rattle.std.specs.List.{starts_with, sum_by}
 use Rattle.rb_core.specs.declared.value.Value.{Value}
@@ -59,7 +65,8 @@ abbrev pub IsSpotAt : List Spot → List ℕ → Ty → ℕ → Type 0
 IsSpotAt spots position ty k =
     (spot : Spot) × (slice_get spots k ≡ Some spot) × (spot.position ≡ position) × (spot.ty ≡ ty)
 
--- whether the first position is that of a field of the part at the second
+-- whether the first position is that of a field of the part at the second, that is, has one field number more behind
+-- it
 abbrev pub is_field : List ℕ → List ℕ → Bool
 is_field position above = (length position == length above + 1) && starts_with nat_eq position above
 
@@ -81,12 +88,13 @@ abbrev pub provenance : Option Leaf → Option Pat
 provenance None = None
 provenance (Some leaf) = Some leaf.prov
 
--- what stands at a path of a leaf's provenance
+-- what stands at a path of the provenance of leaf number `leaf` of data type t; none where nothing does, or there is
+-- no such leaf
 abbrev pub prov_at : List Layout → ℕ → ℕ → List ℕ → Option Pat
 prov_at layouts t leaf path = pattern_at (provenance (leaf_in (layout_of layouts t) leaf)) path
 
--- the switches that rebuild what a leaf took apart where this part of its provenance stands, and below; none where
--- there is no such part
+-- the switches that rebuild what a leaf took apart where this part of its provenance stands, and below; 0 where there
+-- is no such part
 abbrev pub mend_pattern : List Layout → Option Pat → ℕ
 mend_pattern layouts None = 0
 mend_pattern layouts (Some p) = sum_by (λ (h : Head). choose_of layouts h.con.ty h.con.con) (heads_of p)
@@ -96,7 +104,7 @@ abbrev pub mend_at : List Layout → ℕ → ℕ → List ℕ → ℕ
 mend_at layouts t leaf path = mend_pattern layouts (prov_at layouts t leaf path)
 
 -- the switches that rebuild what a leaf took apart below where this part of its provenance stands, without what
--- stands right there; none where there is no such part
+-- stands right there; 0 where there is no such part
 abbrev pub mend_inside : List Layout → Option Pat → ℕ
 mend_inside layouts None = 0
 mend_inside layouts (Some p) = sum_by (λ (h : Head). choose_of layouts h.con.ty h.con.con) (drop 1 (heads_of p))
@@ -133,7 +141,9 @@ HasPart plan t leaf path =
 abbrev pub IsThere : Plan → Bool → ℕ → Value → List ℕ → List ℕ → Memory → Type 0
 IsThere plan clean t v words s m = IsGood m × Rep plan m clean (Named t) v (slots_at s words)
 
--- The appended code leaves the words of a part of a leaf in slots, each of which is new or one of the value's.
+-- Where the value has leaf number `leaf` of data type t, the appended code leaves the words of its part at the path,
+-- of type `at`, in slots, each of which is new or one of the value's. It does at most the switches that rebuild the
+-- part.
 pub record PartIsFetched (plan : Plan) (t leaf : ℕ) (path : List ℕ) (at : Ty) (words : List ℕ) (old new : Sheet)
     (slots : List ℕ) : Type 0 where
   pub has : HasPart plan t leaf path
@@ -146,7 +156,8 @@ pub record PartIsFetched (plan : Plan) (t leaf : ℕ) (path : List ℕ) (at : Ty
       → Piece plan old.slots old new Nowhere (mend_at plan.layouts t leaf path)
       (λ s m. IsThere plan clean t v words s m) (AtEnd new (λ s m. Rep plan m clean at part (slots_at s slots)))
 
--- the code fetches the part at a path of the leaf
+-- in each plan of the layouts the appended code leaves the words of the part at a path of the leaf, which is of type
+-- `at`, in slots
 abbrev pub FetchesPart : LaidOut → ℕ → ℕ → List ℕ → Ty → List ℕ → Sheet → Sheet → List ℕ → Type 0
 FetchesPart agreed t leaf path at words old new slots =
     (plan : Plan) → IsPlanOf agreed plan → AllBelow old.slots words → length words ≡ words_of plan (Named t)
@@ -158,7 +169,8 @@ FetchesPart agreed t leaf path at words old new slots =
 abbrev pub KeepsOthers : ℕ → List ℕ → List ℕ → List ℕ → Type 0
 KeepsOthers n dests s s' = (x : ℕ) → x < n → (IsOneOf x dests → ⊥) → slice_index s' x ≡ slice_index s x
 
--- The appended code leaves the words of a part of a leaf in the slots of a spot, and keeps all others.
+-- Where the value has leaf number `leaf` of data type t, the appended code leaves the words of its part at the path
+-- in the slots of a spot, which are none of the value's, and keeps all others that there were.
 pub record PartIsSaved (plan : Plan) (n t leaf : ℕ) (path words : List ℕ) (spot : Spot) (old new : Sheet) : Type 0 where
   pub has : HasPart plan t leaf path
   pub adds : Adds plan old new
@@ -169,7 +181,8 @@ pub record PartIsSaved (plan : Plan) (n t leaf : ℕ) (path words : List ℕ) (s
       (λ s m. (s ≡ s0) × IsThere plan clean t v words s m)
       (AtEnd new (λ s m. KeepsOthers old.slots spot.slots s0 s × Rep plan m clean spot.ty part (slots_at s spot.slots)))
 
--- the code saves the part at a path of the leaf in a spot
+-- in each plan of the layouts the appended code saves the part at a path of the leaf in a spot, whose slots are from
+-- n on, no two the same, and as many as its type has words
 abbrev pub SavesPart : LaidOut → ℕ → ℕ → List ℕ → List ℕ → Spot → Sheet → Sheet → Type 0
 SavesPart agreed t leaf path words spot old new =
     (plan : Plan) (n : ℕ) → IsPlanOf agreed plan → n ≤ old.slots → AllFrom n spot.slots → AllBelow old.slots spot.slots

@@ -1,5 +1,11 @@
 -- Tests that what is known decides: an edge to such a test leads on to the node of its arm. An edge is an open target
--- of the code, for the node to which it is to lead, with what is known of the value there.
+-- of the code, for the node to which it is to lead, with what is known of the value there. The nodes, given by their
+-- numbers, are those of a decision graph over values of type `ty` for the patterns `pats`: a clause, or a test of the
+-- part at a position, whose `arms` lead to nodes by what the part begins with, and all other values to node `other`,
+-- if there is one. A position is the numbers of the fields that lead from the value to a part of it. The facts
+-- `known` say which leaves parts have and which spots, slots in which parts are saved, hold theirs. A leaf is one of
+-- the forms in which a layout stores the values of a data type. A view is a value, and the run in which facts are so
+-- of it.
 use Rattle.std.specs.Prelude.{◌≡◌, ℕ, ◌+◌, ◌≤◌, List, [], ◌∷◌, Bool, Option, Some, true, slice_get}
 use Rattle.rb_core.specs.declared.value.Value.{Value, out-Value}
 use Rattle.rb_core.specs.declared.value.Value.TheOpen as V
@@ -75,7 +81,8 @@ AreWild pats = (n : ℕ) (p : Pat) → slice_get pats n ≡ Some p → IsWild p
 abbrev pub Covers : Pat → Pat → Type 0
 Covers p q = (v : Value) → matches_of q v ≡ true → matches_of p v ≡ true
 
--- each value that the pattern matches has the leaf with this number among some leaves
+-- each value that the pattern matches has the leaf with this number among some leaves: it is the first of them whose
+-- provenance, the pattern of a leaf's values, matches the value
 abbrev pub IsFirst : List Leaf → Pat → ℕ → Type 0
 IsFirst leaves pat leaf = (v : Value) → matches_of pat v ≡ true → leaf_from leaves v 0 ≡ Some leaf
 
@@ -99,7 +106,9 @@ AllFollow agreed known more = (at : View) → IsPlanOf agreed at.plan → AreKno
 
 -- Where edges lead ------------------------------------------------------------------------------
 
--- each value at node n of which these facts are known is at node m as well, and the way there costs no less
+-- each value at node n of which these facts are known is at node m as well: the graph takes the same clause of it
+-- from there, after looks at places that cost no less than those on the way to n, since tests that are passed over
+-- count
 abbrev pub LeadsOn : LaidOut → Ty → List Pat → List GraphNode → List Known → ℕ → ℕ → Type 0
 LeadsOn agreed ty pats nodes known n m =
     (plan : Plan) (base : ℕ) (spots : List Spot) (words : List Read) (root : ℕ) (first : Sheet)
@@ -118,7 +127,7 @@ pub record IsThreaded (agreed : LaidOut) (ty : Ty) (pats : List Pat) (nodes : Li
   pub known : AllFollow agreed old.known new.known
   pub leads : LeadsOn agreed ty pats nodes old.known old.hole.leaf new.hole.leaf
 
--- each of the new edges is the old one in its place, led on; there are as many of them
+-- each of the new edges is the old one in its place, led on or left as it is; there are as many of them
 abbrev pub AreThreaded : LaidOut → Ty → List Pat → List GraphNode → List Edge → List Edge → Type 0
 AreThreaded agreed ty pats nodes [] [] = Unit {0}
 AreThreaded agreed ty pats nodes [] (f ∷ fs) = ⊥
@@ -126,12 +135,14 @@ AreThreaded agreed ty pats nodes (e ∷ es) [] = ⊥
 AreThreaded agreed ty pats nodes (e ∷ es) (f ∷ fs) =
     IsThreaded agreed ty pats nodes e f × AreThreaded agreed ty pats nodes es fs
 
--- each edge is at a later instruction than those before it, the first from a number on
+-- each edge is at a later instruction than those before it, the first at that with number `from` or a later one; so
+-- it is of no edges
 abbrev pub Ascend : ℕ → List Edge → Type 0
 Ascend from [] = Unit {0}
 Ascend from (e ∷ es) = (from ≤ e.hole.pc) × Ascend (e.hole.pc + 1) es
 
--- edges that are open as they were, each to where it leads on
+-- the new edges are the old ones, each to where it leads on; where the old ones are open in some code, and each
+-- target of theirs leads to one node, so it is of the new
 pub record Threads (agreed : LaidOut) (ty : Ty) (pats : List Pat) (nodes : List GraphNode)
     (old new : List Edge) : Type 0 where
   pub threaded : AreThreaded agreed ty pats nodes old new

@@ -1,6 +1,10 @@
 -- The code of a decision tree. A hole is an open target of the code, with the number of the clause to which it is to
 -- lead. An edge is a hole for a node instead; a tree's code leaves by none, since each is closed once its node has
 -- code. A way through the tree is the positions that are tested from its root down to one clause, one after another.
+-- A position is the numbers of the fields that lead from the value to a part of it; a place is a position and the
+-- type there. A read says where a word of the value is: bits of slots and of memory. `words` are the reads of the
+-- value's words, `ty` is its type, and `pats` are the patterns of the clauses. A sheet is the code and the number of
+-- slots so far: `old` before the tree's code, `new` behind it; the finished code `final` is that of a whole function.
 use Rattle.std.specs.Prelude.{◌≡◌, ℕ, ◌≤◌, List, map, length, Bool, Some}
 use Rattle.rb_core.specs.declared.value.Value.{Value}
 use Rattle.rb_core.specs.declared.types.Ty.{Ty}
@@ -27,7 +31,8 @@ use Rattle.rb_match.specs.Bounding.{Place}
 use Rattle.rb_match.specs.inner.Places.{IsLookedAt, IsPlaceIn}
 use Rattle.rb_match.specs.inner.Flowing.{HasWay, path_of, looks}
 
--- the run leaves by a hole of clause k, after looks at the places of one way through the tree
+-- the run, from instruction `start` with the slots s and the world w, leaves by a hole of clause k, after looks at
+-- the places of one way through the tree: with at most the switches of these, and the first n slots kept
 pub record LeavesTree (plan : Plan) (ty : Ty) (pats : List Pat) (tree : Tree) (final : List Instr) (next : Next)
     (holes : List Hole) (n start : ℕ) (s : List ℕ) (w : World) (k : ℕ) : Type 0 where
   pub path : List Place
