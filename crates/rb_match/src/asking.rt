@@ -1,4 +1,15 @@
 //! Code of one test: from the words of a value to the edges of its arms.
+//!
+//! A node of a decision graph is a test or a clause, given by its number. A test looks at the part
+//! at a position, the numbers of the fields that lead from the value to it. Its `arms` lead to
+//! nodes by what the part begins with, its head: a constructor or a number; `other` is the node of
+//! all other values, None where there are none. A leaf is one of the forms in which a layout stores
+//! the values of data type `ty`, given by its number; its provenance is the pattern of these
+//! values. A group is leaves that the code doesn't tell apart: one by itself, or all that lead to
+//! one node and need not be told apart. A hole is an open target of the code, with the number of
+//! what it is to lead to; an edge is one that is to lead to a node, with what is `known` of the
+//! value there. A read says where a word of the part is: bits of slots and of memory. `agreed` is
+//! the program with its layouts, and `body` the code so far, at whose end new code is appended.
 
 ghost use Rattle.std.specs.Prelude.{◌≡◌, ◌++◌, ◌<◌, ◌^◌, [], IfOk, OnOk, true, is_some, slice_get};
 ghost use Rattle.rb_core.specs.declared.value.Value.TheOpen as Layers;
@@ -35,7 +46,8 @@ fn small_arm(number: u64, target: usize) -> SwitchArm
     SwitchArm { number, target }
 }
 
-// The arm of a switch for a number, with its target. An integer is tested for numbers alone.
+// The arm of a switch for the number that is a head, with its target. An integer is tested for
+// numbers alone: a constructor is an error.
 fn switch_arm(head: Head, target: usize) -> Result<SwitchArm, AllocError>
     ensures arm { IfOk result (λ arm. arm ≡ number_arm target head) }
     ensures number { IfOk result (λ arm. is_number head ≡ true) }
@@ -46,7 +58,8 @@ fn switch_arm(head: Head, target: usize) -> Result<SwitchArm, AllocError>
     }
 }
 
-// A switch's arms, each still open: it leads to the next instruction.
+// A switch's arms, one for each arm of a test, in their order. Each is still open: it leads to the
+// instruction `next`. An arm for a constructor is an error.
 fn switch_arms(alloc: Global, arms: &[GraphArm], next: usize) -> Result<Seq<SwitchArm>, AllocError>
     ensures arms { IfOk result (λ found. found ≡ number_arms next arms.now) }
     ensures numbers { IfOk result (λ found. are_numbers arms.now ≡ true) }
@@ -58,7 +71,8 @@ fn switch_arms(alloc: Global, arms: &[GraphArm], next: usize) -> Result<Seq<Swit
     Ok(found)
 }
 
-// Whether a node tests a position, so that an edge to it carries what is known; a clause does not.
+// Whether a node tests a position, so that an edge to it carries what is known; a clause does not,
+// nor does a node that there isn't.
 fn is_test_at(nodes: &[GraphNode], node: u32) -> bool
     ensures { result ≡ is_test (slice_get nodes.now node) }
 {
@@ -68,8 +82,8 @@ fn is_test_at(nodes: &[GraphNode], node: u32) -> bool
     }
 }
 
-/// The edge by a target of an instruction to a node, with what is known there. The target is that
-/// of an arm, or, where there is no arm, a jump's own or a switch's other one.
+/// The edge by a target of the instruction with number `pc` to a node, with what is known there.
+/// The target is that of an arm, or, where there is no arm, a jump's own or a switch's other one.
 ///
 /// # Errors
 ///
@@ -119,7 +133,7 @@ pub fn edge_within<'a>(
     }
 }
 
-// The edges by the arms of a switch, each to the node of the same arm of a test.
+// The edges by the arms of the switch with number `pc`, each to the node of the same arm of a test.
 fn edges_of_arms<'a>(
     alloc: Global,
     nodes: &[GraphNode],
@@ -158,7 +172,8 @@ fn edges_of_switch<'a>(
     }
 }
 
-// Code of a test of an integer: one switch over all numbers.
+// Code of a test of an integer, whose one word is read: one switch over all numbers of the arms.
+// The answer is its edges. Other than one read, or an arm for a constructor, is an error.
 fn ask_number<'a>(
     alloc: Global,
     body: &mut Body,
@@ -207,7 +222,7 @@ pub fn con_of(agreed: &Agreed, ty: u32, leaf: usize) -> Option<u32>
     }
 }
 
-/// How many leaves a type has.
+/// How many leaves a data type has; 0 where it has no layout.
 pub fn count_leaves(agreed: &Agreed, ty: u32) -> usize
     ensures { result ≡ leaf_count agreed.now ty }
 {
@@ -234,11 +249,11 @@ pub fn link_of(arms: &[GraphArm], other: Option<u32>, con: u32) -> Option<u32>
     other
 }
 
-/// The node to which a leaf leads; none where a value of it can't be here.
+/// The node to which a test leads the values of a leaf; None where none of them can be here.
 ///
 /// # Errors
 ///
-/// Want of memory.
+/// A leaf that there isn't, or whose provenance shows no constructor.
 pub fn leaf_link(
     agreed: &Agreed,
     ty: u32,
@@ -255,7 +270,7 @@ pub fn leaf_link(
     Ok(link_of(arms, other, con))
 }
 
-// Whether some of these nodes is marked.
+// Whether one of the nodes to which a test leads, by an arm or for all other values, is marked.
 fn some_marked(marks: &[bool], arms: &[GraphArm], other: Option<u32>) -> bool {
     if let Some(node) = other
         && let Some(true) = marks.get(node as usize)
@@ -294,7 +309,9 @@ pub fn mark_tested_below(
     Ok(marks)
 }
 
-// The group of a leaf: a leaf is one by itself where a test below needs it.
+// The number of a leaf's group. A leaf is a group by itself, with its own number, where the node to
+// which it leads is marked, since a test below needs it; else the group is that of the node, whose
+// number comes behind those of the leaves. None where the leaf's values can't be here.
 fn group_of(
     agreed: &Agreed,
     ty: u32,
@@ -319,7 +336,8 @@ fn group_of(
     }
 }
 
-// The groups of the leaves of a type, one for each leaf, in their order.
+// The groups of the leaves of a type, one for each leaf, in their order, for a test at this
+// position; None for a leaf whose values can't be here.
 fn groups_of(
     alloc: Global,
     agreed: &Agreed,
@@ -340,7 +358,8 @@ fn groups_of(
     Ok(groups)
 }
 
-// The node to which the leaves of a group lead.
+// The node to which the leaves of a group lead: that of the leaf which the group is, or the one
+// that its number says. None where the values of that leaf can't be here.
 fn node_of(
     agreed: &Agreed,
     ty: u32,
@@ -359,7 +378,9 @@ fn node_of(
     Ok(Some(node))
 }
 
-// What an edge to a node carries behind a look that found a group.
+// What an edge to a node carries behind a look at a position that found a group: at a test, what
+// was known, and the leaf of the part there where the group is one leaf by itself; nothing at a
+// clause.
 fn known_within<'a>(
     alloc: Global,
     agreed: &Agreed,
@@ -412,7 +433,8 @@ fn leaf_edge<'a>(
     }))
 }
 
-// The edges by the holes of groups of leaves, each to the node to which its leaves lead.
+// The edges by the holes of groups of leaves, each to the node to which its leaves lead, in the
+// order of the holes. A hole whose leaves lead to none gives no edge.
 fn edges_of_leaves<'a>(
     alloc: Global,
     agreed: &Agreed,
@@ -433,8 +455,9 @@ fn edges_of_leaves<'a>(
     Ok(edges)
 }
 
-// Code of a test of a data type: the leaf of the value there decides. Leaves that lead to one node
-// are told apart only where tests need it.
+// Code of a test of data type `ty`, over reads of the words of the part there: its leaf decides.
+// Leaves that lead to one node are told apart only where tests need it. The answer is the test's
+// edges.
 fn ask_leaf<'a>(
     alloc: Global,
     body: &mut Body,
@@ -460,11 +483,14 @@ fn ask_leaf<'a>(
 
 /// Code of a test at a position of a value of a type: it leaves by an edge to the node of the arm that is
 /// taken, or to one to which what is known leads on from there, which carries what is known there. What later tests
-/// need of the part there is saved where it has spots. A position that no pattern looks at is never tested.
+/// need of the part there is saved where it has spots, slots for its fields. A position that no
+/// pattern looks at is never tested. `graph` says what is matched, `subject` where its words and
+/// spots are.
 ///
 /// # Errors
 ///
-/// Want of memory.
+/// Want of memory, a test at a position at which no pattern looks, or one of a part whose words
+/// can't be found.
 pub fn ask<'a>(
     alloc: Global,
     body: &mut Body,

@@ -1,4 +1,12 @@
-//! Code that binds a pattern's variables.
+//! Code that binds a pattern's variables, that is, leaves their values in slots.
+//!
+//! A leaf is one of the forms in which a layout stores the values of a data type, given by its
+//! number; its provenance is the pattern of these values. It takes a field apart where it has what
+//! stands in the field, and no words of the field itself, which is rebuilt then. A spot is slots in
+//! which a field is saved; `known` says which spots hold their fields. `words` are the slots of a
+//! value's words. `subs` are the patterns of a constructor's fields, `fields` the fields' types,
+//! both in their order. `agreed` is the program with its layouts, and `body` the code so far, at
+//! whose end new code is appended.
 
 ghost use Rattle.std.specs.Prelude.{◌≡◌, ◌∷◌, [], IfOk, IfSome, OnOk, true, false};
 ghost use Rattle.rb_core.specs.declared.types.Ty.TheVariants.{Named};
@@ -31,7 +39,8 @@ use rb_matrix::matrix::Head;
 use rb_target::body::Body;
 use std::alloc::{AllocError, Global};
 
-// Whether a leaf may have a value that a pattern matches.
+// Whether a leaf may have a value that a pattern matches; so it is taken to be where there is no
+// such leaf.
 fn may_have(agreed: &Agreed, ty: u32, leaf: usize, pat: &Pat) -> bool
     ensures { result ≡ false → IsLeftOut agreed.now ty pat.now leaf }
 {
@@ -59,7 +68,9 @@ fn is_only(agreed: &Agreed, ty: u32, pat: &Pat, leaf: usize) -> bool
     true
 }
 
-// The leaf of the values that a pattern matches, where that is one. Where layouts are plain each constructor has one.
+// The leaf of the values that a pattern matches, where that is one; None where several leaves may
+// have such values, or none. Where no leaf of a type takes a field apart, each constructor has one
+// leaf.
 fn only_leaf(agreed: &Agreed, ty: u32, pat: &Pat) -> Option<usize>
     ensures { IfSome result (λ leaf. IsOnlyLeaf agreed.now ty pat.now leaf) }
 {
@@ -85,7 +96,9 @@ fn copy_slots(alloc: Global, slots: &[usize]) -> Result<Seq<usize>, AllocError>
     Ok(copies)
 }
 
-// What a pattern binds at a value whose words stand in some slots.
+// Code that binds what a pattern binds at a value of this type, whose words stand in some slots:
+// the variables with their slots. A variable that is the whole pattern has these very slots. There
+// is no code for a pattern without variables.
 #[cycle(binding)]
 fn bind_at(
     alloc: Global,
@@ -138,7 +151,8 @@ fn bind_at(
     }
 }
 
-// The leaf of the values that a constructor's pattern matches, where that is one and the constructor is of the type.
+// The leaf of the values that a constructor's pattern matches, where that is one and the
+// constructor is of the type; else None.
 fn leaf_for(agreed: &Agreed, ty: Ty, con: ConRef, pat: &Pat) -> Option<usize>
     ensures { IfSome result (λ leaf. (ty ≡ Named con.ty) × IsOnlyLeaf agreed.now con.ty pat.now leaf) }
 {
@@ -154,7 +168,7 @@ fn leaf_for(agreed: &Agreed, ty: Ty, con: ConRef, pat: &Pat) -> Option<usize>
     }
 }
 
-// Whether a type is a data type of which some leaf takes a subvalue apart.
+// Whether a type is the data type with this number, and some leaf of it takes a subvalue apart.
 fn is_deep_at(agreed: &Agreed, ty: Ty, number: u32) -> bool
     ensures { result ≡ true → (ty ≡ Named number) × (is_plain agreed.now.layouts number ≡ false) }
 {
@@ -164,7 +178,8 @@ fn is_deep_at(agreed: &Agreed, ty: Ty, number: u32) -> bool
     }
 }
 
-// The fields that some patterns bind.
+// The fields whose patterns have variables, each with its type and its position below the value:
+// its number alone.
 fn bound_fields(alloc: Global, subs: &[Pat], fields: &[Ty]) -> Result<Seq<Wanted>, AllocError> {
     let mut wanted = Seq::new(alloc);
     for (i, field) in fields.iter().enumerate() {
@@ -181,8 +196,10 @@ fn bound_fields(alloc: Global, subs: &[Pat], fields: &[Ty]) -> Result<Seq<Wanted
     Ok(wanted)
 }
 
-// Code that saves fields in spots, where the value begins with a constructor that has several leaves, whose
-// ways meet. The answer is what is known then.
+// Code that saves the fields that have spots, where the value, whose words stand in slots, begins
+// with a constructor that has several leaves: it finds the leaf and saves on the way of each, and
+// these ways meet at its end. The answer is what is known then by whichever way. A type without a
+// leaf of the constructor is an error.
 fn save_together(
     alloc: Global,
     body: &mut Body,
@@ -220,7 +237,7 @@ fn save_together(
     Ok(known)
 }
 
-// The spot of a field that is known to be saved.
+// The number of the spot of a field of this type, where the field is known to be saved; else None.
 fn saved_spot(spots: &[Spot], known: &[Known], field: u32, ty: Ty) -> Option<usize>
     ensures { IfSome result (λ k. IsSpotAt spots.now (field ∷ []) ty k × FollowsSaved known.now k) }
 {
@@ -232,7 +249,8 @@ fn saved_spot(spots: &[Spot], known: &[Known], field: u32, ty: Ty) -> Option<usi
     None
 }
 
-// What the pattern of one saved field binds.
+// Code that binds what the pattern of field number `i` binds, from the spot of the field. A field
+// whose pattern has a variable and that is not saved is an error.
 #[cycle(binding)]
 fn bind_spot(
     alloc: Global,
@@ -259,7 +277,8 @@ fn bind_spot(
     Ok(bound)
 }
 
-// What the patterns of saved fields bind, from field i on.
+// Code that binds what the patterns of saved fields bind, the first of which is field i, each from
+// its spot. Fewer types than patterns, or a field with a variable that is not saved, are an error.
 #[cycle(binding)]
 fn bind_spots(
     alloc: Global,
@@ -291,7 +310,8 @@ fn bind_spots(
 }
 
 // What a constructor binds whose pattern values of several leaves match: the ways of the type's leaves save its fields
-// and meet. Where no leaf takes a subvalue apart each constructor has one leaf, so that this is never met.
+// and meet. Where no leaf takes a subvalue apart each constructor has one leaf, so that this is
+// never met: it is an error, as is a constructor of another type.
 #[cycle(binding)]
 fn bind_deep(
     alloc: Global,
@@ -319,7 +339,8 @@ fn bind_deep(
     Ok(bound)
 }
 
-// What the patterns of a value's fields bind, from field i on.
+// Code that binds what the patterns of a value's fields bind, the first of which is field i, where
+// the value's leaf is known. Fewer types than patterns are an error.
 #[cycle(binding)]
 fn bind_fields(
     alloc: Global,
@@ -349,7 +370,8 @@ fn bind_fields(
     }
 }
 
-// What the pattern of one field binds. A field that the leaf takes apart is rebuilt.
+// Code that binds what the pattern of field number `i` binds, where the value's leaf is known. A
+// field that the leaf takes apart is rebuilt. There is no code for a pattern without variables.
 #[cycle(binding)]
 fn bind_field(
     alloc: Global,

@@ -1,4 +1,11 @@
 //! Code that chooses a match's clause.
+//!
+//! `pats` are the patterns of the match's clauses in their order, and `ty` is the type of the value
+//! that is matched. `agreed` is the program with its layouts, and `body` the code so far, at whose
+//! end new code is appended. A hole is a target of a jump or a switch that is still open; its
+//! `leaf` is the number of the clause to which it is to lead. A read says where a word of the value
+//! is: bits of slots and of memory. A decision tree is tests of parts of the value with clauses at
+//! its ends; a decision graph is such a tree with equal parts shared.
 
 ghost use Rattle.std.specs.Prelude.{IfOk, OnOk, length};
 ghost use Rattle.rb_target.specs.Growth.{Grows};
@@ -22,11 +29,13 @@ use rb_layout::agreed::Agreed;
 use rb_target::body::{Body, Hole};
 use std::alloc::{AllocError, Global};
 
-/// Code of a decision graph, each node once. The parts that its tests need saved have slots of their own.
+/// Code of a decision graph, each node once. It leaves by one of the holes, each of which has the
+/// number of the clause that the graph takes of the value; `words` are the reads of the value's
+/// words. The parts that its tests need saved have slots of their own.
 ///
 /// # Errors
 ///
-/// Want of memory.
+/// Want of memory, or a graph that is not one of these patterns at this type.
 pub fn emit_shared(
     alloc: Global,
     body: &mut Body,
@@ -51,11 +60,13 @@ pub fn emit_shared(
     Ok(holes)
 }
 
-/// Code of a decision tree, equal parts of it once.
+/// Code of a decision tree, equal parts of it once. It leaves by one of the holes, each of which
+/// has the number of the clause that the tree takes of the value; `words` are the reads of the
+/// value's words.
 ///
 /// # Errors
 ///
-/// Want of memory.
+/// Want of memory, or a tree that is not one of these patterns at this type.
 pub fn emit_tree(
     alloc: Global,
     body: &mut Body,
@@ -76,7 +87,8 @@ pub fn emit_tree(
 }
 
 /// Code that leaves by a hole of the first clause that matches the value whose words stand in some
-/// slots. Switches' arms are holes themselves.
+/// slots, a word each. Arms of switches are holes themselves. A tree that is too large is not made:
+/// clauses are tried one by one.
 ///
 /// # Errors
 ///

@@ -1,4 +1,10 @@
 //! Clause by clause: code of a match whose decision tree is too large to be made.
+//!
+//! A hole is a target of a jump or a switch that is still open; its `leaf` is the number of the way
+//! to which it is to lead: that of a clause, or, in the code of one clause alone, 0 where its
+//! pattern matches and 1 where it doesn't. `words` are the reads of the words of a value of type
+//! `ty`: each says where a word is, by bits of slots and of memory. `agreed` is the program with
+//! its layouts, and `body` the code so far, at whose end new code is appended.
 
 ghost use Rattle.std.specs.Prelude.{◌≡◌, ◌∷◌, [], IfOk, OnOk, length};
 ghost use Rattle.rb_core.specs.declared.pattern.Pat.{Wild};
@@ -17,7 +23,7 @@ use rb_layout::agreed::Agreed;
 use rb_target::body::{Body, Hole};
 use std::alloc::{AllocError, Global};
 
-// A clause's pattern, and one for all other values.
+// A list of two patterns: a clause's, and a wildcard for all other values.
 fn alone(alloc: Global, pat: &Pat) -> Result<Seq<Pat>, AllocError>
     ensures { IfOk result (λ pats. pats ≡ pat.now ∷ Wild 0 ∷ []) }
 {
@@ -28,6 +34,7 @@ fn alone(alloc: Global, pat: &Pat) -> Result<Seq<Pat>, AllocError>
 }
 
 // Code of one clause alone: a test for each number and constructor of its pattern, in their order.
+// It leaves by holes of 0 where the value matches, and of 1 where it doesn't.
 fn emit_alone(
     alloc: Global,
     body: &mut Body,
@@ -49,7 +56,8 @@ fn emit_alone(
     Ok(holes)
 }
 
-/// Those of the holes that have the number of a way, with another number instead.
+/// Those of the holes that have the number `way`, in their order, with the number `name` instead;
+/// none where none has it.
 ///
 /// # Errors
 ///
@@ -75,7 +83,8 @@ pub fn holes_of(
     Ok(found)
 }
 
-// Code of one clause: values that it doesn't match go on behind it.
+// Code of one clause, with this pattern and this number. Values that match leave by the holes that
+// it answers, which have the clause's number; all others go on behind the code.
 fn emit_clause(
     alloc: Global,
     body: &mut Body,
@@ -98,8 +107,9 @@ fn emit_clause(
     Ok(matched)
 }
 
-/// Code that tries one clause behind the other. What the last one doesn't match is no value of an
-/// exhaustive match.
+/// Code that tries one clause behind the other, in the order of their patterns. It leaves by a hole
+/// of the first that matches, which has the clause's number. What the last one doesn't match is no
+/// value of an exhaustive match.
 ///
 /// # Errors
 ///

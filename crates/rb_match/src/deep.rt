@@ -7,6 +7,14 @@
 //! that is to lead to a node, with the facts that are known there of the value that is matched. The
 //! way of a leaf is what runs do behind the look where the part has that leaf, until they leave by
 //! an edge.
+//!
+//! A leaf is one of the forms in which a layout stores the values of data type `ty`, given by its
+//! number; its provenance is the pattern of these values. A node is a test or a clause of the
+//! graph, given by its number; a test looks at the part at a position, the numbers of the fields
+//! that lead from the value to it, and leads each part to a node by what it begins with. A spot is
+//! slots in which a part is saved. `known` are facts on the value: which leaves parts have, and
+//! which spots hold theirs. `agreed` is the program with its layouts, and `body` the code so far,
+//! at whose end new code is appended. Where `graph` has no nodes, all that has a spot is saved.
 
 ghost use Rattle.std.specs.Prelude.{◌≡◌, ◌∷◌, [], IfOk, OnOk, length};
 ghost use Rattle.rb_target.specs.Growth.{Grows};
@@ -35,7 +43,7 @@ use rb_target::body::{Body, Hole};
 use rb_target::instr::Instr;
 use std::alloc::{AllocError, Global};
 
-// Sets the holes of a leaf to the end of the code.
+// Sets those of the holes that have the number of a leaf to the end of the code.
 fn land_leaf(alloc: Global, body: &mut Body, holes: &[Hole], leaf: usize) -> Result<(), AllocError>
     requires { CanOpen body.old.code holes.now leaf }
     ensures { OnOk result (body.new ≡ closed body.old (way_holes leaf 0 holes.now) (length body.old.code ∷ [])) }
@@ -47,19 +55,20 @@ fn land_leaf(alloc: Global, body: &mut Body, holes: &[Hole], leaf: usize) -> Res
     Ok(())
 }
 
-/// Where the values of a leaf lead on from a test. Its leaf is needed where later tests look below the part.
+/// Where the values of a leaf lead on from a test of a part. The leaf is needed where later tests
+/// look below that part.
 #[derive(Drop)]
 pub struct Onward<'a> {
     /// The node, by number.
     pub node: u32,
     /// Whether later tests need parts below it.
     pub saves: bool,
-    /// If so, what is known before they are saved.
+    /// If so, what is known before they are saved; else nothing.
     pub known: Seq<Known<'a>>,
 }
 
-// The node to which what is known behind a look leads from one on, and what is shown on the way. Without a graph it
-// stays where it is.
+// The node to which what is known behind a look leads from a node on, over tests that it decides;
+// what these show on the way is added to `known`. Without nodes in the graph it is the node itself.
 fn node_from<'a>(
     alloc: Global,
     agreed: &Agreed,
@@ -79,13 +88,13 @@ fn node_from<'a>(
     Ok(end)
 }
 
-// Whether parts below the one that was looked at are needed from a node on; always, without a
-// graph.
+// Whether parts below the one that was looked at are needed from a node on, as the marks `below`
+// say, one a node; always where there are no nodes.
 fn saves_at(nodes: &[GraphNode], below: &[bool], node: usize) -> bool {
     nodes.is_empty() || matches!(below.get(node), Some(true))
 }
 
-// What a way of a leaf carries: where nothing is saved, nothing that the leaf tells.
+// The facts with which a way of a leaf goes on to save parts; none where it saves nothing.
 fn carried_onward<'a>(
     alloc: Global,
     agreed: &Agreed,
@@ -103,7 +112,9 @@ fn exit_of<'a>(agreed: &'a Agreed, ty: u32, leaf: usize, position: &'a [u32]) ->
     Some(Exit { position, prov })
 }
 
-// Where values of a leaf lead on; nowhere where none of them can be here.
+// Where the values of a leaf lead on from a test; None where none of them can be here. `below`
+// marks the nodes from which a test below the part can be met. A leaf that begins with no
+// constructor is an error.
 fn onward_of<'a>(
     alloc: Global,
     agreed: &Agreed,
@@ -133,7 +144,8 @@ fn onward_of<'a>(
     }))
 }
 
-// Where the values of each leaf of a type lead on, in the order of the leaves.
+// Where the values of each leaf of a type lead on from a test, in the order of the leaves; None for
+// a leaf whose values can't be here.
 fn onward_all<'a>(
     alloc: Global,
     agreed: &Agreed,
@@ -177,8 +189,8 @@ fn group_of_way(
     }
 }
 
-// The groups of leaves: a leaf of which fields are saved is one by itself, and all others that lead on to a node are
-// one.
+// The groups of leaves, one for each leaf, in their order: a leaf of which fields are saved is one
+// by itself, and all others that lead on to one node are one. None for a leaf that leads nowhere.
 fn groups_onward(alloc: Global, onward: &[Option<Onward>]) -> Result<Seq<Option<u32>>, AllocError>
     ensures { IfOk result (λ groups. AreGroups (HasGroupOnward onward.now) (length onward.now) groups) }
 {
@@ -202,8 +214,9 @@ pub struct Tested<'b, 'a> {
     pub position: &'a [u32],
 }
 
-// The way of a leaf that is a group by itself: what other tests need of its fields is saved, and it goes on by an open
-// jump.
+// The way of a leaf that is a group by itself: what other tests need of its fields is saved, and it
+// goes on by an open jump. The answer is the given edges and that of the jump. For a leaf that
+// leads nowhere, or of which nothing is saved, there is no code, and the edges stay as they are.
 fn open_way<'a>(
     alloc: Global,
     body: &mut Body,
@@ -245,7 +258,9 @@ fn open_way<'a>(
     Ok(edges)
 }
 
-// The ways of leaves whose fields are not saved: the holes of their groups themselves.
+// The edges by which leaves leave whose fields are not saved: the holes of their groups themselves,
+// whose numbers are those of their nodes behind the `count` leaves. Holes of single leaves are left
+// out.
 fn edges_onward<'a>(
     alloc: Global,
     nodes: &[GraphNode],
@@ -299,11 +314,13 @@ fn open_ways<'a>(
 /// Code of a test of a data type at a position of a value, which saves what later tests need of the part there: its
 /// fields that have spots, or, where it opens one of them, those below it. It leaves by an edge to a node to which what
 /// is known leads on from that of the arm that is taken, and which carries what is known there. Leaves that lead on to
-/// one node are not told apart where nothing of them is saved.
+/// one node are not told apart where nothing of them is saved. `reads` say where the words of the
+/// part are.
 ///
 /// # Errors
 ///
-/// Want of memory.
+/// Want of memory, a leaf that begins with no constructor, or one that lacks a part which is to be
+/// saved.
 pub fn ask_deep<'a>(
     alloc: Global,
     body: &mut Body,

@@ -6,6 +6,12 @@
 //! known there of the value that is matched. A way is one of the ends to which the holes of a list
 //! lead: those with the number `k` lead to way `k`. While the code is made these are nodes, and
 //! once all nodes have their code they are clauses.
+//!
+//! A node is a test of the part of the value at a position, or a clause; links between nodes go to
+//! lower numbers. `graph` says what is matched, by which patterns and nodes; `subject` has the
+//! reads of the value's words, that is, where they are, and its spots, slots in which parts of it
+//! are saved. `agreed` is the program with its layouts, and `body` the code so far, at whose end
+//! new code is appended.
 
 ghost use Rattle.std.specs.Prelude.{◌≡◌, ◌∷◌, [], IfOk, OnOk, length};
 ghost use Rattle.rb_target.specs.Growth.{Grows};
@@ -43,7 +49,8 @@ fn landing(alloc: Global, edges: &[Edge], node: usize) -> Result<Seq<Hole>, Allo
     Ok(holes)
 }
 
-// The edges that lead elsewhere, in their order. They move, since there may be as many as nodes.
+// The edges that lead to other nodes than this one, in their order. They move, since there may be
+// as many as nodes.
 fn others<'a>(edges: Seq<Edge<'a>>, node: usize) -> Seq<Edge<'a>>
     ensures { result ≡ others_of node edges.entry }
 {
@@ -76,7 +83,9 @@ pub fn land<'a>(
     Ok(others(edges, node))
 }
 
-// The code of a node to which edges lead. A clause has none, and keeps its edges.
+// The code of a node, to which some of the open edges lead: it begins at the end of the code, and
+// the answer is the edges that are open behind it. A clause has no code, and keeps its edges; a
+// test to which no edge leads has none either. `number` is the node's.
 fn emit_node<'a>(
     alloc: Global,
     body: &mut Body,
@@ -117,7 +126,9 @@ fn emit_node<'a>(
     }
 }
 
-// The edge to the root: a root that tests needs none, since its code comes first.
+// The edges that are open once the graph has begun. A root that tests needs no edge, since its code
+// comes first: the edges are those of its test. A root that is a clause has one edge, by an open
+// jump. A root that is no node is an error.
 fn begin<'a>(
     alloc: Global,
     body: &mut Body,
@@ -156,7 +167,9 @@ fn begin<'a>(
     }
 }
 
-// The hole of an edge to a clause. No edge leads elsewhere when all nodes have their code.
+// The hole of an edge to a clause, with the clause's number, which is below `count`, in place of
+// the node's. When all nodes have their code no edge leads elsewhere: one that does, or to a clause
+// from `count` on, is an error.
 fn clause_hole(nodes: &[GraphNode], hole: &Hole, count: usize) -> Result<Hole, AllocError>
     ensures { IfOk result (λ h. IsClauseHole nodes.now count hole.now h) }
 {
@@ -176,7 +189,8 @@ fn clause_hole(nodes: &[GraphNode], hole: &Hole, count: usize) -> Result<Hole, A
     }
 }
 
-// The holes of edges, all of which lead to clauses.
+// The holes of edges, all of which lead to clauses, in their order: each has the number of its
+// clause, one of `count`.
 fn clause_holes(
     alloc: Global,
     nodes: &[GraphNode],
@@ -192,11 +206,12 @@ fn clause_holes(
     Ok(holes)
 }
 
-/// Code that leaves by a hole of the clause that a graph takes of the value whose words the reads are.
+/// Code that leaves by a hole of the clause that a graph, from its root on, takes of the subject's
+/// value. The answer is the holes, each with the number of its clause.
 ///
 /// # Errors
 ///
-/// Want of memory.
+/// Want of memory, or a graph that is not one of its patterns.
 pub fn emit_graph(
     alloc: Global,
     body: &mut Body,

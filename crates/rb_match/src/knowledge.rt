@@ -1,4 +1,12 @@
 //! What is known of a value on its way through a graph, and the ways out of code that lead on.
+//!
+//! A node of a decision graph is a test or a clause, given by its number. A position is the numbers
+//! of the fields that lead from the value to a part of it, the outermost first; that of the value
+//! itself is empty. A leaf is one of the forms in which a layout stores the values of a data type,
+//! given by its number there; data types are given by theirs. A spot is slots in which a part is
+//! saved, given by its number among the spots. `known` is a list of facts on the value, all of
+//! which are so; `place` is the index of a fact in a list, and a list that is too short has none
+//! there.
 
 ghost use Rattle.std.specs.Prelude.{◌≡◌, ◌∷◌, ◌++◌, [], IfOk, IfSome, true};
 ghost use Rattle.rb_match.specs.declared.knowledge.Known.TheVariants.{Leaf};
@@ -20,7 +28,8 @@ pub struct Spot {
     pub slots: Seq<usize>,
 }
 
-/// A value that is matched: its words, and the spots of its parts.
+/// A value that is matched: reads of its words, which say where these are, and the spots of its
+/// parts.
 #[derive(Clone, Copy)]
 pub struct Subject<'a> {
     pub words: &'a [Read],
@@ -43,7 +52,9 @@ pub enum Known<'a> {
     },
 }
 
-/// A test: what is known where it stands, the position of the part that it looks at, and the nodes to which it leads.
+/// A test: what is known where it stands, the position of the part that it looks at, and the nodes
+/// to which it leads: each arm has one for the values that begin with its head, a constructor or a
+/// number, and `other` is that of all other values, None where there are none.
 #[derive(Clone, Copy)]
 pub struct Test<'b, 'a> {
     pub known: &'b [Known<'a>],
@@ -52,8 +63,8 @@ pub struct Test<'b, 'a> {
     pub other: Option<u32>,
 }
 
-/// A way out of emitted code, whose `leaf` is the number of the node to which it leads, with what is
-/// known of the value there.
+/// A way out of emitted code: a target that is still open, the hole, whose `leaf` is the number of
+/// the node to which it is to lead, with what is known of the value there.
 #[derive(Drop)]
 pub struct Edge<'a> {
     pub hole: Hole,
@@ -114,7 +125,7 @@ pub fn position_below<'a>(position: &'a [u32], above: &[u32]) -> Option<&'a [u32
 }
 
 // The leaf of the part of a data type at a position, where the fact at this place of a list says
-// it.
+// it; None where that fact says something else, or there is none.
 fn leaf_at(known: &[Known], place: usize, ty: u32, position: &[u32]) -> Option<usize>
     ensures { IfSome result (λ leaf. FollowsLeaf known.now ty position.now leaf) }
 {
@@ -134,7 +145,8 @@ fn leaf_at(known: &[Known], place: usize, ty: u32, position: &[u32]) -> Option<u
     }
 }
 
-/// The leaf of the part of a data type at a position, where it is known.
+/// The leaf of the part of data type `ty` at a position, as the first fact that tells it says; None
+/// where none does.
 pub fn leaf_known(known: &[Known], ty: u32, position: &[u32]) -> Option<usize>
     ensures { IfSome result (λ leaf. FollowsLeaf known.now ty position.now leaf) }
 {
@@ -181,7 +193,8 @@ fn is_leaf_known(known: &[Known], position: &[u32], ty: u32, leaf: usize) -> boo
     }
 }
 
-// Whether a list has a fact on a leaf: at this place, or anywhere.
+// Whether the list `other` has the fact that the part of data type `ty` at a position has this
+// leaf: at this place, or anywhere.
 fn shared_leaf(other: &[Known], place: usize, position: &[u32], ty: u32, leaf: usize) -> bool
     ensures { result ≡ true → FollowsLeaf other.now ty position.now leaf }
 {
@@ -191,7 +204,7 @@ fn shared_leaf(other: &[Known], place: usize, position: &[u32], ty: u32, leaf: u
     }
 }
 
-// Whether a list has the fact that a spot is saved: at this place, or anywhere.
+// Whether the list `other` has the fact that this spot holds its part: at this place, or anywhere.
 fn shared_spot(other: &[Known], place: usize, spot: usize) -> bool
     ensures { result ≡ true → FollowsSaved other.now spot }
 {
@@ -201,7 +214,8 @@ fn shared_spot(other: &[Known], place: usize, spot: usize) -> bool
     saved_known(other, spot)
 }
 
-// A fact of a list, where another has it, too.
+// Fact number `i` of the list `known`, where the list `other` has it, too, at this place or
+// anywhere; None where it has not, or there is no such fact.
 fn shared_fact<'a>(
     known: &[Known<'a>],
     i: usize,
@@ -221,8 +235,9 @@ fn shared_fact<'a>(
     None
 }
 
-// What is in both lists. Those of one test's edges begin alike, so each fact is looked for first behind
-// those that are in both.
+// The facts that are in both lists, in the order of the first. Those of one test's edges begin
+// alike, so each fact is looked for in the other list first behind as many as have been found in
+// both.
 fn shared_known<'a>(
     alloc: Global,
     known: &[Known<'a>],
@@ -239,8 +254,9 @@ fn shared_known<'a>(
     Ok(both)
 }
 
-// What is known at a node behind one more edge, if that leads there: all that it knows where it is
-// the first to do so, and else what is known by both.
+// What is known at a node behind one more edge. If that leads there, it is all that the edge knows
+// where it is the first to do so, that is, where nothing is found yet, and else what is known by
+// both; if not, what was found before.
 fn meet<'a>(
     alloc: Global,
     found: Option<Seq<Known<'a>>>,
@@ -264,7 +280,8 @@ fn meet<'a>(
     }
 }
 
-/// What is known at a node, by whatever edge it is reached; None where no edge leads there.
+/// What is known at a node by whatever edge it is reached: the facts that all edges to it carry, in
+/// the order of the first. None where no edge leads there.
 ///
 /// # Errors
 ///

@@ -1,4 +1,5 @@
-//! A law of the switches of a match, which a caller's bound rests on.
+//! A law of the switches of a match, which a caller's bound rests on: a switch is an instruction
+//! that branches by a number, and to count them is to bound what the tests of a match cost.
 
 ghost use Rattle.rb_match.specs.Bounding.{BoundIsShared};
 

@@ -1,5 +1,11 @@
 //! Code of matches: what chooses a clause, and what binds a pattern's variables.
 //!
+//! A *leaf* is one of the forms in which a layout stores the values of a data type; its
+//! *provenance* is the pattern of these values. It *takes a field apart* where it has what stands
+//! in the field, and no words of the field itself. To *look* is to find a part's leaf or number by
+//! code. A *node* is a test or a clause of a decision graph. A *position*, written `.0.1`, is the
+//! numbers of the fields that lead from the value to a part of it, the outermost first.
+//!
 //! [`choosing::emit_match`] makes the match's decision tree, shares equal parts of it, and emits the code
 //! of each node once, from the root down. Take `type K = A | B` in one bit, a pair of two, and
 //! `match p { P(A, _) => 0, P(_, A) => 1, _ => 2 }`, whose tree is

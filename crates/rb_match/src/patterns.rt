@@ -17,7 +17,7 @@ pub fn binds_nothing(pat: &Pat) -> bool
     }
 }
 
-// Whether none of some patterns has a variable.
+// Whether none of some patterns has a variable; so it is of no patterns.
 #[cycle(seeking)]
 fn bind_nothing(pats: &[Pat]) -> bool
     ensures { result ≡ all_unbound (map is_unbound pats.now) }

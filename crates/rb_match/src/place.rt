@@ -1,4 +1,13 @@
 //! Where the words of a part of a value are.
+//!
+//! A position is the numbers of the fields that lead from the value to a part of it, the outermost
+//! first; that of the value itself is empty. A path leads so from a part to what stands below it. A
+//! leaf is one of the forms in which a layout stores the values of a data type; its provenance is
+//! the pattern of these values, and it takes a field apart where the provenance has a constructor
+//! there. A read says where a word is: bits of slots and of memory. A spot is slots in which a part
+//! is saved. `ty` is the type of the whole value and `words` its reads, `spots` are those of its
+//! parts, and `known` is what is known of it: the leaves of parts, and which spots hold theirs.
+//! `agreed` is the program with its layouts, `types` the declarations of its data types.
 
 ghost use Rattle.std.specs.Prelude.{◌≡◌, IfOk, IfSome, true};
 ghost use Rattle.rb_match.specs.inner.Places.{BeginsPlace, FindsPlace, IsFieldOf, IsSpotOf, StepsPlace, IsLookedAt, HasPlace};
@@ -14,22 +23,23 @@ use rb_layout::agreed::Agreed;
 use rb_layout::positions::type_at;
 use std::alloc::{AllocError, Global};
 
-/// The type of a part of a value, and what its words are.
+/// The type of a part of a value, and a read for each of its words.
 #[derive(Drop)]
 pub struct Place {
     pub ty: Ty,
     pub reads: Seq<Read>,
 }
 
-/// The place at so many first fields of a position.
+/// The place of the part to which the first `from` fields of a position lead; 0 fields lead to the
+/// whole value.
 #[derive(Drop)]
 pub struct Begun {
     pub place: Place,
     pub from: usize,
 }
 
-/// The type at an open position of a leaf, that is, at a wildcard of its provenance; None where the
-/// path leads to no such position.
+/// The type at an open position of leaf number `leaf` of data type `ty`, that is, at a wildcard of
+/// its provenance; None where there is no such leaf, or the path leads to no such position.
 pub fn field_of(agreed: &Agreed, ty: u32, leaf: usize, path: &[u32]) -> Option<Ty>
     ensures { IfSome result (λ found. IsFieldOf agreed.now ty leaf path.now found) }
 {
@@ -50,9 +60,9 @@ fn copy_reads(alloc: Global, reads: &[Read]) -> Result<Seq<Read>, AllocError>
     Ok(copies)
 }
 
-// From the place of a part to that of its field. Each part above a test has a known leaf, and what
-// a leaf takes apart is saved, so that no part without a known leaf and no field that is taken
-// apart is ever met here.
+// From the place of the part at position `prefix` to that of its field with this number. Each part
+// above a test has a known leaf, and what a leaf takes apart is saved, so that no integer, no part
+// without a known leaf and no field that is taken apart is ever met here: each is an error.
 fn step_place(
     alloc: Global,
     agreed: &Agreed,
@@ -77,7 +87,8 @@ fn step_place(
     Ok(Place { ty, reads })
 }
 
-// The slots of a spot at a position that is known to hold its part.
+// The place of the part at a position in the slots of a spot that is known to hold it; None where
+// no spot is.
 fn saved_place(
     alloc: Global,
     agreed: &Agreed,
@@ -146,7 +157,10 @@ fn place_by_fields(
     Ok(place)
 }
 
-// Where a leaf above a position has the part there, of which it is known: it took the parts between them apart.
+// Where a leaf that fact number `i` tells of a part above has the part at a position: it took the
+// parts between them apart. None where there is no such fact, it tells of no leaf, its part is not
+// at least two fields above or is of another type than it says, or the leaf has no open position
+// there.
 fn place_inside(
     alloc: Global,
     agreed: &Agreed,
@@ -191,11 +205,14 @@ fn place_inside(
     Ok(Some(Place { ty: at, reads }))
 }
 
-/// Where the part at a position is, of a value of a type with these words, some of whose parts are saved.
+/// Where the part at a position is, of a value of a type with these words, some of whose parts are
+/// saved: in its spot, or in a leaf that took the parts above it apart, or else field by field
+/// below the nearest part that is saved.
 ///
 /// # Errors
 ///
-/// Want of memory.
+/// Want of memory, or a part on the way to the position whose leaf is not known or has taken the
+/// next field apart.
 pub fn place_of(
     alloc: Global,
     agreed: &Agreed,
@@ -219,7 +236,8 @@ pub fn place_of(
     Ok(place)
 }
 
-// Whether a pattern has a number or a constructor at a position, where this type is.
+// Whether a pattern, taken at type `ty`, has a number or a constructor at a position, where type
+// `at` is; false where the position leads out of the pattern.
 fn has_place(types: &[DataDecl], ty: Ty, pat: &Pat, position: &[u32], at: Ty) -> bool
     ensures { result ≡ true → HasPlace types.now ty pat.now position.now at }
 {
@@ -239,7 +257,8 @@ fn has_place(types: &[DataDecl], ty: Ty, pat: &Pat, position: &[u32], at: Ty) ->
     }
 }
 
-/// Whether some pattern has a number or a constructor at a position, where this type is.
+/// Whether some of the patterns, taken at type `ty`, has a number or a constructor at a position,
+/// where type `at` is.
 pub fn is_looked_at(types: &[DataDecl], ty: Ty, pats: &[Pat], position: &[u32], at: Ty) -> bool
     ensures { result ≡ true → IsLookedAt types.now ty pats.now position.now at }
 {

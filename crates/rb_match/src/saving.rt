@@ -1,6 +1,10 @@
 //! Code that saves the fields of a part, from the leaf that it is known to have. A position leads
 //! from the whole value to a part, a path from a part to what stands below it: field numbers, the
-//! outermost first. A part is opened where its fields are saved in its stead.
+//! outermost first. A part is opened where its fields are saved in its stead. A leaf is one of the
+//! forms in which a layout stores the values of a data type, given by its number; its provenance is
+//! the pattern of these values. A spot is slots for the part at a position. `known` is what is
+//! known of the whole value: which leaves parts have, and which spots hold theirs. `agreed` is the
+//! program with its layouts, and `body` the code so far, at whose end new code is appended.
 
 ghost use Rattle.std.specs.Prelude.{◌≡◌, ◌++◌, IfOk, IfSome, OnOk, true, false};
 ghost use Rattle.rb_target.specs.Growth.{Grows};
@@ -30,7 +34,9 @@ pub struct LeafSlots<'b> {
     pub words: &'b [usize],
 }
 
-/// Code that leaves the words of the part at a path of a leaf in slots, where it has this type.
+/// Code that leaves the words of the part at a path of a value in slots, where the value's leaf has
+/// a part of type `at` there. The slots are new, or the value's own. A part that the leaf has taken
+/// apart is rebuilt.
 ///
 /// # Errors
 ///
@@ -55,7 +61,8 @@ pub fn fetch_part(
     Ok(slots)
 }
 
-// The type of what stands at a path of a pattern of a type; None where nothing stands there.
+// The type of what stands at a path of a pattern, which is taken at type `ty`; `ty` itself for the
+// empty path, and None where nothing stands there.
 fn type_below(types: &[DataDecl], ty: Ty, pat: &Pat, path: &[u32]) -> Option<Ty>
     ensures { IfSome result (λ at. HasBelow types.now ty pat.now path.now at) }
 {
@@ -273,12 +280,12 @@ fn save_below<'a>(
     }
 }
 
-/// Code that saves what is needed of a part of a value whose words stand in slots, in spots. The answer is what is
-/// known then.
+/// Code that saves what later tests need of the fields of a part, the source, in spots. The answer
+/// is what was known and what is saved.
 ///
 /// # Errors
 ///
-/// Want of memory.
+/// Want of memory, a part whose leaf its type lacks, or a spot that shares slots with the part.
 pub fn save_fields<'a>(
     alloc: Global,
     body: &mut Body,

@@ -1,7 +1,11 @@
 //! Spots: slots in which parts of a value are saved, so that they are there on all ways. A position
 //! is the field numbers that lead from the value to a part of it, the outermost first; that of the
-//! value itself is empty. A leaf takes a subvalue apart where its provenance, the pattern of its
-//! values, has a constructor in a field of its root.
+//! value itself is empty. A leaf, one of the forms in which a layout stores the values of a data
+//! type, takes a subvalue apart where its provenance, the pattern of its values, has a constructor
+//! in a field of its root. A pattern looks at a part where it has a number or a constructor there.
+//! Nodes are those of a decision graph, tests and clauses, by their numbers; links between them go
+//! to lower numbers. `pats` are the patterns of a match, `agreed` is the program with its layouts,
+//! and `body` the code so far, at whose end new code is appended.
 
 ghost use Rattle.std.specs.Prelude.{◌≡◌, ◌++◌, ◌∷◌, [], IfOk, OnOk, true, false, nat_eq};
 ghost use Rattle.std.specs.List.{list_any, starts_with};
@@ -74,7 +78,7 @@ pub fn is_deep(agreed: &Agreed, ty: u32) -> bool
     }
 }
 
-/// A position with one field more.
+/// A position with one field number more at its end.
 ///
 /// # Errors
 ///
@@ -99,8 +103,9 @@ fn add_wanted(found: &mut Seq<Wanted>, position: Seq<u32>, ty: Ty) -> Result<(),
     Ok(())
 }
 
-// Adds the parts below a pattern at a position that are to be saved: those at which it looks, or
-// below which it does, directly below a part of a type with a leaf that takes subvalues apart.
+// Adds to `found` the parts below a pattern, which stands at a position, that are to be saved:
+// those at which it looks, or below which it does, directly below a part of a type with a leaf that
+// takes subvalues apart.
 fn add_parts(
     alloc: Global,
     agreed: &Agreed,
@@ -169,14 +174,14 @@ pub struct Whole<'a> {
     pub nodes: &'a [GraphNode],
 }
 
-/// Marks a place of a list; nothing is marked where the list has no such place.
+/// Sets the mark at the index `place` of a list; nothing is set where the list is too short.
 pub fn set_at(marks: &mut Seq<bool>, place: usize) {
     if place < marks.len() {
         marks.replace(place, true);
     }
 }
 
-/// So many marks, all alike.
+/// A list of `count` marks, all of them `mark`.
 ///
 /// # Errors
 ///
@@ -189,7 +194,9 @@ pub fn marks(alloc: Global, count: usize, mark: bool) -> Result<Seq<bool>, Alloc
     Ok(all)
 }
 
-// Marks the nodes to which a test leads.
+// Marks in `reached`, which has one mark a node, the nodes to which a test leads: by each of its
+// arms, and by `other` for all other values, if there is one. Those past the end of the list are
+// left out.
 fn mark_links(reached: &mut Seq<bool>, arms: &[GraphArm], other: Option<u32>) {
     for arm in arms {
         set_at(reached, arm.under as usize);
@@ -199,7 +206,7 @@ fn mark_links(reached: &mut Seq<bool>, arms: &[GraphArm], other: Option<u32>) {
     }
 }
 
-/// Whether a position is another, or below it.
+/// Whether a position is the position `above`, or that of a part below it.
 pub fn is_within(position: &[u32], above: &[u32]) -> bool
     ensures { result ≡ starts_with nat_eq position.now above.now }
 {
@@ -215,8 +222,9 @@ pub enum Needs<'a> {
     Tests(Seq<&'a [u32]>),
 }
 
-/// What the tests need that can be met from a node on. Links go to lower numbers, so that no node above that one is
-/// met. Where there are no nodes, all is needed.
+/// What the tests need that can be met from a node on, its own if it is one. Links go to lower
+/// numbers, so that no node above that one is met. Where there are no nodes, all is needed; where
+/// there is no such node, nothing.
 ///
 /// # Errors
 ///
@@ -269,7 +277,8 @@ pub fn is_tested(needs: &Needs, position: &[u32]) -> bool {
 
 // Their slots ------------------------------------------------------------------------------------
 
-// New slots, each of which is 0 at first: every slot of a function is written.
+// So many new slots, and code that writes 0 to each, since every slot of a function is to be
+// written.
 fn zeroes(alloc: Global, body: &mut Body, count: usize) -> Result<Seq<usize>, AllocError>
     ensures slots { IfOk result (λ slots. slots ≡ slots_from body.old.slots count) }
     ensures zeroes { OnOk result (Zeroes body.old body.new count) }
@@ -288,7 +297,8 @@ fn copy_position(alloc: Global, position: &[u32]) -> Result<Seq<u32>, AllocError
     Ok(Seq::from_vec(fields))
 }
 
-/// Slots for some parts, a spot for each.
+/// Slots for some parts, a spot for each, in their order: new slots, one for each word of the
+/// part's type.
 ///
 /// # Errors
 ///

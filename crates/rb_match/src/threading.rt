@@ -1,7 +1,18 @@
 //! Tests that what is known decides: they need no code, and an edge that leads to one leads on to the node of
 //! its arm. A test below it needs the leaf that it would have found. Where all values of the constructor there have one
 //! leaf, which takes no field apart, that leaf is known from then on. Else, behind the look that decides it, the exit
-//! opens the part: it saves the fields themselves that such tests need. Elsewhere the test stays if one can be met.
+//! opens the part: it saves the fields themselves that such tests need. Elsewhere the test stays if
+//! one can be met.
+//!
+//! `nodes` are those of a decision graph over values of type `ty` for the patterns `pats`: tests
+//! and clauses, by their numbers. A test looks at the part at a position, the numbers of the fields
+//! that lead from the value to it; its `arms` lead to nodes by what the part begins with, and
+//! `other` is the node of all other values, None where there are none. A leaf is one of the forms
+//! in which a layout stores the values of a data type, given by its number; its provenance is the
+//! pattern of these values. An edge is a way out of the code so far to a node, with what is `known`
+//! of the value there: the leaves of parts, and which spots, slots in which parts are saved, hold
+//! theirs. An exit is the way of a leaf out of the look that found it. Marks are one for each node.
+//! `agreed` is the program with its layouts.
 
 ghost use Rattle.std.specs.Prelude.{◌≡◌, IfOk, IfSome, OnOk, true};
 ghost use Rattle.rb_match.specs.inner.Threading.{AllFollow, Ascend, AreThreaded, AreWild, BeginsWith, Covers, HasSub, IsAtLeaf, IsDecided, IsFirst, IsLeafOfAll, IsThreaded, IsWild, LeadsOn, ShowTogether, Tells, TellTogether, Threads};
@@ -36,7 +47,7 @@ fn sub_at<'a>(pat: &'a Pat, position: &[u32]) -> Option<&'a Pat>
     }
 }
 
-// The constructor with which a pattern begins, if it begins with one.
+// The constructor with which a pattern begins; None for a wildcard, a variable or a number.
 fn con_of_pat(pat: &Pat) -> Option<ConRef>
     ensures { IfSome result (λ con. BeginsWith pat.now con.con) }
 {
@@ -46,7 +57,9 @@ fn con_of_pat(pat: &Pat) -> Option<ConRef>
     }
 }
 
-// What a fact tells of the part at a position: the provenance of a leaf above says what stands there.
+// What a fact tells of the part at a position: the provenance of the leaf of a part at or above it
+// says what stands there. None where the fact is of no leaf, or of a part elsewhere, or the
+// provenance doesn't reach there.
 fn sub_from<'a>(agreed: &'a Agreed, fact: Known, position: &[u32]) -> Option<&'a Pat>
     ensures { IfSome result (λ sub. Tells agreed.now fact.entry position.now sub.now) }
 {
@@ -78,8 +91,8 @@ fn sub_by<'a>(
     sub_from(agreed, fact, position)
 }
 
-// What is known of the part at a position, where that is its constructor. The last facts are asked first: a leaf that
-// was just found tells most.
+// A pattern of the part at a position that begins with the part's constructor, where some fact
+// tells it; else None. The last facts are asked first: a leaf that was just found tells most.
 fn sub_known<'a>(agreed: &'a Agreed, known: &[Known], position: &[u32]) -> Option<&'a Pat>
     ensures { IfSome result (λ sub. TellTogether agreed.now known.now position.now sub.now) }
 {
@@ -94,7 +107,9 @@ fn sub_known<'a>(agreed: &'a Agreed, known: &[Known], position: &[u32]) -> Optio
     None
 }
 
-// The node to which a test leads, where what is known decides it.
+// The node to which a test leads, where what is known decides it: the constructor of its part is
+// known, and some pattern looks there. None where that is not so, or the test leads such values to
+// no node.
 fn decided(
     agreed: &Agreed,
     ty: Ty,
@@ -169,7 +184,9 @@ fn are_wild(pats: &[Pat]) -> bool
     true
 }
 
-// Whether a leaf that takes no field apart is that of the constructor with which a pattern begins.
+// Whether a leaf takes no field apart and is of the constructor with which a pattern begins, so
+// that it has all values that the pattern matches; false where either begins with no constructor,
+// or their numbers of fields differ.
 fn covers(leaf: &Leaf, pat: &Pat) -> bool
     ensures { result ≡ true → Covers leaf.now.prov pat.now }
 {
@@ -187,7 +204,8 @@ fn covers(leaf: &Leaf, pat: &Pat) -> bool
     }
 }
 
-// The first leaf that has a value which a pattern matches, where it covers the pattern.
+// The number of the first of some leaves that may have a value which a pattern matches, where it
+// has all these values; None where it hasn't, or no leaf may have one.
 fn first_leaf(leaves: &[Leaf], pat: &Pat) -> Option<usize>
     ensures { IfSome result (λ leaf. IsFirst leaves.now pat.now leaf) }
 {
@@ -211,7 +229,8 @@ fn leaf_of_all(agreed: &Agreed, ty: u32, pat: &Pat) -> Option<usize>
     first_leaf(layout.leaves.as_slice(), pat)
 }
 
-// What is known of a part at a position that a pattern matches: its leaf.
+// The fact which leaf the part at a position has, where the pattern matches that part and shows its
+// leaf; None where it shows none.
 fn leaf_shown<'a>(agreed: &Agreed, pat: &Pat, position: &'a [u32]) -> Option<Known<'a>>
     ensures { IfSome result (λ fact. IsAtLeaf agreed.now pat.now position.now fact) }
 {
@@ -225,7 +244,7 @@ fn leaf_shown<'a>(agreed: &Agreed, pat: &Pat, position: &'a [u32]) -> Option<Kno
     }
 }
 
-// The leaf of the part at a position, where what is known shows it.
+// The fact which leaf the part at a position has, where what is known shows it; else None.
 fn shown<'a>(agreed: &Agreed, known: &[Known], position: &'a [u32]) -> Option<Known<'a>>
     ensures { IfSome result (λ fact. ShowTogether agreed.now known.now fact) }
 {
@@ -252,7 +271,8 @@ pub fn is_opened(agreed: &Agreed, sub: &Pat) -> bool {
     }
 }
 
-// Whether an exit opens each part on a path below a pattern.
+// Whether an exit opens each part on a path below a pattern; so it does on an empty path. False
+// where the path leads out of the pattern.
 fn are_opened(agreed: &Agreed, pat: &Pat, path: &[u32]) -> bool {
     let [field, rest @ ..] = path else {
         return true;
@@ -266,7 +286,8 @@ fn are_opened(agreed: &Agreed, pat: &Pat, path: &[u32]) -> bool {
     }
 }
 
-// Whether code at an exit saves the fields of the part at a position that tests need.
+// Whether code at an exit saves the fields of the part at a position that tests need; false where
+// the way is no exit, or the part is not at or below the one that was looked at.
 fn opens(agreed: &Agreed, exit: &Option<Exit>, position: &[u32]) -> bool {
     let Some(exit) = exit else {
         return false;
@@ -277,7 +298,8 @@ fn opens(agreed: &Agreed, exit: &Option<Exit>, position: &[u32]) -> bool {
     }
 }
 
-// Whether a way carries what is shown of the part at a position. An exit does of parts below its look alone, since
+// Whether a way carries what is shown of the part at a position. An exit does of parts at or below
+// its look alone, since
 // leaves that lead on to one node may go by one way, which carries what was known before the look.
 fn carries(exit: &Option<Exit>, position: &[u32]) -> bool {
     match exit {
@@ -288,7 +310,7 @@ fn carries(exit: &Option<Exit>, position: &[u32]) -> bool {
 
 // Nodes ---------------------------------------------------------------------------------------------
 
-// Marks each node that is marked in another list.
+// Marks each node that is marked in the other list; other marks stay as they are.
 fn mark_all(marks: &mut Seq<bool>, others: &[bool]) {
     for i in 0..marks.len() {
         if is_marked(others, i) {
@@ -298,7 +320,9 @@ fn mark_all(marks: &mut Seq<bool>, others: &[bool]) {
 }
 
 // What is known behind a decided test: the leaf of its part, where a test below it can be met from the next node on.
-// Where that leaf is not shown, and no exit opens the part, each node is marked from which such a test can be met.
+// Where that leaf is not shown, and no exit opens the part, each node is marked in `met` from which
+// such a test can be met. `node` is the decided test and `next` the node to which it leads; where
+// `node` is no test, nothing changes.
 fn pass_over<'a>(
     alloc: Global,
     agreed: &Agreed,
@@ -366,7 +390,7 @@ pub fn lead_on<'a>(
     Ok(end)
 }
 
-// Whether each edge is at a later instruction than those before it.
+// Whether each edge is at a later instruction than those before it; so it is of no edges.
 fn ascend(edges: &[Edge]) -> bool
     ensures { result ≡ true → Ascend 0 edges.now }
 {
@@ -383,7 +407,8 @@ fn ascend(edges: &[Edge]) -> bool
     true
 }
 
-// What an edge to a node carries. At a clause nothing is asked any more, and a long pattern has many edges to one.
+// What an edge to a node carries: what is known where it is a test, and else nothing. At a clause
+// nothing is asked any more, and a long pattern has many edges to one.
 fn carried<'a>(
     alloc: Global,
     agreed: &Agreed,
@@ -432,7 +457,7 @@ fn thread_edge<'a>(
     })
 }
 
-// Edges, each to where it leads on.
+// The edges, in their order, each to the node to which what it knows leads on.
 fn thread_each<'a>(
     alloc: Global,
     agreed: &Agreed,
@@ -451,7 +476,8 @@ fn thread_each<'a>(
 }
 
 /// The edges of a test, each to the node to which what it knows leads on; at a clause it knows nothing any more.
-/// Edges of one instruction stay as they are: two of them may be the same way out.
+/// Where some edge is not at a later instruction than those before it, all stay as they are: two
+/// may be the same way out.
 ///
 /// # Errors
 ///

@@ -49,7 +49,8 @@ use Rattle.rb_match.specs.inner.Asking.{AreGroups, AreOpen, AreSpots, Asked, Ask
 use Rattle.rb_match.specs.inner.Saving.{IsThereWith}
 use Rattle.rb_match.specs.inner.Threading.{AllFollow, LeadsOn}
 
--- those of the holes whose `leaf`, the number of a group of leaves, is i or higher: no way is made for them yet
+-- those of the holes, in their order, whose `leaf`, the number of a group of leaves, is i or higher: no way is made
+-- for them yet
 abbrev pub pending : ℕ → List Hole → List Hole
 pending i [] = []
 pending i (h ∷ hs) = if nat_le i h.leaf then h ∷ pending i hs else pending i hs
