@@ -1,5 +1,7 @@
--- What code that constructs a value owes, against the source's construction. What is shown of a field is a pattern
--- that its value matches; a wildcard shows nothing.
+-- What code that constructs a value owes, against the source's construction. A held value is one in slots, with its
+-- type. What is shown of a field is a pattern that its value matches; a wildcard shows nothing. The event of a
+-- construction is that its value is built, and its blocks are those of the leaf that holds the value in its layout. A
+-- plan has a program and its layouts, and a sheet is a function's code so far.
 use Rattle.std.specs.Prelude.{◌≡◌, List, map, Some}
 use Rattle.rb_core.specs.declared.types.Ty.{Ty}
 use Rattle.rb_core.specs.declared.types.Ty.TheVariants.{Named}
@@ -16,9 +18,10 @@ use Rattle.rb_fragment.specs.Fragments.{Applies}
 use Rattle.rb_fetch.specs.Choosing.{AreAsShown}
 use Rattle.rb_fetch.specs.Finding.{IsPlanOf}
 
--- Over values that are held, one a field of the constructor, and match the patterns that are shown of them, the
--- appended code does what the source's construction does: where the blocks of its one event fit, the memory has
--- exactly these more, and new slots represent the value; else the first that does not fit is asked for in vain.
+-- In every plan of the agreed program, the code from old to new does what the source's construction by con does, over
+-- the values hs, one a field of the constructor, that match the patterns `shown`: where the blocks of its one event
+-- fit, the memory has exactly these more, and the slots of `held`, which are new, represent the value; else the first
+-- that does not fit is asked for in vain.
 abbrev pub Builds : LaidOut → ConRef → List Held → List Pat → Sheet → Sheet → Held → Type 0
 Builds agreed con hs shown old new held =
     (plan : Plan) → IsPlanOf agreed plan

@@ -1,4 +1,6 @@
-//! Code that constructs a value of its fields.
+//! Code that constructs a value of its fields. A held value is one in slots, a word each, with its
+//! type. What is shown of a field is a pattern that its value matches, known when the code is
+//! written.
 
 ghost use Rattle.std.specs.Prelude.{IfOk, OnOk};
 ghost use Rattle.rb_target.specs.Growth.{Grows};
@@ -12,9 +14,10 @@ use rb_layout::agreed::Agreed;
 use rb_target::body::Body;
 use std::alloc::{AllocError, Global};
 
-/// Code that constructs a value by a constructor, of values that are held, one a field, as the source does: its
-/// one event is that the value is built. Each of the values matches the pattern that is shown of it; a wildcard
-/// shows nothing. Answers the value, in new slots.
+/// Appends to `body` code that constructs a value by the constructor `con`, of the values `args`,
+/// one a field in their order, as the source does: its one event is that the value is built.
+/// `agreed` has the program and its layouts. Each of the values matches the pattern in its place in
+/// `shown`; a wildcard shows nothing. Answers the value, in new slots.
 ///
 /// # Errors
 ///

@@ -1,4 +1,8 @@
--- What the code of a leaf does.
+-- What the code of a leaf does. A leaf holds some of a type's values, those that its provenance matches. An open
+-- position is a wildcard of the provenance, by its path from the root, and a subvalue is the value at one, in slots.
+-- A plan has a program and its layouts, and a sheet is a function's code so far. A run goes on by `next`, from the
+-- number of an instruction, the words s of all slots and the world w, which has the memory and counts switches. A
+-- representation is clean where all bits are 0 that stand in no part of a word.
 use Rattle.std.specs.Prelude.{◌≡◌, ℕ, ◌≤◌, List, [], Bool, Some, length, slice_get}
 use Rattle.rb_core.specs.declared.value.Value.{Value}
 use Rattle.rb_core.specs.declared.types.Ty.TheVariants.{Named}
@@ -27,17 +31,19 @@ use Rattle.rb_compose.specs.Subvalues.{AreGivenAt, ArePartsHeld}
 abbrev pub opens_of_leaf : Plan → Leaf → List Open
 opens_of_leaf plan leaf = open_positions plan.program.types leaf.prov
 
--- From a start the run makes a value of a data type. Where the value's blocks fit, the memory has exactly these
--- more, and the run comes to instruction b with the value in slots, the first n of which are kept; else the first
--- block that does not fit is asked for in vain. A value without blocks leaves the memory as it was.
+-- From instruction `start` on, with the words s in slots and in world w, the run makes value v of data type t. Where
+-- the value's blocks fit, the memory has exactly these more, and the run comes to instruction b with the value in
+-- `slots`, cleanly where the flag is up, and with the first n slots kept; else the first block that does not fit is
+-- asked for in vain. A value without blocks leaves the memory as it was. In the end the world counts at most `most`
+-- switches.
 abbrev pub MakesValue : Plan → Bool → ℕ → Next → ℕ → ℕ → ℕ → ℕ → List ℕ → Value → List ℕ → World → Type 0
 MakesValue plan clean most next start b n t slots v s w =
     Ends most (next start s w) w.memory (lay w.memory.limit w.memory.next (blocks_of plan.layouts t v)) (Done v w.left)
     (λ u w'. Comes plan clean (next start s w) next b n (Named t) slots s u w'
     × (blocks_of plan.layouts t v ≡ [] → w'.memory ≡ w.memory))
 
--- The appended code makes the values of leaf n of a type, of the subvalues at its open positions and as cleanly
--- as these are, in new slots, each once. It does no switch.
+-- The code from old to new makes the values of leaf n of type t, of the subvalues xs at its open positions and as
+-- cleanly as these are, in `slots`, which are new, each once. It does no switch.
 pub record LeafIsMade (plan : Plan) (t n : ℕ) (layout : Layout) (leaf : Leaf) (xs : List Subvalue) (old new : Sheet)
     (slots : List ℕ) : Type 0 where
   pub adds : Adds plan old new
@@ -52,8 +58,8 @@ pub record LeafIsMade (plan : Plan) (t n : ℕ) (layout : Layout) (leaf : Leaf) 
       → ArePartsHeld plan clean s w.memory (opens_of_leaf plan leaf) xs v
       → MakesValue plan clean w.switches next (length old.code) (length new.code) old.slots t slots v s w
 
--- in every program whose layouts agree and have the leaf, the appended code makes the values of the leaf of the
--- subvalues that are given at its open positions
+-- in every typed program whose layouts agree and have the leaf, the code from old to new makes the values of the
+-- leaf, in `slots`, of the subvalues xs that are given at its open positions
 abbrev pub MakesLeaf : Leaf → List Subvalue → Sheet → Sheet → List ℕ → Type 0
 MakesLeaf leaf xs old new slots =
     (plan : Plan) → IsTyped plan.program → AreAgreed plan.program plan.layouts

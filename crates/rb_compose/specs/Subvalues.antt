@@ -1,5 +1,7 @@
 -- Values at the open positions of a leaf, in slots. An open position is a part that the leaf does not tell: a path of
--- field numbers from the root, and the type there. A subvalue is the value at one, in slots.
+-- field numbers from the root, and the type there. A subvalue is the value at one, in slots. A plan has a program and
+-- its layouts. In a run, s has the words of all slots, and m is the memory. A representation is clean where all bits
+-- are 0 that stand in no part of a word.
 use Rattle.std.specs.Prelude.{◌≡◌, ℕ, List, [], ◌∷◌, Bool, Option, Some, None, length, slice_get, if◌then◌else◌}
 use Rattle.rb_core.specs.declared.value.Value.{Value}
 use Rattle.rb_core.specs.Values.{part_at}
@@ -17,7 +19,8 @@ abbrev pub subvalue_at : List Subvalue → List ℕ → Option Held
 subvalue_at [] path = None
 subvalue_at (x ∷ xs) path = if same_path x.path path then Some x.held else subvalue_at xs path
 
--- there is a subvalue at the open position o, of its type and in as many slots as this has words, all below n
+-- there is a subvalue among xs at the open position o, of its type and in as many slots as this has words, all below
+-- n
 pub record IsGivenAt (plan : Plan) (n : ℕ) (xs : List Subvalue) (o : Open) : Type 0 where
   pub held : Held
   pub is_there : subvalue_at xs o.path ≡ Some held
@@ -25,11 +28,13 @@ pub record IsGivenAt (plan : Plan) (n : ℕ) (xs : List Subvalue) (o : Open) : T
   pub below : AllBelow n held.slots
   pub count : length held.slots ≡ words_of plan o.ty
 
--- at each open position there is a subvalue of its type, in as many slots as this has words, all below n
+-- at each of the open positions there is a subvalue among xs of its type, in as many slots as this has words, all
+-- below n
 abbrev pub AreGivenAt : Plan → ℕ → List Open → List Subvalue → Type 0
 AreGivenAt plan n opens xs = (k : ℕ) (o : Open) → slice_get opens k ≡ Some o → IsGivenAt plan n xs o
 
--- the slots of the subvalue at the open position o represent the part of the value v there
+-- value v has a part at the open position o, and the slots of the subvalue there, among xs, represent it, cleanly
+-- where the flag is up
 pub record IsPartHeld (plan : Plan) (clean : Bool) (s : List ℕ) (m : Memory) (xs : List Subvalue) (v : Value)
     (o : Open) : Type 0 where
   pub held : Held
@@ -38,7 +43,8 @@ pub record IsPartHeld (plan : Plan) (clean : Bool) (s : List ℕ) (m : Memory) (
   pub is_part : part_at v o.path ≡ Some part
   pub represents : Rep plan m clean o.ty part (slots_at s held.slots)
 
--- at each open position the slots of the subvalue represent the part of the value v there
+-- value v has a part at each of the open positions, and the slots of the subvalue there, among xs, represent it,
+-- cleanly where the flag is up
 abbrev pub ArePartsHeld : Plan → Bool → List ℕ → Memory → List Open → List Subvalue → Value → Type 0
 ArePartsHeld plan clean s m opens xs v =
     (k : ℕ) (o : Open) → slice_get opens k ≡ Some o → IsPartHeld plan clean s m xs v o

@@ -1,4 +1,7 @@
-//! Code that begins a word that has no constants.
+//! Code that begins a word whose constants are all 0. `subs` are the subvalues, values in slots,
+//! each with its path: field numbers from the root. `blocks` has the slots of the addresses of
+//! blocks, by their numbers. A part of a word has the `l` bits from bit `o` on, and its kind says
+//! what they hold. It is ready where a slot holds it in its place and no other bit.
 
 ghost use Rattle.std.specs.Prelude.{◌≡◌, IfOk, OnOk};
 ghost use Rattle.rb_compose.specs.inner.Code.{after_constants, begun_code, is_constant, is_low, joined_code, low_bit};
@@ -11,8 +14,10 @@ use rb_target::body::Body;
 use rb_target::instr::AluOp;
 use std::alloc::AllocError;
 
-/// Composes a word of parts of which the first is no constant: it begins as a part that a slot holds in its place, as
-/// bits of a number that are to stand from bit 0 on, or else as 0.
+/// Composes a word of `parts` in a new slot, and answers the slot. The first part is no constant,
+/// and all constants among the parts are 0. The word begins as the first part, where a slot holds
+/// that in its place, or where it is bits of a number that are to stand from bit 0 on; else, and
+/// without parts, as 0.
 ///
 /// # Errors
 ///
@@ -44,8 +49,9 @@ pub(crate) fn emit_begun(
     Ok(slot)
 }
 
-// Makes, in a new slot, a word of what slot `from` holds and of further parts. Where a slot holds
-// the first of them in its place, it is set beside the other at once.
+// Makes, in a new slot, which it answers, a word of what slot `from` holds and of further parts.
+// Where a slot holds the first of them in its place, it is set beside the other at once; else, and
+// without parts, the word begins as a copy.
 fn emit_joined(
     body: &mut Body,
     from: usize,

@@ -1,4 +1,6 @@
-//! Code that places blocks and fills them.
+//! Code that places blocks and fills them. `subs` are the subvalues of which words are composed,
+//! values in slots, each with its path: field numbers from the root. `blocks` has the slots of the
+//! addresses of those blocks that are placed already, by their numbers.
 
 ghost use Rattle.std.specs.Prelude.{◌≡◌, ◌+◌, ◌/◌, IfOk, OnOk};
 ghost use Rattle.rb_layout.specs.Words.{bytes_in};
@@ -12,7 +14,8 @@ use rb_target::body::Body;
 use rb_target::instr::Instr;
 use std::alloc::AllocError;
 
-/// Places blocks and fills them, one after the other, and adds the slots of their addresses to `blocks`.
+/// Places the blocks `wanted` and fills them, one after the other, and adds the slots of their
+/// addresses to `blocks`. Without blocks there is no code.
 ///
 /// # Errors
 ///
@@ -33,7 +36,7 @@ pub(crate) fn emit_blocks(
     Ok(())
 }
 
-// Places one block and fills it, and answers the slot of its address.
+// Places one block and fills it, and answers the slot of its address, which is new.
 fn emit_block(
     body: &mut Body,
     block: &Block,
@@ -70,7 +73,8 @@ fn emit_stores(
     Ok(())
 }
 
-// The size of words in bytes, one behind the other.
+// The size of words in bytes, one behind the other; 0 without words. Want of memory is the answer
+// where it were past all numbers.
 fn bytes_of(words: &[FlatWord]) -> Result<u64, AllocError>
     ensures { IfOk result (λ size. size ≡ bytes_in words.now) }
 {
@@ -81,7 +85,8 @@ fn bytes_of(words: &[FlatWord]) -> Result<u64, AllocError>
     Ok(size)
 }
 
-// The byte behind a word that begins at a byte. No block is so long that it were past all numbers.
+// The byte behind a word that begins at byte `at`. Want of memory is the answer where it were past
+// all numbers, which no block reaches.
 fn behind(at: u64, word: &FlatWord) -> Result<u64, AllocError>
     ensures { IfOk result (λ next. next ≡ at + word.now.width / 8) }
 {

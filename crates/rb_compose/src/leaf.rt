@@ -1,4 +1,7 @@
-//! Code that makes the words and the blocks of a leaf.
+//! Code that makes the words and the blocks of a leaf. A leaf holds some of a type's values, those
+//! that its provenance, a pattern, matches. An open position is a wildcard of that pattern, by its
+//! path from the root, and a subvalue is the value at one, in slots. Root words are those of the
+//! value itself; all others stand in blocks.
 
 ghost use Rattle.std.specs.Prelude.{◌≡◌, IfOk, OnOk};
 ghost use Rattle.rb_target.specs.Growth.{Grows};
@@ -13,8 +16,8 @@ use rb_layout::layout::{FlatWord, Leaf};
 use rb_target::body::Body;
 use std::alloc::{AllocError, Global};
 
-/// Code that makes a value of a leaf, of the subvalues at its open positions. Answers the slots of the value's
-/// words, which are new.
+/// Code that makes a value of a leaf, of `subs`, the subvalues at its open positions. Answers the
+/// slots of the value's words, in their order, which are new.
 ///
 /// # Errors
 ///
@@ -50,7 +53,7 @@ fn emit_words(
 }
 
 // Appends code that leaves the words of the value itself in new slots, one each, and answers these
-// in their order.
+// in their order. `blocks` has the slots of the addresses of the leaf's blocks.
 fn emit_roots(
     alloc: Global,
     body: &mut Body,

@@ -1,4 +1,5 @@
-//! Values at positions, in slots.
+//! Values at positions, in slots. A position is a path: field numbers from the root, which is
+//! itself the empty path.
 
 ghost use Rattle.std.specs.Prelude.{◌≡◌};
 ghost use Rattle.std.specs.Option.{option_copied};

@@ -1,4 +1,10 @@
-//! Code that composes a word of its parts.
+//! Code that composes a word of its parts. `subs` are the subvalues, values in slots, each with its
+//! path: field numbers from the root; a field here is what stands at such a path. `blocks` has the
+//! slots of the addresses of blocks, by their numbers. A part has the `l` bits from bit `o` of a
+//! word on. Its kind says what they hold: a constant; bits of the integer at a path; a word of the
+//! value of a data type at a path; or the address of a block, counted in units of its alignment. A
+//! part is ready where a slot holds it in its place and no other bit: an `or` sets it beside what
+//! the word has. Any other is put over it, into its range.
 
 ghost use Rattle.std.specs.Prelude.{◌≡◌, ◌≤◌, IfOk, OnOk, slice_index};
 ghost use Rattle.std.specs.Option.{option_copied};
@@ -67,7 +73,8 @@ pub(crate) fn emit_root(
     }
 }
 
-// Composes a word of its parts in a new slot: its constants, and the other parts set beside them and put over them.
+// Composes a word of its parts in a new slot, and answers the slot: its constants, and the other
+// parts set beside them and put over them.
 fn emit_word(
     body: &mut Body,
     parts: &[Part],
@@ -88,7 +95,7 @@ fn emit_word(
 }
 
 // Appends code that adds parts to the word in slot `into`, one after the other: each set beside
-// what stands there, or put over it.
+// what stands there, or put over it. Without parts there is no code.
 pub(crate) fn emit_parts(
     body: &mut Body,
     into: usize,
@@ -139,8 +146,8 @@ fn with_constant(word: u64, part: &Part) -> u64
     }
 }
 
-// Adds what a part holds to the word in a slot: beside the others where a slot holds the part in its place, else over
-// what stands there.
+// Adds what a part holds to the word in slot `into`: beside the others where a slot holds the part
+// in its place, else over what stands there.
 fn emit_part(
     body: &mut Body,
     into: usize,
@@ -158,8 +165,9 @@ fn emit_part(
     emit_kind(body, into, part, subs, blocks)
 }
 
-/// Whether a slot holds a part where it is to stand, and no other bit: a whole number or a word of a field from bit 0
-/// on, or an address whose alignment is the bit at which its part begins.
+/// Whether a slot holds a part where it is to stand, and no other bit: a whole number or a word of
+/// a field from bit 0 on, or an address whose alignment is, by `shift_of`, two to the power of the
+/// bit at which its part begins. Never a constant.
 pub(crate) fn is_ready(part: &Part, subs: &[Subvalue]) -> bool
     ensures { result ≡ is_ready subs.now part.now.o part.now.l part.now.kind }
 {
@@ -185,8 +193,8 @@ pub(crate) fn source_slot(kind: &Kind, subs: &[Subvalue], blocks: &[usize]) -> u
     }
 }
 
-// Puts what a part holds into the part's range of the word in a slot. A constant takes no code: it
-// is there already.
+// Puts what a part holds into the part's range of the word in slot `into`. A constant takes no
+// code: it is there already.
 fn emit_kind(
     body: &mut Body,
     into: usize,
@@ -214,7 +222,8 @@ fn emit_kind(
     }
 }
 
-// Puts bits of a slot into the range of a part.
+// Puts the `long` bits of slot `slot` from bit `from` on, or the low ones that fit, into the range
+// of `part` in slot `into`.
 fn emit_put(
     body: &mut Body,
     into: usize,
@@ -271,7 +280,8 @@ fn whole_part(part: Option<&Part>, subs: &[Subvalue]) -> Option<usize>
     }
 }
 
-// The slot of the field's word that a part of `l` bits, from bit 0 on, has whole, if it has one.
+// The slot of the field's word that a part of `l` bits, from bit 0 on, has whole; None where it has
+// none, as it is for a constant or an address, or has some bits of an integer only.
 fn whole_kind(l: u64, kind: &Kind, subs: &[Subvalue]) -> Option<usize>
     ensures { result ≡ slot_of subs.now (whole_kind subs.now l kind.now) }
 {

@@ -1,6 +1,10 @@
 -- The code of a leaf, instruction by instruction: its words composed, and its blocks placed and filled. It is
--- appended to a sheet b, the code so far. `hs` are the subvalues, and `blocks` the slots of the addresses of those
--- blocks that are placed already.
+-- appended to a sheet b, the code so far; b.slots is the number of the first slot that is new. `hs` are the
+-- subvalues, values in slots, each with its path: field numbers from the root. `blocks` are the slots of the
+-- addresses of those blocks that are placed already. A part has the l bits from bit o of a word on. Its kind says
+-- what they hold: a constant; bits of the integer at a path, from bit a on; word j of the value of a data type at a
+-- path; or the address of block x, counted in units of `align` bytes. A part is ready where a slot holds it in its
+-- place and no other bit: an `or` sets it beside what a word has. Any other is put over it, into its range.
 use Rattle.std.specs.Prelude.{ℕ, ◌+◌, ◌-◌, ◌/◌, ◌==◌, ◌&&◌, min, length, Bool, true, false, List, [], ◌∷◌, ◌++◌, Option, Some, None, slice_get, slice_index, if◌then◌else◌}
 use Rattle.rb_core.specs.declared.types.Ty.{Ty}
 use Rattle.rb_core.specs.declared.types.Ty.TheVariants.{Int, Named}
@@ -94,8 +98,9 @@ kind_code hs blocks d p (Word path j) b = put_code d (slice_index (field_slots h
 kind_code hs blocks d p (Pointer align x) b =
     put_code d (slice_index blocks x) (shift_of align) (64 - shift_of align) p b
 
--- whether a slot holds a part where it is to stand, and no other bit: a number or a word of a field from bit 0 on,
--- or an address whose alignment is the bit at which its part begins; never a constant
+-- whether a slot holds a part where it is to stand, and no other bit: a number or a word of a field from bit 0 on, or
+-- an address whose alignment is, by `shift_of`, two to the power of the bit at which its part begins; never a
+-- constant
 abbrev pub is_ready : List Subvalue → ℕ → ℕ → Kind → Bool
 is_ready hs o l (Const c) = false
 is_ready hs o l (Bits path a) = (o == 0 && a == 0) && is_int l (field_type hs path)
@@ -116,13 +121,13 @@ part_code hs blocks d p b =
     if is_ready hs p.o p.l p.kind then pushed b (I.Alu Or 64 d d (source_slot hs blocks p.kind))
     else kind_code hs blocks d p p.kind b
 
--- code that adds parts to the word in slot d, one after the other
+-- code that adds parts to the word in slot d, one after the other; none without parts
 abbrev pub parts_code : List Subvalue → List ℕ → ℕ → List Part → Sheet → Sheet
 parts_code hs blocks d [] b = b
 parts_code hs blocks d (p ∷ ps) b = parts_code hs blocks d ps (part_code hs blocks d p b)
 
--- code that makes, in a new slot, a word of what slot x holds and of parts. Where a slot holds the first part in its
--- place, it is set beside the other at once
+-- Code that makes, in a new slot, a word of what slot x holds and of parts. Where a slot holds the first part in its
+-- place, it is set beside the other at once; else, and without parts, the word begins as a copy.
 abbrev pub joined_code : List Subvalue → List ℕ → ℕ → List Part → Sheet → Sheet
 joined_code hs blocks x [] b = pushed (with_slot b) (I.Copy b.slots x)
 joined_code hs blocks x (p ∷ ps) b =
@@ -156,8 +161,8 @@ low_bit (Bits path a) = capped a
 low_bit (Word path j) = 0
 low_bit (Pointer align x) = 0
 
--- code that makes, in a new slot, a word whose constants are all 0: it begins as a part that a slot holds in its
--- place, or as bits of a number, or else as 0
+-- Code that makes, in a new slot, a word whose constants are all 0. It begins as its first part, where a slot holds
+-- that in its place, or where it is bits of a number from bit 0 on; else, and without parts, as 0.
 abbrev pub begun_code : List Subvalue → List ℕ → List Part → Sheet → Sheet
 begun_code hs blocks [] b = pushed (with_slot b) (I.Const b.slots 0)
 begun_code hs blocks (p ∷ ps) b =
@@ -201,7 +206,8 @@ slot_of hs (Some w) = Some (slice_index (field_slots hs w.0) w.1)
 abbrev pub whole_slot : List Subvalue → List Part → Option ℕ
 whole_slot hs parts = slot_of hs (whole_of hs parts)
 
--- code for a word to be stored: none where it stands in a slot already, else it is composed of its parts
+-- code for a word to be stored, where the slot is given, if any, in which it stands already: none then, else the word
+-- is composed of its parts
 abbrev pub value_code : Option ℕ → List Subvalue → List ℕ → List Part → Sheet → Sheet
 value_code None hs blocks parts b = word_code hs blocks parts b
 value_code (Some x) hs blocks parts b = b
@@ -215,7 +221,8 @@ abbrev pub value_slot : Option ℕ → ℕ → ℕ
 value_slot None n = n
 value_slot (Some x) n = x
 
--- code that leaves a root word in a slot of its own: copied from the one in which it stands already, or composed
+-- code that leaves a root word in a slot of its own, where the slot is given, if any, in which it stands already:
+-- copied from there, else composed of its parts
 abbrev pub root_code : Option ℕ → List Subvalue → List ℕ → List Part → Sheet → Sheet
 root_code None hs blocks parts b = word_code hs blocks parts b
 root_code (Some x) hs blocks parts b = pushed (with_slot b) (I.Copy b.slots x)
@@ -226,7 +233,8 @@ root_made hs blocks parts b = root_code (whole_slot hs parts) hs blocks parts b
 
 -- Blocks ---------------------------------------------------------------------------------------
 
--- words composed and stored one behind the other, from a byte on, in the block whose address is in slot a
+-- code that composes words and stores them one behind the other, from byte `at` on, in the block whose address is in
+-- slot a; none without words
 abbrev pub stores_code : List Subvalue → List ℕ → ℕ → List FlatWord → ℕ → Sheet → Sheet
 stores_code hs blocks a [] at b = b
 stores_code hs blocks a (f ∷ fs) at b =
@@ -247,7 +255,7 @@ blocks_code hs (x ∷ xs) blocks b = blocks_code hs xs (blocks ++ b.slots ∷ []
 
 -- The value ------------------------------------------------------------------------------------
 
--- code that leaves each of the root words in a slot of its own, in their order
+-- code that leaves each of the root words in a slot of its own, in their order; none without words
 abbrev pub roots_code : List Subvalue → List ℕ → List FlatWord → Sheet → Sheet
 roots_code hs blocks [] b = b
 roots_code hs blocks (f ∷ fs) b = roots_code hs blocks fs (root_made hs blocks f.parts b)
