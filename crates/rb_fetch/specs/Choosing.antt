@@ -1,5 +1,9 @@
--- What code that chooses the leaf of a construction owes. A way is where runs have come to one leaf: an open jump,
--- the leaf's number, and parts of the value in slots. What is shown of an argument is a pattern that it matches.
+-- What code that chooses the leaf of a construction owes. The arguments hs are values in slots, one a field of the
+-- constructor, and what is shown of one is a pattern that it matches. A way is where runs have come to one leaf: an
+-- open jump, the leaf's number, and parts of the value in slots; hole k is the jump of way k, to be set. An open
+-- position of a leaf is a wildcard of its provenance, the pattern of the values that it holds. A representation is
+-- clean where all bits are 0 that stand in no part of a word. A plan has a program and its layouts, and a sheet is a
+-- function's code so far.
 use Rattle.std.specs.Prelude.{◌≡◌, ℕ, List, map, Bool, true, Some, slice_get}
 use Rattle.rb_core.specs.declared.value.Value.{Value, Con}
 use Rattle.rb_core.specs.declared.types.Ty.{Ty}
@@ -34,8 +38,9 @@ pub record IsWay (plan : Plan) (layout : Layout) (n : ℕ) (way : Way) : Type 0 
   pub is_leaf : slice_get layout.leaves way.leaf ≡ Some leaf
   pub given : AreGivenAt plan n (open_positions plan.program.types leaf.prov) way.fields
 
--- Of the arguments one way follows, which is of the construction's leaf: where slots represent the arguments, the
--- run leaves by that way's hole, and slots represent, as cleanly, the parts at the leaf's open positions.
+-- For the arguments vs there is one way, which is of the construction's leaf: where the slots of hs represent them,
+-- the run leaves by that way's hole, and slots represent, as cleanly, the parts at the leaf's open positions. It does
+-- no more switches than `choose_of` counts for the constructor.
 pub record TakesWay (plan : Plan) (layout : Layout) (con : ConRef) (hs : List Held) (old new : Sheet)
     (choices : Choices) (vs : List Value) : Type 0 where
   pub number : ℕ
@@ -47,8 +52,8 @@ pub record TakesWay (plan : Plan) (layout : Layout) (con : ConRef) (hs : List He
       (λ k s m. (k ≡ number) × AreHeld plan clean s m hs vs)
       (λ k s m. ArePartsHeld plan clean s m (open_positions plan.program.types leaf.prov) way.fields (Con con.con vs))
 
--- The appended code looks into the arguments of a construction until its leaf is known, where each argument matches
--- the pattern that is shown of it.
+-- The code from old to new looks into the arguments hs of a construction by con until its leaf is known, where each
+-- argument matches the pattern that is shown of it: it takes them to a way of that leaf, one of the layout.
 pub record Chooses (plan : Plan) (layout : Layout) (con : ConRef) (hs : List Held) (shown : List Pat)
     (old new : Sheet) (choices : Choices) : Type 0 where
   pub adds : Adds plan old new

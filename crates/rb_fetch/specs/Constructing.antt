@@ -1,4 +1,7 @@
--- What code that constructs a value owes.
+-- What code that constructs a value owes. The arguments hs are values in slots, one a field of the constructor, and
+-- what is shown of one is a pattern that it matches; a wildcard shows nothing. A representation is clean where all
+-- bits are 0 that stand in no part of a word. A plan has a program and its layouts, and a sheet is a function's code
+-- so far.
 use Rattle.std.specs.Prelude.{◌≡◌, ℕ, ◌+◌, ◌≤◌, List, map, length, Bool, Some}
 use Rattle.rb_core.specs.declared.value.Value.{Value, Con}
 use Rattle.rb_core.specs.declared.types.Ty.{Ty}
@@ -23,9 +26,9 @@ use Rattle.rb_compose.specs.Making.{MakesValue}
 use Rattle.rb_fetch.specs.Choosing.{AreAsShown}
 use Rattle.rb_fetch.specs.Finding.{IsPlanOf}
 
--- The appended code makes the value of the constructor from values that are held, one a field, and as cleanly as
--- these are, in new slots: of values that match the patterns that are shown of them. It does at most as many
--- switches as choosing the value's leaf takes.
+-- The code from old to new makes the value of constructor con from the arguments hs, and as cleanly as these are, in
+-- the slots of `held`, which are new: of arguments that match the patterns that are shown of them. It does at most as
+-- many switches as choosing the value's leaf takes.
 pub record IsConstructed (plan : Plan) (con : ConRef) (hs : List Held) (shown : List Pat) (old new : Sheet)
     (held : Held) : Type 0 where
   pub kind : held.ty ≡ Named con.ty

@@ -1,5 +1,8 @@
 -- What code that fetches owes: it leaves in a slot what stands at a location. A location is a range of bits of one of
--- a value's words, or of a word that steps load: each takes an address from the range before it.
+-- a value's words, or of a word that steps load: each takes an address from the range before it. It resolves in a
+-- leaf where it ends in one of the leaf's words. A read is a number that code can make from slots and loads; it means
+-- that number, over slots s and memory m. A plan has a program and its layouts, and a sheet is a function's code so
+-- far.
 use Rattle.std.specs.Prelude.{◌≡◌, ℕ, ◌^◌, ◌<◌, ◌≤◌, List, [], ◌∷◌, Bool, Some, length, slice_get, slice_index}
 use Rattle.rb_core.specs.declared.value.Value.{Value}
 use Rattle.rb_core.specs.declared.layout_decl.Loc.{Loc}
@@ -35,8 +38,8 @@ StepsFit o l (s ∷ steps) = IsRange o l × (s.byte ≤ 511) × IsWidth s.width 
 abbrev pub LocFits : Loc → Type 0
 LocFits loc = StepsFit loc.o loc.l loc.steps
 
--- the appended code leaves a number in a slot wherever Is says of the words in some slots which one it is,
--- and keeps all slots that there were
+-- the code from old to new leaves a number in `slot`, wherever Is says which one it is, of the words in the slots
+-- `words` and the memory, and keeps all slots that there were
 pub record Fetches (plan : Plan) (words : List ℕ) (Is : List ℕ → Memory → ℕ → Type 0) (old new : Sheet)
     (slot : ℕ) : Type 0 where
   pub adds : Adds plan old new
@@ -59,8 +62,8 @@ FetchesLoc words loc old new slot =
 abbrev pub AreSmall : List ℕ → List ℕ → Type 0
 AreSmall widths ws = (j width w : ℕ) → slice_get widths j ≡ Some width → slice_get ws j ≡ Some w → w < 2 ^ width
 
--- The appended code leaves in a slot the number at a location, wherever the reads mean words of these widths at which
--- the location comes to a number, and keeps all slots that there were.
+-- The code from old to new leaves in `slot` the number at a location, wherever the reads `words` mean words of these
+-- widths at which the location comes to a number, and keeps all slots that there were.
 pub record FetchesMeant (plan : Plan) (words : List Read) (widths : List ℕ) (loc : Loc) (old new : Sheet)
     (slot : ℕ) : Type 0 where
   pub adds : Adds plan old new
@@ -78,7 +81,8 @@ FetchesAt words widths loc old new slot =
 
 -- Represented values ---------------------------------------------------------------------------
 
--- the words represent a value of the type, in whose leaf the location comes to a word, of which these are the bits
+-- the words ws represent, over memory m, a value of type t, in whose leaf the location comes to a word, of which
+-- `bits` are the bits that the location says
 pub record AreBitsAt (plan : Plan) (t : ℕ) (loc : Loc) (ws : List ℕ) (m : Memory) (bits : ℕ) : Type 0 where
   pub clean : Bool
   pub value : Value
@@ -89,7 +93,7 @@ pub record AreBitsAt (plan : Plan) (t : ℕ) (loc : Loc) (ws : List ℕ) (m : Me
   pub stands : WordStands made.leaf ws m clean made.subs made.ats reached.ref reached.word found
   pub are_bits : bits ≡ take_of found reached.o reached.l
 
--- a typed program with layouts that agree
+-- the plan has a typed program, with layouts that agree with its types
 pub record PlanIsSound (plan : Plan) : Type 0 where
   pub typed : IsTyped plan.program
   pub agreed : AreAgreed plan.program plan.layouts

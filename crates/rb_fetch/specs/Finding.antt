@@ -1,7 +1,9 @@
 -- What code that finds a value's leaf owes. It leaves by holes: a hole is a target of a jump or switch that is still
 -- open, and its `leaf` is the number of the leaf, or of the group of leaves, to which it leads. A list of groups has
--- at each leaf's number that of its group, or None; past its end a leaf has no group either. A plan has a program and
--- its layouts.
+-- at each leaf's number that of its group, or None; past its end a leaf has no group either. The leaf is found by a
+-- tree of splits, each of which is a switch on bits of the value's words; for groups the tree is pruned, so that no
+-- split is left that tells nothing apart. A read is a number that code can make from slots and loads; it means that
+-- number, over slots s and memory m. A plan has a program and its layouts, and a sheet is a function's code so far.
 use Rattle.std.specs.Prelude.{◌≡◌, ℕ, List, Bool, Option, Some, None, length}
 use Rattle.rb_core.specs.declared.value.Value.{Value}
 use Rattle.rb_core.specs.declared.types.Ty.TheVariants.{Named}
@@ -30,7 +32,7 @@ pub record HasLeaf (plan : Plan) (t n : ℕ) (ws : List ℕ) (m : Memory) : Type
   pub represents : Rep plan m clean (Named t) value ws
   pub is_leaf : leaf_of layout value ≡ Some n
 
--- the plan of an agreed program
+-- the plan is one of the agreed program: it has this program, and the layouts that agree with it
 pub record IsPlanOf (agreed : LaidOut) (plan : Plan) : Type 0 where
   pub program : plan.program ≡ agreed.covered.program
   pub layouts : plan.layouts ≡ agreed.layouts

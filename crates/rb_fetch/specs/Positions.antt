@@ -1,5 +1,7 @@
 -- Positions of the provenances of leaves: what stands there, and what it takes to rebuild it. A provenance is the
--- pattern of the values that a leaf holds, and a position of it is a path: field numbers from the root.
+-- pattern of the values that a leaf holds, and a position of it is a path: field numbers from the root. The leaf
+-- holds the part at a wildcard whole. A part at a constructor is rebuilt: constructed again of its fields, by code
+-- that chooses a leaf for it with switches. A plan has a program and its layouts.
 use Rattle.std.specs.Prelude.{◌≡◌, ℕ, List, [], ◌∷◌, Option, Some, None, slice_get}
 use Rattle.std.specs.List.{sum_by}
 use Rattle.rb_core.specs.declared.types.Ty.{Ty}
@@ -29,7 +31,7 @@ pub record PositionAt (plan : Plan) (t n : ℕ) (path : List ℕ) (ty : Ty) : Ty
   pub is_leaf : slice_get layout.leaves n ≡ Some leaf
   pub is_position : found_at plan.program.types (Some (leaf.prov, Named t)) path ≡ Some (pat, ty)
 
--- the switches that rebuild a value of what stands at the wildcards of its pattern: for each constructor
--- those that choose the leaf of its construction
+-- the switches that rebuild a value of what stands at the wildcards of its pattern: for each constructor of the
+-- pattern those that choose the leaf of its construction; 0 where it has none
 abbrev pub mend_under : List Layout → Pat → ℕ
 mend_under layouts pat = sum_by (λ (h : Head). choose_of layouts h.con.ty h.con.con) (heads_of pat)

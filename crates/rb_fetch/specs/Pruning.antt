@@ -1,5 +1,7 @@
--- Trees of splits whose leaves form groups: below a split that leads one way alone there is no choice, and it is left
--- out. Groups are given leaf by leaf, none for a leaf that can't be here. A pruned tree has groups for leaves.
+-- Trees of splits whose leaves form groups. A split tests the bits at a location of a value's words: an arm leads to
+-- the tree below it where they are its literal, and the else, if there is one, where no arm has them. Below a split
+-- that leads one way alone there is no choice, and it is left out. Groups are given leaf by leaf, none for a leaf
+-- that can't be here. A pruned tree has groups for leaves.
 use Rattle.std.specs.Prelude.{◌≡◌, ℕ, ◌<◌, ◌≤◌, ◌==◌, ◌&&◌, List, [], ◌∷◌, Bool, true, false, Option, Some, None, slice_get, if◌then◌else◌}
 use Rattle.rb_core.specs.declared.layout_decl.Loc.{Loc}
 use Rattle.rb_bytes.specs.Memory.{Memory}
@@ -71,13 +73,15 @@ shared_group (a ∷ arms) other = agreed_group (group_of a.under) arms other
 
 -- Pruning ---------------------------------------------------------------------------------------
 
--- a split with these arms and no else; of one arm alone what stands below it, and none where there is no arm
+-- a split of the bits at a location, with these arms and no else; of one arm alone what stands below it, and none
+-- where there is no arm
 abbrev pub few_of : Loc → List FlatArm → Option FlatTree
 few_of loc [] = None
 few_of loc (a ∷ []) = Some a.under
 few_of loc (a ∷ b ∷ arms) = Some (Flat.Split loc (a ∷ b ∷ arms) None)
 
--- a split with these arms and perhaps an else; where one way alone is left what stands there, and none where none is
+-- a split of the bits at a location, with these arms and perhaps an else; where one way alone is left what stands
+-- there, and none where none is
 abbrev pub kept_of : Loc → List FlatArm → Option FlatTree → Option FlatTree
 kept_of loc arms None = few_of loc arms
 kept_of loc [] (Some t) = Some t
@@ -88,8 +92,8 @@ abbrev pub joined_with : Option ℕ → Loc → List FlatArm → Option FlatTree
 joined_with None loc arms other = kept_of loc arms other
 joined_with (Some g) loc arms other = Some (Flat.Leaf g)
 
--- what is left of a split with these arms and perhaps an else, which are pruned already: the leaf of a group where
--- all of them lead to it
+-- what is left of a split of the bits at a location, with these arms and perhaps an else, which are pruned already:
+-- the leaf of a group where all of them lead to it
 abbrev pub joined_of : Loc → List FlatArm → Option FlatTree → Option FlatTree
 joined_of loc arms other = joined_with (shared_group arms other) loc arms other
 

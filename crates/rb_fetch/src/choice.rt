@@ -1,4 +1,7 @@
-//! The choice of a construction's leaf.
+//! The choice of a construction's leaf: of the leaves of its type's layout, the one that holds the
+//! value. A look is code that finds the leaf of an argument, or of a part of one. A hole is a jump
+//! that is still open. An open position of a leaf is a wildcard of its provenance, the pattern of
+//! the values that it holds.
 
 ghost use Rattle.std.specs.Prelude.{IfOk, OnOk, length};
 ghost use Rattle.rb_target.specs.Growth.{Grows};
@@ -32,9 +35,10 @@ pub struct Choices {
     pub ways: Seq<Way>,
 }
 
-/// Code that looks into the arguments of a construction until its leaf is known: it leaves by the hole of
-/// a way to that leaf. The arguments are in slots, one a field of the constructor, and each matches the pattern
-/// that is shown of it. What these patterns decide costs no look.
+/// Code that looks into the arguments of a construction by `con` until its leaf is known: it leaves
+/// by the hole of a way to that leaf. The arguments `args` are in slots, one a field of the
+/// constructor, and each matches the pattern that is `shown` of it, a wildcard where nothing is
+/// known. What these patterns decide costs no look.
 ///
 /// # Errors
 ///

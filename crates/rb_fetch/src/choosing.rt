@@ -1,7 +1,11 @@
-//! Looks into the arguments of a construction, one behind the other, until its leaf is known. A part whose leaf
-//! follows from what is known takes no look. The fields of a part whose leaf is known are fetched. Those that the
-//! leaf has taken apart are rebuilt, by constructions of their own, so that the calls here go in a circle. Each
-//! takes one off `depth`.
+//! Looks into the arguments of a construction, one behind the other, until its leaf is known. A
+//! position is a path, field numbers from the root, and a place is one at which the provenance of a
+//! leaf, the pattern of the values that it holds, has a constructor. A look is code that finds the
+//! leaf of the part at a place. A way is where runs have come to one leaf of the whole: an open
+//! jump, the leaf's number, and parts in slots. A part whose leaf follows from what is known takes
+//! no look. The fields of a part whose leaf is known are fetched. Those that the leaf has taken
+//! apart, of which it has only the fields, are rebuilt, by constructions of their own, so that the
+//! calls here go in a circle. Each takes one off `depth`.
 
 ghost use Rattle.std.specs.Prelude.{◌≡◌, IfOk, OnOk, length, take};
 ghost use Rattle.rb_target.specs.Growth.{Grows};
@@ -71,14 +75,17 @@ pub(crate) struct Source<'a> {
     pub words: &'a [usize],
 }
 
-// The code of the leaves of a part: where that of each begins, and all ways out.
+// The code of the leaves of a part: the numbers of the instructions at which that of each leaf
+// begins, and all ways out.
 #[derive(Drop)]
 struct Branches {
     starts: Seq<usize>,
     ways: Seq<Way>,
 }
 
-// The end of a way: its leaf is the first of those that can still be here, and all is looked at.
+// The end of a way: its leaf, number `leaf` of type `ty`, is the first of those that can still be
+// here, and all is looked at. The code is an open jump, and the way has all of `parts`. Want of
+// memory is the answer where there is no such leaf, or a part at an open position of it is missing.
 fn end_way(
     alloc: Global,
     body: &mut Body,
@@ -100,7 +107,7 @@ fn end_way(
     Ok(Way { pc, leaf, fields })
 }
 
-// The open jumps of ways, each with the number of its way in place of a leaf.
+// The open jumps of ways, each with the number of its way, from 0 on, in place of a leaf.
 fn holes_of(alloc: Global, ways: &[Way]) -> Result<Seq<Hole>, AllocError>
     ensures { IfOk result (λ holes. holes ≡ holes_from 0 ways.now) }
 {
@@ -115,11 +122,13 @@ fn holes_of(alloc: Global, ways: &[Way]) -> Result<Seq<Hole>, AllocError>
     Ok(holes)
 }
 
-/// What `choose_leaf` appends, where `depth` calls may be nested still; want of memory at 0.
+/// What `choose_leaf` appends, where `depth` calls may be nested still: code that looks into the
+/// arguments `args`, which are in slots and match the patterns `shown`, until the leaf of the
+/// construction by `con` is known, and leaves by the hole of a way to that leaf.
 ///
 /// # Errors
 ///
-/// Want of memory.
+/// Want of memory; the same answer at a `depth` of 0.
 #[cycle(fetching)]
 pub(crate) fn choose_leaf_at(
     alloc: Global,
@@ -482,11 +491,12 @@ fn fetch_parts(
     Ok(args)
 }
 
-/// What `construct` appends, where `depth` calls may be nested still; want of memory at 0.
+/// What `construct` appends, where `depth` calls may be nested still: code that makes the value of
+/// the constructor `con`, of the values `args`, which are in slots and match the patterns `shown`.
 ///
 /// # Errors
 ///
-/// Want of memory.
+/// Want of memory; the same answer at a `depth` of 0, and where the type has no layout.
 #[cycle(fetching)]
 pub(crate) fn construct_at(
     alloc: Global,

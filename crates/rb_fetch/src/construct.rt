@@ -1,4 +1,7 @@
-//! Code that constructs a value of its fields.
+//! Code that constructs a value of its fields. A way is where runs have come to one leaf of the
+//! value's layout: an open jump, the leaf's number, and parts of the value in slots; a hole is such
+//! a jump. The arm of a way is the code behind it, which makes the value in that leaf. The arms
+//! meet behind the last one, with the value in the slots in which the first one has it.
 
 ghost use Rattle.std.specs.Prelude.{◌≡◌, ℕ, Some, IfOk, OnOk, length};
 ghost use Rattle.std.specs.Option.{option_copied};
@@ -29,8 +32,9 @@ use rb_target::body::{Body, Hole};
 use rb_target::instr::Instr;
 use std::alloc::{AllocError, Global};
 
-/// Code that constructs a value by a constructor, of values that are held, one a field. Each matches the pattern
-/// that is shown of it; a wildcard shows nothing.
+/// Code that constructs a value by the constructor `con`, of the values `args`, which are in slots,
+/// one a field. Each matches the pattern that is `shown` of it; a wildcard shows nothing. `agreed`
+/// has the program and its layouts. Answers the value, in new slots.
 ///
 /// # Errors
 ///
@@ -51,7 +55,9 @@ pub fn construct(
     Ok(held)
 }
 
-// The first leaf for a constructor, where it takes no field apart: it is the leaf of all its values then.
+// The first of `leaves` for the values of a constructor, by number, where its provenance has no
+// constructor below its root: it is the leaf of all its values then. None where it has one there,
+// and where no leaf is for the constructor.
 pub(crate) fn alone(alloc: Global, leaves: &[Leaf], con: u32) -> Result<Option<&Leaf>, AllocError>
     ensures { IfOk result (λ found. (leaf : LeafValue) → option_copied found ≡ Some leaf
         → IsAlone con leaves.now leaf) }
@@ -89,14 +95,15 @@ pub(crate) fn emit_alone(
     })
 }
 
-// Where an arm leaves its words, and its open jump to where all arms meet.
+// The slots in which an arm leaves its words, and its open jump to where all arms meet.
 #[derive(Drop)]
 struct Met {
     into: Seq<usize>,
     join: Hole,
 }
 
-// Arms, one behind the other: where they leave their words once there is one, their open jumps, and where they begin.
+// Arms, one behind the other: the slots in which they leave their words, once there is an arm,
+// their open jumps, and the numbers of the instructions at which they begin.
 #[derive(Drop)]
 struct Arms {
     into: Option<Seq<usize>>,
@@ -104,9 +111,9 @@ struct Arms {
     starts: Seq<usize>,
 }
 
-// Code behind the choice of a leaf: one arm a way, which makes the value in the leaf of its way.
-// All meet behind the last one, with the value in the same slots. Want of memory is the answer
-// where there are no ways.
+// Code behind the choice of a leaf: one arm a way, which makes the value in the leaf of its way;
+// `leaves` are all those of the type's layout. All meet behind the last one, with the value in the
+// same slots. Want of memory is the answer where there are no ways.
 pub(crate) fn emit_ways(
     alloc: Global,
     body: &mut Body,
@@ -141,6 +148,7 @@ pub(crate) fn emit_ways(
 }
 
 // The arms of the ways, one behind the other, each with its words in the slots of the first one.
+// `leaves` are those of the layout of type `ty`. Without ways there is no code.
 fn emit_arms(
     alloc: Global,
     body: &mut Body,
@@ -168,8 +176,9 @@ fn emit_arms(
     })
 }
 
-// One arm: it makes the leaf of its way and leaves the words where the arms before it left theirs;
-// those of the first arm stay in their own slots.
+// One arm: it makes the leaf of its way and leaves the words in the slots `into`, where the arms
+// before it left theirs; those of the first arm, for which there is no `into`, stay in their own
+// slots. Want of memory is the answer where `leaves` have no leaf of the way's number.
 fn emit_arm(
     alloc: Global,
     body: &mut Body,
@@ -190,7 +199,8 @@ fn emit_arm(
     Ok(met)
 }
 
-// Behind an arm's words: they go to where the arms before it left theirs. Then comes an open jump.
+// Behind an arm's words, which are in `slots`: they go to the slots `into`, where the arms before
+// it left theirs, or stay where it is the first. Then comes an open jump.
 fn emit_meeting(
     body: &mut Body,
     into: Option<Seq<usize>>,
@@ -209,8 +219,8 @@ fn emit_meeting(
     Ok(Met { into, join })
 }
 
-// The words of the first arm stay in their slots, and those of the others are copied there. Answers
-// the slots that have them then.
+// The words of the first arm, for which there is no `into`, stay in their slots, and those of the
+// others are copied to the slots `into`. Answers the slots that have them then.
 fn emit_moved(
     body: &mut Body,
     into: Option<Seq<usize>>,

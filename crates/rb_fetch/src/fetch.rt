@@ -1,4 +1,6 @@
-//! Code that reads the bits at a location.
+//! Code that reads the bits at a location: a range of bits of one of a value's words, or of a word
+//! that the location's steps load, each from an address in the range before it. A read is a number
+//! that code can make from slots and loads. So the words need not stand in slots.
 
 ghost use Rattle.std.specs.Prelude.{◌≡◌, IfOk, OnOk, slice_get};
 ghost use Rattle.rb_target.specs.Growth.{Grows};
@@ -11,7 +13,8 @@ use rb_fragment::reads::{Read, slot_reads};
 use rb_target::body::Body;
 use std::alloc::{AllocError, Global};
 
-/// Code that reads the bits at a location, from the words in some slots. Answers the slot that holds them.
+/// Code that reads the bits at a location, from the words of a value, which stand in the slots
+/// `words`. Answers the slot that holds them, from its bit 0 on.
 ///
 /// # Errors
 ///
@@ -33,7 +36,7 @@ pub fn fetch_loc(
 
 /// Code that reads the bits at a location, from reads of the words, which may stand in memory
 /// still. Answers the slot that holds them. A word has at most so many bits as stand in its place
-/// among the widths, where one does.
+/// in `widths`; where that list ends before, nothing is known of it.
 ///
 /// # Errors
 ///
@@ -54,7 +57,8 @@ pub(crate) fn fetch_bits(
     Ok(slot)
 }
 
-// How many bits a word has at most: what stands in its place among the widths, if anything does.
+// How many bits a word has at most, by its number: what stands in its place in `widths`; None where
+// the list ends before.
 fn width_at(widths: &[u64], word: u64) -> Option<u64>
     ensures { result ≡ slice_get widths.now word }
 {

@@ -1,4 +1,8 @@
-//! Fields of represented values: what their words are, and code that makes them.
+//! Fields of represented values: what their words are, and code that makes them. A provenance is
+//! the pattern of the values that a leaf holds. A position is a path, field numbers from the root.
+//! It is open where the provenance has a wildcard: the leaf's words have the part there. A read is
+//! a number that code can make from slots and loads. `agreed` has the program and its layouts, `ty`
+//! is a data type by number, and `leaf` a leaf by its number in the layout of that type.
 
 ghost use Rattle.std.specs.Prelude.{◌≡◌, Some, IfOk, IfSome, OnOk, slice_get};
 ghost use Rattle.std.specs.Option.{option_copied};
@@ -21,8 +25,9 @@ use rb_rel::words::word_count;
 use rb_target::body::Body;
 use std::alloc::{AllocError, Global};
 
-/// What the words of a field are: reads over reads of the words of a value of a leaf. The path is an open
-/// position of the leaf's provenance.
+/// What the words of a field are: reads over `words`, the reads of the words of a value of the
+/// leaf. The path is an open position of the leaf's provenance. There are none where there is no
+/// such leaf, or where nothing stands at the path.
 ///
 /// # Errors
 ///
@@ -57,7 +62,7 @@ pub fn field_reads(
     }
 }
 
-// The leaf with this number in a type's layout, if there is one.
+// The leaf with this number in a type's layout; None where there is none.
 fn leaf_at(layouts: &[Layout], ty: u32, leaf: usize) -> Option<&Leaf>
     ensures { option_copied result ≡ fields.leaf_at layouts.now ty leaf }
 {
@@ -109,13 +114,15 @@ fn word_read(
     }
 }
 
-/// Code that leaves the part of a value at a position of its leaf's provenance in slots, from the slots of the
-/// value's words. At a wildcard that takes no switch. At a constructor the part is rebuilt in its own type's
-/// layout, which places no block. At the root it is the value itself.
+/// Code that leaves the part of a value at a position of its leaf's provenance in slots, from
+/// `words`, the slots of the value's words. At a wildcard that takes no switch. At a constructor
+/// the part is rebuilt in its own type's layout, which places no block. At the root it is the value
+/// itself.
 ///
 /// # Errors
 ///
-/// Want of memory.
+/// Want of memory; below the root, the same answer where there is no such leaf, or no wildcard or
+/// constructor at the position.
 pub fn fetch_field(
     alloc: Global,
     body: &mut Body,

@@ -1,4 +1,9 @@
-//! The constructors below the root of a provenance, and what they say of leaves that can be here.
+//! The constructors below the root of a provenance, and what they say of leaves that can be here. A
+//! provenance is the pattern of the values that a leaf holds. A position is a path, field numbers
+//! from the root. A leaf can be here where the value may still have it. It takes a part apart where
+//! its provenance has a constructor at the part's position: it holds the part's fields alone. `ty`
+//! is a data type by number, `leaf` and `leaves` are leaves by their numbers in the layout of that
+//! type, and `con` of type `u32` is a constructor by number in its own type. `path` is a position.
 
 ghost use Rattle.std.specs.Prelude.{◌≡◌, ◌++◌, ◌∷◌, [], map, IfOk, MatchOption, OnOk, slice_get};
 ghost use Rattle.std.specs.Option.{option_copied};
@@ -23,7 +28,8 @@ pub(crate) struct Place {
     pub con: ConRef,
 }
 
-/// The position of a field of the part at a position: one field number more.
+/// The position of a field, by its number, of the part at a position: one field number more. A
+/// field number past those of 32 bits is answered by want of memory.
 ///
 /// # Errors
 ///
@@ -40,8 +46,8 @@ pub(crate) fn field_path(
     Ok(longer)
 }
 
-// Adds the constructors of a pattern that stands at a path, at their positions in the whole: outer
-// ones before inner ones and from left to right.
+// Adds to `out` the constructors of a pattern that stands at a path, at their positions in the
+// whole: outer ones before inner ones and from left to right.
 #[cycle(heads)]
 fn add_heads(
     alloc: Global,
@@ -65,7 +71,8 @@ fn add_heads(
     }
 }
 
-// Adds the constructors of subpatterns, one a field, of a pattern that stands at a path.
+// Adds to `out` the constructors of subpatterns, one a field, of a pattern that stands at a path,
+// at their positions in the whole.
 #[cycle(heads)]
 fn add_heads_below(
     alloc: Global,
@@ -83,8 +90,9 @@ fn add_heads_below(
     Ok(())
 }
 
-/// The constructors below the root of the provenance of a part's leaf, at their positions in the whole: outer ones
-/// before inner ones and from left to right.
+/// The constructors below the root of the provenance of `leaf`, the leaf of the part at `path`, at
+/// their positions in the whole: outer ones before inner ones and from left to right; none where
+/// the provenance has none there.
 ///
 /// # Errors
 ///
@@ -120,7 +128,8 @@ pub(crate) fn heads(alloc: Global, leaf: &Leaf) -> Result<Seq<Place>, AllocError
     Ok(found)
 }
 
-/// The constructors of patterns, one a field of a construction, at their positions in the whole.
+/// The constructors of the patterns `pats`, one a field of a construction, at their positions in
+/// the construction: outer ones before inner ones and from left to right.
 ///
 /// # Errors
 ///
@@ -141,7 +150,8 @@ fn is_bare(types: &[DataDecl], con: ConRef) -> bool
     types_of_fields(types, con).len() == 0
 }
 
-/// The positions of those constructors that have no fields.
+/// The positions of those of the constructors `places` that have no fields, in their order. `types`
+/// are the declarations of the data types.
 ///
 /// # Errors
 ///
@@ -162,7 +172,7 @@ pub(crate) fn bare_paths(
     Ok(paths)
 }
 
-// Whether a position is one of these.
+// Whether a position is one of `paths`.
 fn is_among(paths: &[Seq<u32>], path: &[u32]) -> bool
     ensures { result ≡ is_among paths.now path.now }
 {
@@ -174,8 +184,8 @@ fn is_among(paths: &[Seq<u32>], path: &[u32]) -> bool
     false
 }
 
-/// The first constructor whose position is not among those that need no look any more, if there is
-/// one: the next look goes there.
+/// The first of the constructors `places` whose position is not in `looked`, those that need no
+/// look any more: the leaf of the part there is asked for next. None where all are in it.
 pub(crate) fn next_place<'a>(places: &'a [Place], looked: &[Seq<u32>]) -> Option<&'a Place>
     ensures { MatchOption result (are_looked_at looked.now places.now)
         (λ place. IsNext looked.now places.now place.now) }
@@ -188,7 +198,8 @@ pub(crate) fn next_place<'a>(places: &'a [Place], looked: &[Seq<u32>]) -> Option
     None
 }
 
-// Whether no other constructor than this one stands at a position; true where none stands there.
+// Whether no other constructor than this one, by number, stands at a position among `places`; true
+// where none stands there.
 fn can_be(places: &[Place], path: &[u32], con: u32) -> bool
     ensures { result ≡ can_be path.now con (shown_heads places.now) }
 {
@@ -202,7 +213,7 @@ fn can_be(places: &[Place], path: &[u32], con: u32) -> bool
     true
 }
 
-/// The leaf with this number in a type's layout, if there is one.
+/// The leaf with this number in a type's layout; None where there is none.
 pub(crate) fn leaf_at(layouts: &[Layout], ty: u32, leaf: usize) -> Option<&Leaf>
     ensures { option_copied result ≡ leaf_at layouts.now ty leaf }
 {
@@ -233,8 +244,8 @@ fn can_be_leaf(
     }
 }
 
-/// The leaves of some that can still be here where this constructor stands at a position: those whose
-/// provenances have it there, or none.
+/// Those of `leaves` that can still be here where this constructor stands at a position, in their
+/// order: those whose provenances have it there, or none.
 ///
 /// # Errors
 ///
@@ -258,7 +269,8 @@ pub(crate) fn leaves_with(
     Ok(kept)
 }
 
-/// The leaves of some that can still be here where each of these constructors stands at its position.
+/// Those of `leaves` that can still be here where each of the constructors `places` stands at its
+/// position, in their order: all of them without constructors.
 ///
 /// # Errors
 ///
@@ -280,7 +292,7 @@ pub(crate) fn leaves_beside(
     Ok(kept)
 }
 
-// Whether one of these constructors stands at a position.
+// Whether one of the constructors `places` stands at a position.
 fn stands_at(places: &[Place], path: &[u32]) -> bool
     ensures { result ≡ stands_at path.now (shown_heads places.now) }
 {
@@ -312,7 +324,8 @@ fn takes_apart(
     }
 }
 
-/// Whether one of some leaves takes the part at a position apart: its provenance has a constructor there.
+/// Whether one of `leaves` takes the part at a position apart: its provenance has a constructor
+/// there. False without leaves.
 ///
 /// # Errors
 ///

@@ -1,4 +1,8 @@
-//! What is known of a value on a way to its leaf, and the leaf of a part where that is enough to tell it.
+//! What is known of a value on a way to its leaf, and the leaf of a part where that is enough to
+//! tell it. A position is a path, field numbers from the root. A look is code that finds the leaf
+//! of the part at a position. A provenance is the pattern of the values that a leaf holds. A
+//! `Place` is a constructor with its position. A leaf can be here where the value may still have
+//! it; leaves are numbers in the layout of a data type `ty`.
 
 ghost use Rattle.std.specs.Prelude.{◌≡◌, ◌++◌, [], IfOk, OnOk, map};
 ghost use Rattle.std.specs.Option.{option_copied};
@@ -66,7 +70,8 @@ pub(crate) fn below_leaf(
     Ok(Below { root, heads, kept })
 }
 
-/// Adds that a look was at a position, and constructors that stand in the value. Those without fields need no look.
+/// Adds to `seen` that a look was at the position `path`, and that the constructors `places` stand
+/// in the value. Those without fields need no look. `types` are the declarations of the data types.
 ///
 /// # Errors
 ///
@@ -100,8 +105,8 @@ pub(crate) fn forget(seen: &mut Seen, looked: usize, known: usize)
     seen.known.truncate(known);
 }
 
-// A position as seen from one above it, or from itself; none where it neither is that one nor
-// stands below it.
+// The position `path` as seen from `above`, a position above it, or from itself; None where it
+// neither is that one nor stands below it.
 fn behind<'a>(above: &[u32], path: &'a [u32]) -> Option<&'a [u32]>
     ensures { option_copied result ≡ behind above.now path.now }
 {
@@ -120,8 +125,8 @@ fn behind<'a>(above: &[u32], path: &'a [u32]) -> Option<&'a [u32]>
     }
 }
 
-// Adds a constructor at its position as seen from `path`, if it stands there or below; else
-// nothing.
+// Adds to `out` a constructor at its position as seen from `path`, if it stands there or below;
+// else nothing.
 fn add_behind(
     alloc: Global,
     place: &Place,
@@ -144,8 +149,8 @@ fn add_behind(
     }
 }
 
-// Those of the constructors that stand at a position or below it, at their positions as seen from
-// there.
+// Those of the constructors `known` that stand at the position `path` or below it, at their
+// positions as seen from there, in their order.
 fn heads_behind(alloc: Global, known: &[Place], path: &[u32]) -> Result<Seq<Place>, AllocError>
     ensures { IfOk result (λ found. shown_heads found ≡ heads_behind path.now (shown_heads known.now)) }
 {
@@ -156,7 +161,8 @@ fn heads_behind(alloc: Global, known: &[Place], path: &[u32]) -> Result<Seq<Plac
     Ok(found)
 }
 
-// The constructor that is known at a position, by number, if one is.
+// The constructor that is known at a position, by number: the first of `known` that stands there;
+// None where none does.
 fn known_con(known: &[Place], path: &[u32]) -> Option<u32>
     ensures { result ≡ known_con path.now (shown_heads known.now) }
 {
@@ -178,8 +184,9 @@ fn sole(leaves: &[usize]) -> Option<usize>
     }
 }
 
-/// The leaf of the part of a type at a position, by number, where the constructors that are known there and
-/// below leave one.
+/// The leaf of the part of data type `ty` at the position `path`, by number, where `known`, the
+/// constructors that are known of the whole, leave one by what stands there and below. None where
+/// they leave more or none, or tell no constructor at the position itself.
 ///
 /// # Errors
 ///

@@ -1,4 +1,10 @@
-//! Code that finds the leaf of a value, by a tree of splits.
+//! Code that finds the leaf of a value, by a tree of splits. A split tests the bits at a location
+//! of a value's words, by a switch: an arm leads on where they are its literal, and the else, if
+//! there is one, where no arm has them. A hole is a target of a jump or switch that is still open,
+//! and its `leaf` is the number of the leaf, or of the group of leaves, to which it leads. A read
+//! is a number that code can make from slots and loads. `agreed` has the program and its layouts,
+//! and `ty` is the data type of the value, by number; where that has no layout there is no code,
+//! and no hole.
 
 ghost use Rattle.std.specs.Prelude.{◌≡◌, ℕ, ◌+◌, ◌<◌, ◌≤◌, ◌^◌, ◌++◌, ◌∷◌, [], None, IfOk, OnOk, length};
 ghost use Rattle.rb_target.specs.declared.instr.Instr.TheVariants.{Jump};
@@ -19,8 +25,8 @@ use rb_target::body::{Body, Hole};
 use rb_target::instr::{Instr, SwitchArm};
 use std::alloc::{AllocError, Global};
 
-/// Code that leaves by a hole of the leaf of the value whose words stand in some slots. Arms of switches
-/// are holes themselves.
+/// Code that leaves by a hole of the leaf of the value whose words stand in the slots `words`. Arms
+/// of switches are holes themselves.
 ///
 /// # Errors
 ///
@@ -74,8 +80,10 @@ pub fn find_leaf_of(
     }
 }
 
-/// Code that leaves by a hole of the group of the leaf of the value whose words stand in some slots, where the leaf
-/// has one. The groups are given leaf by leaf; where one group is left, no word is tested.
+/// Code that leaves by a hole of the group of the leaf of the value whose words stand in the slots
+/// `words`, where the leaf has one. `groups` has at each leaf's number that of its group, or None
+/// for a leaf that can't be here. Where one group is left, no word is tested; where no leaf has a
+/// group, there is no code and no hole.
 ///
 /// # Errors
 ///
@@ -100,8 +108,9 @@ pub fn find_group(
 }
 
 /// Code that leaves by a hole of the group of the leaf of the value whose words are these reads,
-/// which may stand in memory still, where the leaf has one. The groups are given leaf by leaf;
-/// where one group is left, no word is tested.
+/// which may stand in memory still, where the leaf has one. `groups` has at each leaf's number that
+/// of its group, or None for a leaf that can't be here. Where one group is left, no word is tested;
+/// where no leaf has a group, there is no code and no hole.
 ///
 /// # Errors
 ///
@@ -135,8 +144,9 @@ pub fn find_group_of(
     }
 }
 
-// Code that leaves by a hole of the leaf to which the tree leads, and adds its holes. A word has at
-// most as many bits as its width says.
+// Code that leaves by a hole of the leaf to which the tree leads, by the words that the reads
+// `words` mean, and adds its holes to `holes`. A word has at most as many bits as stand in its
+// place in `widths`.
 #[cycle(looking)]
 fn look(
     alloc: Global,
@@ -194,7 +204,7 @@ fn way_out(pc: usize, arm: Option<usize>, leaf: usize) -> Hole
     Hole { pc, arm, leaf }
 }
 
-// Code of a tree that is one leaf: a jump, which is a hole of that leaf.
+// Code of a tree that is one leaf: a jump, which is added to `holes` as a hole of that leaf.
 fn leave(body: &mut Body, leaf: usize, holes: &mut Seq<Hole>) -> Result<(), AllocError>
     ensures code { OnOk result (body.new ≡ pushed body.old (Jump (length body.old.code + 1))) }
     ensures holes { OnOk result (holes.new
@@ -217,7 +227,8 @@ fn lead_here(body: &mut Body, pc: usize, arm: Option<usize>)
     body.patch(&way_out(pc, arm, 0), here);
 }
 
-// A switch's arms, each still open: it leads to the next instruction.
+// A switch's arms for the literals of `arms`, each still open: it leads to instruction `next`, the
+// one behind the switch.
 fn open_arms(alloc: Global, arms: &[FlatArm], next: usize) -> Result<Seq<SwitchArm>, AllocError>
     ensures { IfOk result (λ found. found ≡ open_arms_of next arms.now) }
 {

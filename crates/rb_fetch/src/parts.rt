@@ -1,4 +1,7 @@
-//! Leaves of a construction by number, and the parts of it that are in slots.
+//! Leaves of a construction by number, and the parts of it that are in slots. A provenance is the
+//! pattern of the values that a leaf holds. A position is a path, field numbers from the root. A
+//! part is what stands at a position of the value that is constructed, which is the whole. An open
+//! position of a leaf is a wildcard of its provenance.
 
 ghost use Rattle.std.specs.Prelude.{◌≡◌, ◌++◌, [], IfOk, IfSome, OnOk, map};
 ghost use Rattle.rb_core.specs.declared.types.Ty.TheVariants.{Named};
@@ -32,7 +35,8 @@ pub(crate) fn root_of(layouts: &[Layout], ty: u32, leaf: usize) -> Option<u32>
     }
 }
 
-// Whether a leaf's provenance has this constructor at its root: the leaf is for values of it.
+// Whether a leaf's provenance has the constructor of this number at its root: the leaf is for
+// values of it.
 pub(crate) fn is_leaf_for(leaf: &Leaf, con: u32) -> bool
     ensures { result ≡ is_leaf_for con leaf.now }
 {
@@ -42,7 +46,8 @@ pub(crate) fn is_leaf_for(leaf: &Leaf, con: u32) -> bool
     }
 }
 
-// Those of some leaves that are for the values of a constructor, by number.
+// Those of `leaves`, all those of a layout, that are for the values of a constructor, by number and
+// in their order.
 fn leaves_of(alloc: Global, leaves: &[Leaf], con: u32) -> Result<Seq<usize>, AllocError>
     ensures { IfOk result (λ found. found ≡ leaves_for con leaves.now 0) }
 {
@@ -55,8 +60,8 @@ fn leaves_of(alloc: Global, leaves: &[Leaf], con: u32) -> Result<Seq<usize>, All
     Ok(found)
 }
 
-// The leaves of a type's layout that are for the values of a constructor, by number; none where the
-// type has no layout.
+// The leaves of a type's layout that are for the values of `con`, a constructor of the type, by
+// number and in their order; none where the type has no layout.
 pub(crate) fn leaves_by(
     alloc: Global,
     layouts: &[Layout],
@@ -73,7 +78,7 @@ pub(crate) fn leaves_by(
     }
 }
 
-// How many leaves a type's layout has, if it has a layout.
+// How many leaves a type's layout has; None where it has no layout.
 pub(crate) fn count_leaves(layouts: &[Layout], ty: u32) -> Option<usize>
     ensures { IfSome result (λ count. HasLeaves layouts.now ty count) }
 {
@@ -106,7 +111,8 @@ pub(crate) fn copy_parts(alloc: Global, parts: &[Subvalue]) -> Result<Seq<Subval
     Ok(copies)
 }
 
-// The arguments of a construction as its parts: argument i is the part at field i of the root.
+// The arguments of a construction, in slots, as its parts: argument i is the part at field i of the
+// root.
 pub(crate) fn parts_of(alloc: Global, args: &[Held]) -> Result<Seq<Subvalue>, AllocError>
     ensures { IfOk result (λ parts. parts ≡ parts_from 0 args.now) }
 {
@@ -142,8 +148,9 @@ pub(crate) fn add_parts(
     Ok(())
 }
 
-// The slots of the part of a data type at a position. It is there: an argument, or fetched once the
-// leaf of the part above it was known. Want of memory is the answer where it is not.
+// The slots of the part of data type `ty` at the position `path`. It is among `parts`: an argument,
+// or fetched once the leaf of the part above it was known. Want of memory is the answer where it is
+// not.
 pub(crate) fn words_at(
     alloc: Global,
     parts: &[Subvalue],
@@ -163,8 +170,8 @@ pub(crate) fn words_at(
     Err(AllocError)
 }
 
-// Looks whether there is a part at a position, and the first one there is of this type. That is
-// always so; want of memory is the answer where it is not.
+// Looks whether there is one of `parts` at the position `path`, and the first one there is of this
+// type. That is always so; want of memory is the answer where it is not.
 fn find_part(parts: &[Subvalue], path: &[u32], ty: Ty) -> Result<(), AllocError>
     ensures { OnOk result (HasType parts.now path.now ty) }
 {
@@ -179,8 +186,9 @@ fn find_part(parts: &[Subvalue], path: &[u32], ty: Ty) -> Result<(), AllocError>
     Err(AllocError)
 }
 
-// Looks whether the parts at the open positions of a pattern that stands at a path are there, each
-// of its type.
+// Looks whether the parts at the open positions of a pattern, which stands at `path` and is of type
+// `ty`, are among `parts`, each of its type. Want of memory is the answer where one is not. `types`
+// are the declarations of the data types.
 #[cycle(finding)]
 fn find_parts(
     alloc: Global,
@@ -206,8 +214,9 @@ fn find_parts(
     }
 }
 
-// Looks whether the parts at the open positions of the subpatterns of a constructor at a path are
-// there, where the fields are of these types.
+// Looks whether the parts at the open positions of `pats`, the subpatterns of a constructor at
+// `path`, are among `parts`, where the fields are of the types `fields`; a subpattern for which
+// there is no field counts for nothing. Want of memory is the answer where a part is missing.
 #[cycle(finding)]
 fn find_below(
     alloc: Global,
@@ -231,12 +240,13 @@ fn find_below(
     Ok(())
 }
 
-/// The parts at all open positions of a leaf's provenance, each of its type, are there: the looks at the
-/// positions above them found them.
+/// Looks whether the parts at all open positions of the provenance of `leaf`, of data type `ty`,
+/// are among `parts`, each of its type. They always are: the looks at the positions above them
+/// found them.
 ///
 /// # Errors
 ///
-/// Want of memory.
+/// Want of memory; the same answer where a part is missing.
 pub(crate) fn find_fields(
     alloc: Global,
     types: &[DataDecl],

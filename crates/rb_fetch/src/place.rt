@@ -1,4 +1,7 @@
 //! Where a part of a leaf stands: the part that holds a unit of a field, or that points to a block.
+//! A part is a range of bits of a word, and a unit is a bit of an integer or a word of a data type.
+//! A field is what stands at a path, field numbers from the root of the leaf's values. Blocks,
+//! words and units are numbered from 0.
 
 ghost use Rattle.std.specs.Prelude.{◌≡◌, ◌==◌, ◌&&◌, MatchOption, Some, slice_get};
 ghost use Rattle.rb_layout.specs.A6 as held;
@@ -20,7 +23,8 @@ pub enum Wanted {
     WayTo(usize),
 }
 
-/// A part where it stands: in a word of the root, or of a block.
+/// A part where it stands: in the word `flat`, which has the number `word` among the root words,
+/// where no block is given, or in the block with this number.
 #[derive(Clone, Copy)]
 pub struct Spot<'a> {
     pub block: Option<usize>,
@@ -29,7 +33,7 @@ pub struct Spot<'a> {
     pub part: &'a Part,
 }
 
-// Whether word `j` of the field at a part's own path is word `i` of the field at this path.
+// Whether word `j` of the field at a part's path `own` is word `i` of the field at `path`.
 fn has_word(own: &[u32], path: &[u32], j: u64, i: u64) -> bool
     ensures { result ≡ (same_path own.now path.now && (j == i)) }
 {
@@ -81,7 +85,8 @@ fn is_wanted(part: &Part, path: &[u32], wanted: Wanted) -> bool
     }
 }
 
-// The first part of a word that is wanted, if one is.
+// The first part of a word that is wanted; None where none is. `path` is that of the field, where
+// one of its units is wanted.
 fn part_of<'a>(flat: &'a FlatWord, path: &[u32], wanted: Wanted) -> Option<&'a Part>
     ensures { MatchOption result (placing.NoneIn path.now wanted flat.now.parts)
         (λ x. placing.HasPart path.now wanted flat.now.parts x.now) }
@@ -94,8 +99,9 @@ fn part_of<'a>(flat: &'a FlatWord, path: &[u32], wanted: Wanted) -> Option<&'a P
     None
 }
 
-// Where the first wanted part stands in words, which are those of the root, or of the block with
-// this number.
+// Where the first wanted part stands in words, which are those of the block with this number, or of
+// the root where none is given; None where they have no such part. `path` is that of the field,
+// where one of its units is wanted.
 fn spot_in<'a>(
     words: &'a [FlatWord],
     block: Option<usize>,
@@ -118,8 +124,9 @@ fn spot_in<'a>(
     None
 }
 
-/// Where the wanted part of a leaf stands, if it has one: in a root word, or else in a word of a
-/// block. The path is that of the field, where one of its units is wanted.
+/// Where the wanted part of a leaf stands, in a root word, or else in a word of a block; None where
+/// the leaf has none. The path is that of the field, where one of its units is wanted; a pointer
+/// has none.
 pub fn find_part<'a>(leaf: &'a Leaf, path: &[u32], wanted: Wanted) -> Option<Spot<'a>>
     ensures { MatchOption result (placing.NoSpot leaf.now path.now wanted)
         (λ x. placing.IsWantedSpot leaf.now path.now wanted x) }

@@ -1,4 +1,8 @@
-//! Trees of splits in which leaves are told apart by groups alone.
+//! Trees of splits in which leaves are told apart by groups alone. A split tests the bits at a
+//! location of a value's words: an arm leads to the tree below it where they are its literal, and
+//! the else, if there is one, where no arm has them. Its arms and its else are its ways. `groups`
+//! has at each leaf's number that of its group, or None for a leaf that can't be here. A pruned
+//! tree has groups in place of leaves.
 
 ghost use Rattle.std.specs.Prelude.{◌≡◌, IfOk, map};
 ghost use Rattle.rb_fetch.specs.Pruning.{few_of, group_at, group_of, is_group, joined_of, kept_of, lead_all, leads_else, leaf_for, live_arms, pruned_of, pruned_under, Prunes, shared_group};
@@ -21,7 +25,7 @@ fn group_leaf(groups: &[Option<u32>], leaf: u32) -> Option<FlatTree>
     }
 }
 
-// The group to which a tree of groups leads without a split; none where it begins with one.
+// The group to which a tree of groups leads without a split; None where it begins with one.
 fn group_of(tree: &FlatTree) -> Option<u32>
     ensures { result ≡ group_of tree.now }
 {
@@ -78,8 +82,8 @@ fn shared_group(arms: &[FlatArm], other: &Option<FlatTree>) -> Option<u32>
     None
 }
 
-// A split with these arms and no else. Of one arm it is what stands below it, since there is no
-// choice; none where there is no arm.
+// A split of the bits at `loc`, with these arms and no else. Of one arm it is what stands below it,
+// since there is no choice; None where there is no arm.
 fn few(alloc: Global, loc: &Loc, arms: Seq<FlatArm>) -> Result<Option<FlatTree>, AllocError>
     ensures { IfOk result (λ r. r ≡ few_of loc.now arms) }
 {
@@ -97,8 +101,8 @@ fn few(alloc: Global, loc: &Loc, arms: Seq<FlatArm>) -> Result<Option<FlatTree>,
     }
 }
 
-// A split with these arms and perhaps an else; what stands there where one way alone is left, and
-// none where none is.
+// A split of the bits at `loc`, with these arms and perhaps an else; what stands there where one
+// way alone is left, and None where none is.
 fn kept(
     alloc: Global,
     loc: &Loc,
@@ -120,8 +124,9 @@ fn kept(
     }
 }
 
-// A split with these arms and perhaps an else, as `kept` has it, but a leaf where all of them lead
-// to one group without a split.
+// A split of the bits at `loc` with these arms and perhaps an else, all pruned already: the leaf of
+// a group where all of them lead to it without a split. Else it is what `kept` leaves, and None
+// where nothing is left.
 fn joined(
     alloc: Global,
     loc: &Loc,
@@ -136,7 +141,8 @@ fn joined(
     }
 }
 
-// What `pruned` gives. The call nests as deep as the tree.
+// The tree that `pruned` answers for this tree and these groups. The call nests as deep as the
+// tree.
 #[cycle(pruning)]
 fn prune(
     alloc: Global,
@@ -164,7 +170,7 @@ fn prune(
     }
 }
 
-// The arms below which a leaf has a group, with the trees below them pruned.
+// The arms below which a leaf has a group, in their order, with the trees below them pruned.
 #[cycle(pruning)]
 fn prune_arms(
     alloc: Global,

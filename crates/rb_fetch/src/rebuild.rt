@@ -1,5 +1,8 @@
-//! Code that fetches the part of a value at a position of its leaf. What the leaf has taken apart is rebuilt,
-//! each part in its own type's layout.
+//! Code that fetches the part of a value at a position of its leaf. A provenance is the pattern of
+//! the values that a leaf holds. A position is a path, field numbers from the root. It is open
+//! where the provenance has a wildcard: the leaf's words have the part there. A part at a
+//! constructor is taken apart: the leaf has only its fields, and it is rebuilt, that is,
+//! constructed of them again, in its own type's layout.
 
 ghost use Rattle.std.specs.Prelude.{◌≡◌, Some, IfOk, OnOk};
 ghost use Rattle.std.specs.Option.{option_copied};
@@ -22,11 +25,14 @@ use std::alloc::{AllocError, Global};
 /// cycle, and patterns are finite.
 pub(crate) const DEPTH: usize = 4294967295;
 
-/// What `fetch_field` appends, where `depth` calls may be nested still; want of memory at 0.
+/// What `fetch_field` appends, where `depth` calls may be nested still: the part at the position
+/// `path` of a value of leaf number `leaf` of type `ty`, whose words are in the slots `words`, is
+/// left in slots.
 ///
 /// # Errors
 ///
-/// Want of memory.
+/// Want of memory; the same answer at a `depth` of 0, and below the root where there is no such
+/// leaf, or no wildcard or constructor at the position.
 pub(crate) fn fetch_field_at(
     alloc: Global,
     body: &mut Body,
@@ -96,7 +102,7 @@ pub(crate) fn copy_path(alloc: Global, path: &[u32]) -> Result<Seq<u32>, AllocEr
     Ok(copy)
 }
 
-// The pattern at a position of a pattern; none where the position leads out of it.
+// The pattern at a position of a pattern; None where the position leads out of it.
 fn pattern_at<'a>(pat: &'a Pat, path: &[u32]) -> Option<&'a Pat>
     ensures { option_copied result ≡ pattern_at (Some pat.now) path.now }
 {
@@ -109,7 +115,8 @@ fn pattern_at<'a>(pat: &'a Pat, path: &[u32]) -> Option<&'a Pat>
     }
 }
 
-// The subpattern of a constructor pattern in a field; none of another pattern, and past the fields.
+// The subpattern of a constructor pattern in a field, by number; None of another pattern, and past
+// the fields.
 fn sub_at(pat: &Pat, field: u32) -> Option<&Pat>
     ensures { option_copied result ≡ sub_at pat.now field }
 {
@@ -119,8 +126,8 @@ fn sub_at(pat: &Pat, field: u32) -> Option<&Pat>
     }
 }
 
-/// Code that leaves the words of the field at an open position of a value's leaf in slots, from the
-/// slots of the value's words. It takes no switch.
+/// Code that leaves the words of the field at `path`, an open position of leaf number `leaf` of
+/// type `ty`, in slots, from `words`, the slots of the value's words. It takes no switch.
 ///
 /// # Errors
 ///

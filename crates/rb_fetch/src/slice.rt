@@ -1,4 +1,8 @@
-//! Integers that a leaf holds in slices.
+//! Integers that a leaf holds in slices. A slice is a part of a word that holds some bits of an
+//! integer, and a spot is a part where it stands in the leaf. A read is a number that code can make
+//! from slots and loads; a share is bits of a read, with the bit of the integer from which on they
+//! stand. `words` are reads of the words of a value of the leaf, and `path` is the position of the
+//! integer, field numbers from the root.
 
 ghost use Rattle.std.specs.Prelude.{◌≡◌, ◌+◌, ◌-◌, ◌<◌, IfOk, min};
 ghost use Rattle.rb_fetch.specs.inner.Placing.{IsAgreedLeaf};
@@ -13,7 +17,8 @@ use rb_fragment::reads::{Read, Share};
 use rb_layout::layout::{Kind, Leaf, Part};
 use std::alloc::{AllocError, Global};
 
-/// An integer of so many bits: bits of one word where a part holds it whole, else its slices side by side.
+/// A read of the integer of `width` bits at `path`: bits of one word where a part holds it whole,
+/// else its slices side by side.
 ///
 /// # Errors
 ///

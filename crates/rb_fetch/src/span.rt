@@ -1,4 +1,7 @@
-//! Where locations lead, as reads.
+//! Where locations lead, as reads. A read is a number that code can make from slots and loads. A
+//! location begins at a range of bits of one of some words, and each of its steps takes an address
+//! from the range before it and loads a word from there. A span is the range of bits to which it
+//! leads.
 
 ghost use Rattle.std.specs.Prelude.{◌≡◌, ◌+◌, ◌≤◌, true, IfOk, slice_get};
 ghost use Rattle.rb_fetch.specs.inner.Reads.{capped, is_all, IsSameRange, ReadsRange, read_or, reach, SpansLoc, span_on};
@@ -8,7 +11,8 @@ use rb_core::layout_decl::{Loc, Step};
 use rb_fragment::reads::Read;
 use std::alloc::{AllocError, Global};
 
-/// A range of bits of a word. The word has at most `width` bits, where that is known.
+/// The `l` bits from bit `o` on of the word that `read` means. The word has at most `width` bits,
+/// where that is known.
 #[derive(Drop)]
 pub struct Span {
     pub read: Read,
@@ -42,7 +46,8 @@ pub fn span_at(
     Ok(span)
 }
 
-// A range of a range of bits is a range of the word that has them.
+// The same bits, where their word is itself a range of bits of another read, as bits of that one,
+// if they lie within; else the range as it is.
 fn narrowed(span: Span) -> Span
     ensures { IsSameRange span result }
 {

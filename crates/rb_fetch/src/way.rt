@@ -1,4 +1,7 @@
-//! The way to a part of a leaf: its location, and the read of its bits.
+//! The way to a part of a leaf: its location, and the read of its bits. A part is a range of bits
+//! of a word, and a spot is a part where it stands: in a root word, or in a word of a block. A
+//! location begins at a root word, and each of its steps goes through a pointer to a word of a
+//! block. A read is a number that code can make from slots and loads.
 
 ghost use Rattle.std.specs.Prelude.{◌≡◌, IfOk, slice_get};
 ghost use Rattle.rb_rel.specs.Reading.{LeadsTo};
@@ -14,7 +17,8 @@ use rb_fragment::reads::Read;
 use rb_layout::layout::{Block, Leaf};
 use std::alloc::{AllocError, Global};
 
-// The location of a part. In a block it is that of the pointer to the block, with one step more.
+// The location of the part at a spot of the leaf. In a block it is that of the pointer to the
+// block, with one step more.
 #[cycle(way)]
 pub(crate) fn location(alloc: Global, leaf: &Leaf, spot: Spot) -> Result<Loc, AllocError>
     requires leaf { IsAgreedLeaf leaf.now }
@@ -77,7 +81,7 @@ pub(crate) fn spot_span(
     Ok(span)
 }
 
-// The width of a root word of a leaf, if it has that word.
+// The width of a root word of a leaf, by its number; None where it has no such word.
 fn root_width(leaf: &Leaf, word: u64) -> Option<u64>
     ensures { result ≡ width_of (slice_get leaf.now.root word) }
 {

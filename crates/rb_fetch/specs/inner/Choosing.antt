@@ -1,5 +1,10 @@
 -- The choice of a construction's leaf, look by look: what is known on a way, and which leaves can still be its
--- value's. A way is where runs have come to one leaf: an open jump, the leaf's number, and parts in slots.
+-- value's. A way is where runs have come to one leaf: an open jump, the leaf's number, and parts in slots. A position
+-- is a path, field numbers from the root; a place, or head, is a position below the root at which the provenance of a
+-- leaf, the pattern of the values that it holds, has a constructor. A look is code that finds the leaf of the part
+-- there. `seen` is what is known: positions that need no look any more, and constructors that stand in the value.
+-- Rebuilding constructs a part again that a leaf has taken apart, of its fields. A plan has a program and its
+-- layouts, and a sheet is a function's code so far.
 use Rattle.std.specs.Prelude.{◌≡◌, ℕ, ◌+◌, ◌<◌, ◌≤◌, Bool, true, false, not, List, [], ◌∷◌, ◌++◌, Option, Some, None, length, slice_get, slice_index, sum_by}
 use Rattle.std.specs.List.{filter}
 use Rattle.rb_core.specs.declared.value.Value.{Value, out-Value}
@@ -51,12 +56,12 @@ HasAll hs v = (k : ℕ) (h : Head) → slice_get hs k ≡ Some h → HasCon v h.
 
 -- Parts in slots -----------------------------------------------------------------------------
 
--- arguments are the parts at the positions of length one, the first of them at field i
+-- arguments in slots as the parts at positions of length one, the first of them at field i; none without arguments
 abbrev pub parts_from : ℕ → List Held → List Subvalue
 parts_from i [] = []
 parts_from i (h ∷ hs) = record { path = i ∷ []; held = h } ∷ parts_from (i + 1) hs
 
--- values of the fields of the part at a path, the first of them at field i
+-- values in slots as the parts at the fields of the part at `path`, the first of them at field i; none without values
 abbrev pub parts_under : List ℕ → ℕ → List Held → List Subvalue
 parts_under path i [] = []
 parts_under path i (h ∷ hs) = record { path = path ++ i ∷ []; held = h } ∷ parts_under path (i + 1) hs
@@ -165,7 +170,8 @@ abbrev pub holes_from : ℕ → List Way → List Hole
 holes_from k [] = []
 holes_from k (way ∷ ways) = record { pc = way.pc; arm = None; leaf = k } ∷ holes_from (k + 1) ways
 
--- the end of a way to leaf n: its jump is open, and the parts are all that it has
+-- the end of a way to leaf n of type t: the code from old to new is its open jump, and its parts are xs, of which one
+-- is at each open position of the leaf
 pub record IsEndOf (agreed : LaidOut) (t n : ℕ) (xs : List Subvalue) (old new : Sheet) (way : Way) : Type 0 where
   pub leaf : Leaf
   pub is_leaf : leaf_at agreed.layouts t n ≡ Some leaf
@@ -183,7 +189,8 @@ IsWayOf plan layout n way =
 abbrev pub AreWaysOf : Plan → Layout → ℕ → List Way → Type 0
 AreWaysOf plan layout n ways = (k : ℕ) (way : Way) → slice_get ways k ≡ Some way → IsWayOf plan layout n way
 
--- where the value's leaf is n, the run comes to the jump of one way, the same for all runs, which is of that leaf
+-- where Pre holds, the code from old to new takes value v to the jump of one way, the same in all runs, which is of
+-- leaf n, with at most `most` switches; the value has the parts of that way, and their slots represent them
 pub record TakesOneWay (plan : Plan) (old new : Sheet) (ways : List Way) (v : Value) (n most : ℕ)
     (Pre : Bool → List ℕ → Memory → Type 0) : Type 0 where
   pub number : ℕ
@@ -240,7 +247,8 @@ pub record AreInnerWords (plan : Plan) (s : ℕ) (inner : Layout) (words : List 
   pub below : AllBelow n words
   pub count : length words ≡ words_of plan (Named s)
 
--- the fields of a part whose leaf is known are fetched, as parts of the whole value
+-- the code from old to new fetches fields of the part at `path`, of type s and leaf l, whose words are in the slots
+-- `words`, perhaps none of them: the parts of the whole value that are in slots are xs before, and ys with them
 pub record GivesFields (plan : Plan) (path : List ℕ) (s l : ℕ) (inner : Layout) (leaf : Leaf) (words : List ℕ)
     (old new : Sheet) (xs ys : List Subvalue) : Type 0 where
   pub adds : Adds plan old new
@@ -262,7 +270,9 @@ FetchesFields agreed path s l words old new xs ys =
     (plan : Plan) (inner : Layout) (leaf : Leaf) → IsPlanOf agreed plan → AreInnerWords plan s inner words old.slots
     → slice_get inner.leaves l ≡ Some leaf → GivesFields plan path s l inner leaf words old new xs ys
 
--- where the part at the place has leaf l, the code takes each value of one of the leaves to a way of its leaf
+-- where the part at `path`, of type s and with its words in slots, has leaf l, the code from old to new takes each
+-- value of one of the leaves, of which `seen` is known, to a way of its leaf, with at most the switches that rebuild
+-- what a leaf of type s has taken apart, and those that are left for constructor k behind a look at `path`
 pub record ChoosesBelow (plan : Plan) (t k : ℕ) (layout : Layout) (leaves : List ℕ) (seen : Seen)
     (xs : List Subvalue) (path : List ℕ) (s : ℕ) (inner : Layout) (words : List ℕ) (l : ℕ)
     (old new : Sheet) (ways : List Way) : Type 0 where

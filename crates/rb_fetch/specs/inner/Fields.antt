@@ -1,5 +1,8 @@
 -- What reads over the words of a leaf's values mean: its parts, integers in slices, and words of fields. A slice is a
--- part that holds some bits of an integer; a share is bits of a read, with the bit at which they stand in a whole.
+-- part that holds some bits of an integer; a share is bits of a read, with the bit at which they stand in a whole. A
+-- read is a number that code can make from slots and loads; a range of it, a span, is some of its bits. A field
+-- stands at an open position of the leaf, a path of field numbers from the root: `subs` has the words of the value at
+-- each, and `ats` the address of each block.
 use Rattle.std.specs.Prelude.{◌≡◌, ℕ, ◌+◌, ◌<◌, ◌≤◌, ◌==◌, ◌&&◌, List, map, length, Bool, true, Option, Some, None, slice_get, slice_index}
 use Rattle.std.specs.List.{list_all}
 use Rattle.rb_core.specs.declared.types.Ty.TheVariants.{Int, Named}

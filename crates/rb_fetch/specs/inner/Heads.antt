@@ -1,6 +1,7 @@
 -- The constructors of provenances by position, and the leaves that can still be a value's. A provenance is the
 -- pattern of the values that a leaf holds. A head is one of its constructors with its position, a path of field
--- numbers from the root; code has it as a `Place`.
+-- numbers from the root; code has it as a `Place`. A look is code that finds the leaf of the part at a position, and
+-- `looked` are the positions that need none any more. Leaves are named by their numbers in the layout of a type t.
 use Rattle.std.specs.Prelude.{◌≡◌, ℕ, ◌+◌, ◌==◌, ◌&&◌, List, [], ◌∷◌, ◌++◌, map, length, Bool, true, false, Option, Some, None, slice_get, if◌then◌else◌}
 use Rattle.rb_core.specs.declared.types.ConRef.{ConRef}
 use Rattle.rb_core.specs.declared.types.DataDecl.{DataDecl}
@@ -21,7 +22,7 @@ shown_head p = record { path = p.path; con = p.con }
 abbrev pub shown_heads : List Place → List Head
 shown_heads ps = map shown_head ps
 
--- a constructor of the part at `path`, at its position in the whole
+-- a constructor of the part at `path`, given at its position in the part, at its position in the whole
 abbrev pub head_under : List ℕ → Head → Head
 head_under path h = record { path = path ++ h.path; con = h.con }
 

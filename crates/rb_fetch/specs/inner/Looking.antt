@@ -1,6 +1,10 @@
--- The code of a tree of splits while it is made: which of a switch's targets are done. A hole is a target of a jump
--- or switch that is still open, and its `leaf` is the number of the leaf to which it leads. A target is named by the
--- number of its arm, and that of an else, or of a jump, by none.
+-- The code of a tree of splits while it is made: which of a switch's targets are done. A split tests the bits at a
+-- location of a value's words: an arm leads on where they are its literal, and the else, if there is one, where no
+-- arm has them. Its code fetches the bits into a slot and switches on it. A hole is a target of a jump or switch that
+-- is still open, and its `leaf` is the number of the leaf to which it leads. A target is done where it is such a
+-- hole, or leads to the code of the tree below it. It is named by the number of its arm, and that of an else, or of a
+-- jump, by none. Of a value's words there are reads, numbers that code can make from slots and loads, and `widths`
+-- has the most bits of each.
 use Rattle.std.specs.Prelude.{◌≡◌, ℕ, ◌+◌, ◌<◌, ◌≤◌, ◌^◌, ◌⊎◌, List, map, length, Option, Some, None, is_some, slice_get}
 use Rattle.std.specs.Bool.{then_some}
 use Rattle.rb_core.specs.declared.layout_decl.Loc.{Loc}
@@ -41,8 +45,9 @@ TreeFits n tree = (k : ℕ) (split : SplitAt) → slice_get (splits_of tree) k �
 
 -- Runs
 
--- from instruction `start` on the run leaves by one of the holes hs, of the leaf to which the tree leads, where the
--- reads mean words of these widths
+-- from instruction `start` on, with `top` slots or more, the run leaves by one of the holes hs, of the leaf to which
+-- the tree leads, where the reads mean words of these widths; it keeps the first n slots, and does at most as many
+-- switches as splits are nested
 abbrev pub Does : List Instr → Next → List Read → List ℕ → FlatTree → List Hole → ℕ → ℕ → ℕ → Type 0
 Does final next words widths tree hs n top start =
     (s : List ℕ) (w : World) (k : ℕ) (ws : List ℕ) → top ≤ length s → IsGood w.memory → AreMeant words s w.memory ws
@@ -73,7 +78,8 @@ IsLeafHole count code h = (h.leaf < count) × IsHole code h
 abbrev pub AreBefore : ℕ → List Hole → Type 0
 AreBefore a hs = (h : Hole) → IsIn h hs → h.pc < a
 
--- The code from the end of the old one on does the tree, and leaves by holes of its leaves.
+-- The code from the end of the old one on does the tree, and leaves by holes of its leaves: it tests the words that
+-- the reads `words` mean. hs0 are the holes before, and hs those with the holes of this code.
 pub record Looks (words : List Read) (widths : List ℕ) (tree : FlatTree) (old : Sheet) (hs0 : List Hole)
     (new : Sheet) (hs : List Hole) : Type 0 where
   pub more : MoreHoles hs0 hs (length old.code) (length new.code)

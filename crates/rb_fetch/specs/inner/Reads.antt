@@ -1,5 +1,7 @@
--- What stands at a location, as data from which code is made. A read is a number that code can make from slots and
--- loads; a span is a range of bits of a read, with the most bits that the read can have, where that is known.
+-- What stands at a location, as data from which code is made. A location begins at a range of bits of a word, and
+-- each of its steps takes an address from the range before it and loads a word from there. A read is a number that
+-- code can make from slots and loads; a span is a range of bits of a read, with the most bits that the read can have,
+-- where that is known.
 use Rattle.std.specs.Prelude.{◌≡◌, ℕ, ◌^◌, ◌<◌, ◌==◌, ◌&&◌, if◌then◌else◌, min, Bool, true, false, List, [], ◌∷◌, Option, Some, None, slice_get}
 use Rattle.rb_core.specs.declared.layout_decl.Loc.{Loc}
 use Rattle.rb_core.specs.declared.layout_decl.Step.{Step}

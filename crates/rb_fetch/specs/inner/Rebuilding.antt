@@ -1,5 +1,8 @@
--- What code owes that rebuilds the parts that a leaf has taken apart. A leaf takes a part apart where its provenance
--- has a constructor below its root: it holds only the part's fields, and the part is constructed of them again.
+-- What code owes that rebuilds the parts that a leaf has taken apart. A leaf takes a part apart where its provenance,
+-- the pattern of the values that it holds, has a constructor below its root: it holds only the part's fields, and the
+-- part is constructed of them again. An open position is a wildcard of the provenance: the leaf holds the part there
+-- whole. A path is a list of field numbers from the root. A plan has a program and its layouts, and a sheet is a
+-- function's code so far.
 use Rattle.std.specs.Prelude.{◌≡◌, ℕ, ◌≤◌, ◌⊎◌, List, [], ◌∷◌, map, take, length, Bool, Option, Some, None, slice_get}
 use Rattle.std.specs.List.{sum_by}
 use Rattle.rb_core.specs.declared.value.Value.{Value}
@@ -72,7 +75,9 @@ FetchesOpen agreed t n path words old new slots =
     → length words ≡ words_of plan (Named t)
     → OpenIsFetched plan t n path ty f.layout words old new slots
 
--- The appended code leaves the parts at the first so many fields of the constructor at a path in slots.
+-- The code from old to new leaves in slots the parts at the first fields, as many as there are in hs, of constructor
+-- c, which stands with the subpatterns ps at `path` in the provenance of leaf n of type t. The words of the value are
+-- in the slots `words`. It does at most the switches that rebuild these parts.
 pub record PartsAreFetched (plan : Plan) (t n : ℕ) (layout : Layout) (c : ConRef) (ps : List Pat) (path : List ℕ)
     (words : List ℕ) (old new : Sheet) (hs : List Held) : Type 0 where
   pub adds : Adds plan old new

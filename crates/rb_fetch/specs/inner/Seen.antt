@@ -1,4 +1,6 @@
 -- What is known of a value on a way to its leaf: positions that need no look now, and constructors that stand in it.
+-- A position is a path, field numbers from the root. A look is code that finds the leaf of the part at a position;
+-- none is needed where one was on this way, nor where a constructor without fields is known to stand.
 use Rattle.std.specs.Prelude.{ℕ, List, ◌∷◌, ◌++◌, take}
 use Rattle.rb_core.specs.declared.types.DataDecl.{DataDecl}
 use Rattle.rb_fetch.specs.declared.heads.Place.{Place}
@@ -11,6 +13,7 @@ abbrev pub seen_more : List DataDecl → Seen → List ℕ → List Place → Se
 seen_more types seen path ps =
     record { looked = seen.looked ++ path ∷ bare_paths types (shown_heads ps); known = seen.known ++ ps }
 
--- what was known before: the first n of the positions, and the first m of the constructors
+-- what was known before more was learnt: the first n of the positions, and the first m of the constructors; all of
+-- them where there are fewer
 abbrev pub seen_before : ℕ → ℕ → Seen → Seen
 seen_before n m seen = record { looked = take n seen.looked; known = take m seen.known }
