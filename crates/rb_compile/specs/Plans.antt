@@ -1,5 +1,7 @@
--- The plan of a program whose layouts agree: what its matches may cost. A site is a match of a function, by its
--- token.
+-- The plan of a program whose layouts agree: the program, its layouts, and what each match may cost. Matches are
+-- named by the number of their function and by their token: the number of the token at which the match stands in the
+-- file. A site is a match with its token, the type of its scrutinee, and its patterns. A bound is a number of
+-- switches: the most that code may do to choose a clause of the match and to bind the variables of its pattern.
 use Rattle.std.specs.Prelude.{ℕ, ◌==◌, List, [], ◌∷◌, Option, Some, None, slice_get, if◌then◌else◌}
 use Rattle.rb_core.specs.declared.site.Site.{Site}
 use Rattle.rb_core.specs.declared.program.Fun.{Fun}
@@ -10,7 +12,7 @@ use Rattle.rb_layout.specs.declared.layout.Layout.{Layout}
 use Rattle.rb_fragment.specs.Plan.{Plan}
 use Rattle.rb_match.specs.Bounding.{bound_of}
 
--- the match that stands at a token
+-- the first match of the list that stands at a token; None where none does
 abbrev pub site_at : ℕ → List Site → Option Site
 site_at at [] = None
 site_at at (s ∷ ss) = if s.at == at then Some s else site_at at ss
@@ -20,12 +22,12 @@ abbrev pub sites_in : Program → Option Fun → List Site
 sites_in p None = []
 sites_in p (Some f) = function_sites p.types p.funs f
 
--- the switches that a match may cost; 0 where there is no such match
+-- the switches that a match of the program may cost under these layouts; 0 where there is no such match
 abbrev pub bound_at : Program → List Layout → Option Site → ℕ
 bound_at p layouts None = 0
 bound_at p layouts (Some s) = bound_of p.types layouts s.scrutinee s.patterns
 
--- the switches that the match at a token of function f may cost
+-- the switches that the match at a token of function f may cost; 0 where there is no function f, or no match there
 abbrev pub match_bound : Program → List Layout → ℕ → ℕ → ℕ
 match_bound p layouts f at = bound_at p layouts (site_at at (sites_in p (slice_get p.funs f)))
 

@@ -1,4 +1,9 @@
--- When code does what a program means.
+-- When code does what a program means. A plan has the program with its layouts. A word is a number of 64 bits, and
+-- words represent a value by the layout of its type, with what is in the blocks of a memory. The flag `clean` says
+-- that the bits which the layouts leave free are 0 in them. A run of code begins with words, a memory and a number of
+-- calls that it may make. What the source asks for is in the log of its meaning: its constructions, in order, each
+-- with the blocks of its leaf. These blocks are laid in a memory: placed one behind the other, or one of them is the
+-- first that does not fit.
 use Rattle.std.specs.Prelude.{◌≡◌, ℕ, List, length, Bool, Some, slice_get}
 use Rattle.rb_core.specs.declared.value.Value.{Value}
 use Rattle.rb_core.specs.declared.types.Ty.{Ty}
@@ -22,7 +27,8 @@ pub record HasHead (plan : Plan) (f : Fun) (q : CodeFun) : Type 0 where
   pub results : q.results ≡ words_of plan f.result
 
 -- How a run from memory m ends, where the blocks that the source asks for are laid like this and the
--- source ends so. With a value: it returns words that represent it, with as many calls left, in a memory
+-- source ends so. Where a block does not fit, the run ends with it; where the source has spent its calls, so has the
+-- run. With a value of type t: it returns words that represent it, with as many calls left, in a memory
 -- that has exactly these blocks more.
 abbrev pub EndsAs : Plan → Bool → Ty → Memory → Laid → SourceEnd → Run → Type 0
 EndsAs plan clean t m (Over full) e run = run.ended ≡ target.Full full
@@ -31,11 +37,13 @@ EndsAs plan clean t m (Fits blocks next) (source.Done v left) run =
     (words : List ℕ) × (run.ended ≡ target.Returned words left)
     × Grown m run.world.memory blocks next × Rep plan run.world.memory clean t v words
 
--- a run does what the source does: the blocks are those of its log, in order, from the memory's next address on
+-- a run from memory m does what the source does, whose outcome o is a log and an end with a value of type t: the
+-- blocks are those of the log, in order, from the memory's next address on
 abbrev pub DoesAs : Plan → Bool → Ty → Memory → Meant → Run → Type 0
 DoesAs plan clean t m o run = EndsAs plan clean t m (lay m.limit m.next (requests_of plan.layouts o.log)) o.end run
 
--- what is said of each call of a function: its arguments are represented in a good memory
+-- `Does` holds of each call of a function: of the number g of the function, the function f, whether the arguments are
+-- represented cleanly, the arguments vs, words ws that represent them in a good memory m, and the number n of calls
 abbrev pub EachCall : Plan → (ℕ → Fun → Bool → List Value → List ℕ → Memory → ℕ → Type 0) → Type 0
 EachCall plan Does =
     (g : ℕ) (f : Fun) → slice_get plan.program.funs g ≡ Some f

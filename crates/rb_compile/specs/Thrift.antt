@@ -1,4 +1,5 @@
--- When code does few switches.
+-- When code does few switches. A plan has a program with its layouts, and says how many switches each match may cost.
+-- A log is what the source does in a call: its constructions and its matches, in order.
 use Rattle.std.specs.Prelude.{◌≤◌, List}
 use Rattle.rb_core.specs.Meaning.{call_of}
 use Rattle.rb_target.specs.declared.code.CodeFun.{CodeFun}

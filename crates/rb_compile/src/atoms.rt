@@ -1,4 +1,10 @@
 //! Code of single values: numbers, variables, and what is made of values that are held.
+//!
+//! A value is held where it stands in slots, a word each. `body` is the code of a function so far,
+//! to whose end instructions are added. `agreed` is a program with its layouts. `locals` are the
+//! variables that are bound, each with its type and its slots. The type that is wanted of an
+//! expression is the one that its place asks for, or None. An error is want of memory, also where
+//! the code would have more than 2^24 instructions.
 
 ghost use Rattle.std.specs.Prelude.{◌≡◌, ◌<◌, ◌^◌, ◌∷◌, [], None, IfOk, OnOk, unwrap_or, slice_get, slice_index};
 ghost use Rattle.rb_core.specs.declared.types.Ty.TheVariants.{Int};
@@ -23,7 +29,8 @@ use rb_target::body::Body;
 use rb_target::instr::{AluOp, Instr};
 use std::alloc::{AllocError, Global};
 
-// The code of a number, at the wanted type: its value stands in a new slot.
+// The code of a number, at the wanted type, or as a u64 where none is wanted: its value stands in a
+// new slot.
 pub(crate) fn emit_number(
     alloc: Global,
     body: &mut Body,
@@ -41,8 +48,8 @@ pub(crate) fn emit_number(
     Ok(held)
 }
 
-// A variable's slots, without code. One that is not bound is 0, as it is in the meaning, in a new
-// slot.
+// The slots of the variable with number `var`, without code. One that is not bound is 0, as it is
+// in the meaning, in a new slot.
 pub(crate) fn emit_variable(
     alloc: Global,
     body: &mut Body,
@@ -79,8 +86,8 @@ fn find(alloc: Global, var: u32, locals: &[Local]) -> Result<Option<Held>, Alloc
     Ok(found)
 }
 
-// The code of an operator on two integers of a type that stand in slots: the result is in a new
-// one.
+// The code of an operator on two integers `x` and `y` of type `ty` that stand in slots: the result
+// is in a new one.
 pub(crate) fn emit_operator(
     alloc: Global,
     body: &mut Body,
@@ -100,7 +107,7 @@ pub(crate) fn emit_operator(
     Ok(held)
 }
 
-// The code that takes the low bits of an integer that stands in a slot to a new one.
+// The code that takes so many low bits of an integer that stands in a slot to a new one.
 pub(crate) fn emit_low_bits(
     alloc: Global,
     body: &mut Body,
@@ -116,7 +123,8 @@ pub(crate) fn emit_low_bits(
     Ok(held)
 }
 
-// The instruction of a call, whose result goes to new slots.
+// The instruction of a call of `fun`, which has this number in the program, on arguments that are
+// held: its result goes to new slots.
 pub(crate) fn emit_calling(
     alloc: Global,
     body: &mut Body,
@@ -139,7 +147,8 @@ pub(crate) fn emit_calling(
     })
 }
 
-// The type that is wanted of an operator's first operand, by what is wanted of the whole.
+// The type that is wanted of an operator's first operand, by what is wanted of the whole: None for
+// a comparison, and where no integer type is wanted.
 pub(crate) fn first_wanted(op: Op, wanted: Option<Ty>) -> Option<Ty>
     ensures { result ≡ operand_wanted op wanted }
 {
@@ -157,7 +166,8 @@ pub(crate) fn wanted_at(tys: &[Ty], i: usize) -> Option<Ty>
     tys.get(i).copied()
 }
 
-// The type of what an operator gives, from the type of its operands.
+// The type of what an operator gives, from the type of its operands: a bit for a comparison, and
+// the same type for any other.
 fn result_type(op: Op, ty: Ty) -> Ty
     ensures { result ≡ operator_type op ty }
 {
@@ -183,8 +193,8 @@ fn alu_op(op: Op) -> AluOp
     }
 }
 
-// The width that an instruction states for a type: at least 1, as an integer of a typed program
-// has.
+// The width in bits that an instruction states for a type: at least 1, as an integer of a typed
+// program has, and 64 for a data type.
 fn width(ty: Ty) -> u8
     ensures { result ≡ stated_width ty }
 {

@@ -1,4 +1,15 @@
 //! From expressions to code, form by form.
+//!
+//! `body` is the code of a function so far, and code is added at its end. A value is held where it
+//! stands in slots, a word each; the functions answer where the value of the code that they add is
+//! held. `agreed` is a program with its layouts. `locals` are the variables that are bound, each
+//! with its type and its slots: they are lent for more, and on `Ok` are what they were. `wanted` is
+//! the type that an expression's place asks for, or None. The arms of a match are the code of its
+//! clauses; a hole is a target of a jump or a switch that is still open.
+//!
+//! An error is want of memory, also where the code would have more than 2^24 instructions. It is
+//! the answer too where a function, a constructor or a clause is missing, which no accepted program
+//! meets.
 
 ghost use Rattle.std.specs.Prelude.{◌≡◌, ℕ, length, IfOk, OnOk, Option};
 ghost use Rattle.rb_core.specs.declared.types.Ty.{Ty as TyDecl};
@@ -30,8 +41,7 @@ use rb_match::choosing::emit_match;
 use rb_target::body::Body;
 use std::alloc::{AllocError, Global};
 
-// The code of an expression, behind which its value stands in the slots that are answered. The variables
-// are lent for more, and on `Ok` are what they were.
+// The code of an expression, behind which its value stands in the slots that are answered.
 #[cycle(emit)]
 pub(crate) fn emit_expr(
     alloc: Global,
@@ -87,8 +97,8 @@ pub(crate) fn emit_expr(
     }
 }
 
-// The code of an operator, behind that of its operands. The second is wanted at the type that the
-// first has.
+// The code of an operator, behind that of its operands `a` and `b`. The second is wanted at the
+// type that is wanted of the first, or else at the one that the first has.
 #[cycle(emit)]
 fn emit_binary(
     alloc: Global,
@@ -113,7 +123,8 @@ fn emit_binary(
     Ok(held)
 }
 
-// The code of a binding, and behind it that of the expression within it.
+// The code of a `let`: that of `a`, whose slots are then those of the variable, and behind it that
+// of `b`, within which the variable is bound.
 #[cycle(emit)]
 fn emit_let(
     alloc: Global,
@@ -143,8 +154,8 @@ fn emit_let(
     Ok(y)
 }
 
-// The code of a call, behind that of its arguments; where it stands last in a function, it is as
-// everywhere. A program that was accepted has the function.
+// The code of a call of the function with this number, behind that of its arguments; where it
+// stands last in a function, it is as everywhere. A program that was accepted has the function.
 #[cycle(emit)]
 fn emit_call(
     alloc: Global,
@@ -168,8 +179,9 @@ fn emit_call(
     Ok(held)
 }
 
-// The code of a construction, behind that of its fields. A program that was accepted has the
-// constructor.
+// The code of a construction by constructor `con`, behind that of its arguments. What of these is
+// itself written as a construction helps to tell the leaf, the case of the layout that the value
+// takes. A program that was accepted has the constructor.
 #[cycle(emit)]
 fn emit_construction(
     alloc: Global,
@@ -193,7 +205,8 @@ fn emit_construction(
     Ok(held)
 }
 
-// The code of expressions from left to right, each at its wanted type.
+// The code of expressions from left to right, each wanted at the type in the same place of `tys`:
+// where the value of each is held, in their order.
 #[cycle(emit)]
 fn emit_all(
     alloc: Global,
@@ -217,8 +230,9 @@ fn emit_all(
     Ok(all)
 }
 
-// The code of a match: its scrutinee, the choice of a clause, and the arms, whose targets are set
-// when all stand. A match of a program that was accepted has a clause.
+// The code of a match: its scrutinee, the choice of a clause, and the arms. When all arms stand,
+// the holes of the choice are set to where they begin, and their jumps to behind the last. A match
+// of a program that was accepted has a clause.
 #[cycle(emit)]
 fn emit_choice(
     alloc: Global,
@@ -258,7 +272,7 @@ fn emit_choice(
     Ok(held)
 }
 
-// The code of the arms of a match, one behind the other.
+// The code of the arms of a match, one behind the other: `subject` is where its scrutinee is held.
 #[cycle(emit)]
 fn emit_arms(
     alloc: Global,
@@ -295,7 +309,8 @@ fn emit_arms(
 }
 
 // The code of one arm: the variables of its pattern that its body uses, its body, and its value
-// where all arms leave theirs.
+// where the arms before it left theirs, `into`, or in new slots where it is the first. `subject` is
+// where the match's scrutinee is held.
 #[cycle(emit)]
 fn emit_arm(
     alloc: Global,

@@ -1,4 +1,5 @@
-//! From functions to code.
+//! From functions to code. `agreed` is a program with its layouts: they say how many words
+//! represent a value of a type. Each word of a parameter has a slot.
 
 ghost use Rattle.std.specs.Prelude.{◌≡◌, ◌+◌, ◌<◌, ◌^◌, map, IfOk};
 ghost use Rattle.rb_fragment.specs.Functions.{Compiles, param_locals};
@@ -18,7 +19,10 @@ use rb_target::body::Body;
 use rb_target::code::CodeFun;
 use std::alloc::{AllocError, Global};
 
-// The code of a function: its parameters in the first slots, and its body, which returns.
+// The code of the program's function with this number: its parameters in the first slots, and its
+// body, which returns.
+//
+// An error is want of memory, also where the code would have more than 2^24 instructions.
 pub(crate) fn compile_fun(
     alloc: Global,
     agreed: &Agreed,
@@ -45,7 +49,8 @@ struct Params {
     count: usize,
 }
 
-// The parameters' slots, one behind the other, and how many there are.
+// The parameters' slots, one behind the other from slot 0 on, and how many there are. An error is
+// want of memory, also where a count would pass 64 bits.
 fn param_slots(alloc: Global, agreed: &Agreed, params: &[Param]) -> Result<Params, AllocError>
     ensures locals { IfOk result (λ p. p.locals ≡ param_locals (plan_of agreed.now) 0 params.now) }
     ensures count { IfOk result (λ p. p.count ≡ words_in (plan_of agreed.now) (map (λ p. p.ty) params.now)) }

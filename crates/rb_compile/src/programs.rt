@@ -1,4 +1,6 @@
-//! From programs to code.
+//! From programs to code. A program whose layouts agree has been accepted, and each of its types
+//! has a layout; `agreed` is both. A switch is an instruction that goes on by the value of some
+//! bits.
 
 ghost use Rattle.std.specs.Prelude.{◌≡◌, length, IfOk};
 ghost use Rattle.rb_compile.specs.Plans.{plan_of};
@@ -28,7 +30,7 @@ pub fn compile(alloc: Global, agreed: &Agreed) -> Result<Code, AllocError>
     Ok(code)
 }
 
-// The program's functions, of which all is known that their code needs.
+// The program's functions, and that all is known of them that their code needs.
 fn functions(agreed: &Agreed) -> &[Fun]
     ensures same { result.now ≡ agreed.now.covered.program.funs }
     ensures ready { ProgramIsReady (plan_of agreed.now) }
@@ -37,7 +39,8 @@ fn functions(agreed: &Agreed) -> &[Fun]
     agreed.covered().program().funs.as_slice()
 }
 
-// The code of all functions, in their order.
+// The code of all functions of the program, `funs`, in their order. An error is want of memory,
+// also where a function's code would have more than 2^24 instructions.
 fn compile_all(alloc: Global, agreed: &Agreed, funs: &[Fun]) -> Result<Seq<CodeFun>, AllocError>
     requires ready { ProgramIsReady (plan_of agreed.now) }
     requires same { funs.now ≡ agreed.now.covered.program.funs }

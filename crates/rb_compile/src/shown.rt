@@ -1,4 +1,5 @@
-//! What the file shows of the values of expressions, before any code runs.
+//! What the file shows of the values of expressions, before any code runs: a pattern that the value
+//! matches, with the constructors that are written in the expression. A wildcard shows nothing.
 
 ghost use Rattle.std.specs.Prelude.{◌≡◌, IfOk, map};
 ghost use Rattle.rb_compile.specs.inner.Shown.{shown_of};
@@ -9,7 +10,7 @@ use rb_core::seq::Seq;
 use std::alloc::{AllocError, Global};
 
 // What an expression shows of its value: a construction its constructor, and below it what its
-// arguments show; any other expression nothing.
+// arguments show; any other expression nothing. An error is want of memory.
 #[cycle(showing)]
 fn shown(alloc: Global, expr: &Expr) -> Result<Pat, AllocError>
     ensures { IfOk result (λ pat. pat ≡ shown_of expr.now) }
@@ -29,7 +30,7 @@ fn shown(alloc: Global, expr: &Expr) -> Result<Pat, AllocError>
     }
 }
 
-/// Patterns that the values of expressions match, one each.
+/// Patterns that the values of expressions match, one each, in their order: what each shows.
 ///
 /// # Errors
 ///

@@ -1,4 +1,6 @@
-//! What functions and constructors take and give.
+//! What functions and constructors take and give. `agreed` is a program with its layouts. Functions
+//! are named by their numbers, and constructors by the number of their type and their own within
+//! it. An error is want of memory.
 
 ghost use Rattle.std.specs.Prelude.{◌≡◌, map, IfOk, option_copied, slice_get};
 ghost use Rattle.rb_core.specs.Values.{fields_of};
@@ -28,7 +30,8 @@ pub(crate) fn param_types(alloc: Global, params: &[Param]) -> Result<Seq<Ty>, Al
     Ok(tys)
 }
 
-// The types of a constructor's fields; None where the program does not have the constructor.
+// The types of a constructor's fields, in their order; None where the program does not have the
+// constructor.
 pub(crate) fn field_types(
     alloc: Global,
     agreed: &Agreed,
@@ -41,7 +44,8 @@ pub(crate) fn field_types(
     Ok(fields)
 }
 
-// The types of a constructor's fields; None where no such constructor is among these types.
+// The types of a constructor's fields, in their order; None where these types do not have the
+// constructor.
 fn fields_in(alloc: Global, types: &[DataDecl], con: ConRef) -> Result<Option<Seq<Ty>>, AllocError>
     ensures { IfOk result (λ o. o ≡ fields_of types.now con) }
 {

@@ -1,4 +1,14 @@
 //! From expressions in tail positions to code: each way through it ends in a return.
+//!
+//! A tail position is one where the value is the function's result, of type `ty`. `body` is the
+//! code of the function so far, and code is added at its end. `agreed` is a program with its
+//! layouts. `locals` are the variables that are bound, each with its type and its slots: they are
+//! lent for more, and on `Ok` are what they were. A value is held where it stands in slots, a word
+//! each. The arms of a match are the code of its clauses; a hole is a target that is still open.
+//!
+//! An error is want of memory, also where the code would have more than 2^24 instructions. It is
+//! the answer too where a function, a constructor or a clause is missing, which no accepted program
+//! meets.
 
 ghost use Rattle.std.specs.Prelude.{◌≡◌, ℕ, length, IfOk, OnOk};
 ghost use Rattle.rb_core.specs.declared.expression.Expr as X;
@@ -22,8 +32,7 @@ use rb_target::body::Body;
 use rb_target::instr::Instr;
 use std::alloc::{AllocError, Global};
 
-// The code of an expression whose value is the function's result, of type `ty`. The variables are lent for
-// more, and on `Ok` are what they were.
+// The code of an expression whose value is the function's result, and which returns it.
 #[cycle(tail)]
 pub(crate) fn emit_tail(
     alloc: Global,
@@ -83,8 +92,8 @@ fn emit_return(
     Ok(())
 }
 
-// The code of a binding in a tail position, and behind it that of the expression within it, which
-// returns.
+// The code of a `let` in a tail position: that of `a`, whose slots are then those of the variable,
+// and behind it that of `b`, within which the variable is bound, and which returns.
 #[cycle(tail)]
 fn emit_tail_let(
     alloc: Global,
@@ -115,7 +124,8 @@ fn emit_tail_let(
 }
 
 // The code of a match in a tail position: its scrutinee, the choice of a clause, and the arms, each
-// of which returns. A match of a program that was accepted has a clause.
+// of which returns. When all arms stand, the holes of the choice are set to where they begin. A
+// match of a program that was accepted has a clause.
 #[cycle(tail)]
 fn emit_tail_match(
     alloc: Global,
@@ -145,7 +155,7 @@ fn emit_tail_match(
 }
 
 // The code of the arms of a match in a tail position, one behind the other: the number of the first
-// instruction of each is answered.
+// instruction of each is answered. `subject` is where the match's scrutinee is held.
 #[cycle(tail)]
 fn emit_tail_arms(
     alloc: Global,
@@ -171,7 +181,7 @@ fn emit_tail_arms(
 }
 
 // The code of one arm in a tail position: the variables of its pattern that its body uses, and its
-// body, which returns.
+// body, which returns. `subject` is where the match's scrutinee is held.
 #[cycle(tail)]
 fn emit_tail_arm(
     alloc: Global,

@@ -1,4 +1,6 @@
-//! Which variables an expression uses, and what of a pattern binds them. An arm reads no others.
+//! Which variables an expression uses, and what of a pattern binds them. An arm, the code of a
+//! clause, reads no others. Variables are numbered, and marks tell of some in a row whether each is
+//! used. An error is want of memory.
 
 ghost use Rattle.std.specs.Prelude.{◌≡◌, IfOk, map, true};
 ghost use Rattle.std.specs.List.{flat_map};
@@ -9,7 +11,7 @@ use rb_core::pattern::Pat;
 use rb_core::seq::Seq;
 use std::alloc::{AllocError, Global};
 
-// For each variable from one on, whether it is used. Others are taken as used.
+// For so many variables in a row, from `first` on, whether each is used. Others are taken as used.
 #[derive(Drop)]
 pub(crate) struct Marks {
     pub first: u32,
@@ -43,7 +45,7 @@ fn mark(marks: &mut Marks, var: u32)
     }
 }
 
-// Marks the variables of an expression.
+// Marks as used the variables that stand in an expression.
 #[cycle(marking)]
 fn mark_expr(marks: &mut Marks, expr: &Expr)
     ensures more { MarksMore marks.old marks.new }
@@ -70,7 +72,7 @@ fn mark_expr(marks: &mut Marks, expr: &Expr)
     }
 }
 
-// Marks the variables of some expressions.
+// Marks as used the variables that stand in some expressions.
 #[cycle(marking)]
 fn mark_all(marks: &mut Marks, exprs: &[Expr])
     ensures more { MarksMore marks.old marks.new }
@@ -81,7 +83,7 @@ fn mark_all(marks: &mut Marks, exprs: &[Expr])
     }
 }
 
-// Marks the variables of the bodies of some clauses.
+// Marks as used the variables that stand in the bodies of some clauses.
 #[cycle(marking)]
 fn mark_bodies(marks: &mut Marks, clauses: &[Clause])
     ensures more { MarksMore marks.old marks.new }
@@ -126,7 +128,7 @@ fn prune_all(alloc: Global, marks: &Marks, pats: &[Pat]) -> Result<Seq<Pat>, All
     Ok(all)
 }
 
-// Adds the variables of a pattern to a list.
+// Adds the variables that a pattern binds to a list, from left to right.
 fn add_variables(pat: &Pat, vars: &mut Seq<u32>) -> Result<(), AllocError> {
     match pat {
         Pat::Wild(_) | Pat::Num(_, _) => Ok(()),
@@ -143,7 +145,8 @@ fn add_variables(pat: &Pat, vars: &mut Seq<u32>) -> Result<(), AllocError> {
     }
 }
 
-// Marks for a pattern's variables, of which none is used. Those of one pattern are numbered in a row.
+// Marks for a pattern's variables, of which none is used: as many as these are, from the least on.
+// Those of one pattern are numbered in a row. Without variables the marks tell of none.
 fn no_marks(alloc: Global, pat: &Pat) -> Result<Marks, AllocError> {
     let mut vars = Seq::new(alloc);
     add_variables(pat, &mut vars)?;
@@ -158,8 +161,9 @@ fn no_marks(alloc: Global, pat: &Pat) -> Result<Marks, AllocError> {
     Ok(Marks { first, used })
 }
 
-/// What a pattern binds for an expression: the pattern with wildcards in place of numbers, and of variables that don't
-/// stand in the expression. Its constructors stay: they tell which leaves a value that it matches can have.
+/// What a pattern binds for an expression: the pattern with wildcards in place of numbers, and of
+/// variables that don't stand in the expression. Its constructors stay: they tell which leaves, the
+/// cases of its type's layout, a value that it matches can have.
 ///
 /// # Errors
 ///

@@ -1,4 +1,9 @@
--- What a call of `main` comes to over a memory: its end, its steps and its switches.
+-- What a call of `main` comes to over a memory: its end, its steps and its switches. A step is an instruction that
+-- the run begins. Blocks are laid in a memory: placed one behind the other from its next address on, or one of them
+-- is the first that does not fit. A log is what the source does in a call, in order: its constructions, which ask for
+-- the blocks of their leaves, and its matches. Words represent a value with what is in the blocks of a memory, and
+-- cleanly where the bits that layouts leave free are 0. `agreed` is a program with its layouts, `args` are the
+-- arguments of `main`, and `calls` is the number of calls that the run may make.
 use Rattle.std.specs.Prelude.{◌≡◌, ℕ, List, ◌++◌, true}
 use Rattle.rb_core.specs.declared.value.Value.{Value}
 use Rattle.rb_core.specs.declared.outcome.Event.{Event}
@@ -18,7 +23,7 @@ use Rattle.rb_coding.specs.Encoding.{StandApart}
 use Rattle.rb_compile.specs.Plans.{plan_of}
 use Rattle.rb_compile.specs.Refining.{EndsAs}
 
--- the constructions that make the arguments of `main`, one argument after the other
+-- the constructions that make values as arguments of `main`, one argument after the other
 abbrev pub making_arguments : Program → List Value → List Event
 making_arguments p args = all_makings p.types args (param_types p.funs p.main)
 
@@ -28,7 +33,7 @@ laid_call agreed args calls m =
     let p = agreed.covered.program in
     lay m.limit m.next (requests_of agreed.layouts (making_arguments p args ++ (call_of p p.main calls args).log))
 
--- an end over a memory, whatever was counted
+-- an outcome with this end and this memory, and nothing counted
 abbrev pub end_over : End → Memory → Outcome
 end_over end m = over end (record { left = 0; memory = m; switches = 0; taken = 0 })
 
@@ -38,14 +43,15 @@ abbrev pub laid_arguments : LaidOut → List Value → Memory → Laid
 laid_arguments agreed args m =
     lay m.limit m.next (requests_of agreed.layouts (making_arguments agreed.covered.program args))
 
--- the words represent the arguments in a memory that has grown from the old one: each argument cleanly, and
--- over just the blocks that its own constructions ask for
+-- the words ws represent the arguments in memory m, which has grown from the old one by the blocks, up to the address
+-- `next`: each argument cleanly, and over just the blocks that its own constructions ask for
 abbrev pub HoldArguments : LaidOut → List Value → Memory → Memory → List (ℕ × ℕ) → ℕ → List ℕ → Type 0
 HoldArguments agreed args old m blocks next ws =
     let p = agreed.covered.program in
     StandApart p.types agreed.layouts m (param_types p.funs p.main) args old.next blocks next ws
 
--- The call of `main` does what the source does, from the memory as it was to the memory as it is.
+-- The call of `main` with so many calls does what the source does: it ends so, and the old memory becomes the new
+-- one.
 pub record IsCalled (agreed : LaidOut) (args : List Value) (calls : ℕ) (old : Memory) (end : End)
     (new : Memory) : Type 0 where
   -- the end is Full with the first request that does not fit, or Spent, or words that represent the value,
@@ -58,8 +64,9 @@ pub record IsCalled (agreed : LaidOut) (args : List Value) (calls : ℕ) (old : 
       → (blocks : List (ℕ × ℕ)) (next : ℕ) → laid_arguments agreed args old ≡ Fits blocks next
       → (ws : List ℕ) × HoldArguments agreed args old new blocks next ws
 
--- The steps and the switches of a call: those of the code's run on words that represent the arguments, in a
--- memory with just their blocks more; none, where these do not fit.
+-- The steps and the switches of a call from memory `old`, where the blocks of the arguments are laid like this: those
+-- of the code's run on words that represent the arguments, in a memory with just their blocks more; none, where these
+-- do not fit.
 abbrev pub CountsAs : LaidOut → List CodeFun → List Value → ℕ → Memory → Laid → ℕ → ℕ → Type 0
 CountsAs agreed code args calls old (Over full) steps switches = (steps ≡ 0) × (switches ≡ 0)
 CountsAs agreed code args calls old (Fits blocks next) steps switches =
@@ -68,7 +75,8 @@ CountsAs agreed code args calls old (Fits blocks next) steps switches =
     × (steps ≡ (run_of code calls p.main ws m).world.taken)
     × (switches ≡ (run_of code calls p.main ws m).world.switches)
 
--- so many steps and switches are those of the run behind the blocks of the arguments, where these fit
+-- so many steps and switches are those of the code's run from memory `old` behind the blocks of the arguments; none
+-- where these do not fit
 abbrev pub IsCounted : LaidOut → List CodeFun → List Value → ℕ → Memory → ℕ → ℕ → Type 0
 IsCounted agreed code args calls old steps switches =
     CountsAs agreed code args calls old (laid_arguments agreed args old) steps switches

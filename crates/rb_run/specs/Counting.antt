@@ -1,4 +1,6 @@
--- What a run that returns did.
+-- What a run that returns did: its tally has the calls that it made, the switches that it did, the blocks that were
+-- placed and their bytes. A region is the memory of a run: its first address is 64, and the next one is the first
+-- behind the blocks.
 use Rattle.std.specs.Prelude.{◌≡◌, ℕ, ◌-◌, length}
 use Rattle.rb_core.specs.declared.outcome.SourceEnd.{SourceEnd}
 use Rattle.rb_core.specs.declared.outcome.SourceEnd.TheVariants as source

@@ -1,4 +1,7 @@
-//! What a run answers.
+//! What a run answers. A run calls `main` on arguments, over a region: a memory whose first address
+//! is 64, and in which blocks are placed. `agreed` is a program with its layouts, and `code` is its
+//! code. A step is an instruction that the run begins. A node of a value is a number or a
+//! construction.
 
 ghost use Rattle.std.specs.Prelude.{◌≡◌, ℕ, ◌+◌, ◌≤◌, List, map, true, IfOk};
 ghost use Rattle.rb_bytes.specs.Memory.{IsGood, Memory, empty_memory, most_region};
@@ -31,18 +34,18 @@ use std::alloc::{AllocError, Global};
 /// What a run answers.
 #[derive(Drop)]
 pub enum Answer {
-    /// A block didn't fit: the first of the arguments' and then of the call's.
+    /// A block didn't fit: the first that does not of the arguments' blocks and then the call's.
     Full(Full),
-    /// The calls were spent.
+    /// The calls that the run may make were spent.
     Spent,
     /// The value has more nodes than may be shown.
     TooLarge,
-    /// The value.
+    /// The value that `main` returned.
     Shown(Forest),
 }
 
-/// The bounds of a run: how many calls it makes at most, the address at which its memory ends, and how
-/// many nodes of a value are shown.
+/// The bounds of a run: how many calls it makes at most, the address at which its memory ends, and
+/// how many nodes of a value are shown.
 #[derive(Clone, Copy)]
 pub struct Bounds {
     pub calls: u64,
@@ -50,8 +53,8 @@ pub struct Bounds {
     pub nodes: u64,
 }
 
-/// Runs `main` on some values over a fresh region, on a memory that tests no access, and answers what the
-/// source means.
+/// Runs `main` on the values `args` over a fresh region, on a memory that tests no access, and
+/// answers what the source means. The steps of the run are added to `steps`.
 ///
 /// # Errors
 ///
@@ -78,7 +81,8 @@ pub fn answer_main<L: Ledger>(
     Ok(counted.answer)
 }
 
-/// What the end of a call of `main` comes to, over the memory that it left.
+/// What the end of a call of `main` comes to, over the memory that it left. That is the value, if
+/// it has at most so many nodes, or why none is shown. No such call is trapped.
 ///
 /// # Errors
 ///
@@ -107,7 +111,8 @@ pub(crate) fn answer_to(
     }
 }
 
-// The value of the result type that words represent, where it has few enough nodes.
+// The value of the result type of `main` that words represent in a memory, where it has at most so
+// many nodes; or that it is too large.
 fn answer_value(
     alloc: Global,
     agreed: &Agreed,
@@ -130,7 +135,7 @@ fn answer_value(
     }
 }
 
-/// The result type of `main`.
+/// The result type of `main`; u64 where the program has no function with the number of `main`.
 pub fn result_of_main(program: &Program) -> Ty
     ensures { result ≡ result_type program.now.funs program.now.main }
 {

@@ -1,4 +1,6 @@
-//! A call of `main` over a memory.
+//! A call of `main` over a memory. `agreed` is a program with its layouts. The memory has blocks,
+//! each behind the one before it; those of the arguments are placed before any code runs. A step is
+//! an instruction that the run begins.
 
 ghost use Rattle.std.specs.Prelude.{◌≡◌, ℕ, ◌+◌, ◌≤◌, map, true, IfOk};
 ghost use Rattle.rb_bytes.specs.Memory.{IsGood};
@@ -26,9 +28,10 @@ use rb_target::outcome::{End, Ran};
 use rb_values::forest::Forest;
 use std::alloc::{AllocError, Global};
 
-/// Calls `main` on some values, with at most so many calls, its own included. The blocks of the values are
-/// placed first, one value after the other; then the code runs, which never traps. Where a block of a value
-/// doesn't fit, nothing runs.
+/// Calls `main` on the values `args`, with at most so many calls, its own included. The blocks of
+/// the values are placed first, one value after the other; then the code runs, which never traps,
+/// and its steps are added to `steps`. Where a block of a value doesn't fit, nothing runs, and the
+/// end says which block it is.
 ///
 /// # Errors
 ///
@@ -66,7 +69,8 @@ pub fn call_main<M: ByteMemory, L: Ledger>(
     }
 }
 
-// A run that does not begin, since a block of its arguments does not fit.
+// A run that does not begin, since a block of its arguments does not fit: it ends with this block,
+// after no switches. An error is want of memory, where that is the fault.
 fn not_begun(fault: EncodeFault) -> Result<Ran, AllocError>
     ensures { IfOk result (λ ran. (full : Unplaced) × (fault ≡ EncodeFault.Full full)
         × (ran ≡ record { end = End.Full full; switches = 0 })) }
@@ -80,7 +84,7 @@ fn not_begun(fault: EncodeFault) -> Result<Ran, AllocError>
     }
 }
 
-// The number of `main`, and that the program is typed.
+// The number of `main`, and that the program is typed and its layouts are the flat ones.
 fn main_of(agreed: &Agreed) -> usize
     ensures number { result ≡ agreed.now.covered.program.main }
     ensures typed { IsTyped agreed.now.covered.program }
@@ -90,7 +94,7 @@ fn main_of(agreed: &Agreed) -> usize
     agreed.covered().program().main as usize
 }
 
-// The types of the parameters of `main`.
+// The types of the parameters of `main`, in their order. An error is want of memory.
 fn parameters_of_main(alloc: Global, agreed: &Agreed) -> Result<Seq<Ty>, AllocError>
     ensures { IfOk result (λ tys. tys ≡ param_types agreed.now.covered.program.funs agreed.now.covered.program.main) }
 {

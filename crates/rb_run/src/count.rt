@@ -1,4 +1,6 @@
-//! What a run did until its answer.
+//! What a run did until its answer. A run calls `main` on arguments, over a region: a memory in
+//! which blocks are placed from its first address on. A tally is what is counted of it. A step is
+//! an instruction that the run begins.
 
 ghost use Rattle.std.specs.Prelude.{◌≡◌, ℕ, ◌+◌, ◌-◌, ◌≤◌, length, map, true, IfOk};
 ghost use Rattle.rb_bytes.specs.Memory.{empty_memory, most_region};
@@ -30,13 +32,14 @@ const FIRST_ADDRESS: u64 = 64;
 /// What a run did.
 #[derive(Clone, Copy)]
 pub struct Tally {
-    /// The calls that it made, that of `main` included; of one that returned.
+    /// The calls that it made, that of `main` included, where it returned; if not, the calls that
+    /// it had to spend.
     pub calls: u64,
     /// The switches that it did, one that trapped included.
     pub switches: u128,
     /// The blocks that were placed, those of the arguments included.
     pub blocks: u64,
-    /// The bytes from the region's first address up to the next one.
+    /// The bytes from the region's first address up to the next one, the first behind the blocks.
     pub bytes: u64,
 }
 
@@ -47,7 +50,9 @@ pub struct Counted {
     pub tally: Tally,
 }
 
-/// Runs `main` on some values over a fresh region, as [`crate::answer::answer_main`], and counts what it did.
+/// Runs `main` on the values `args` over a fresh region, on a memory that tests no access, answers
+/// what the source means, and counts what the run did. `agreed` is a program with its layouts,
+/// `code` is its code, `bounds` are the limits of the run, and its steps are added to `steps`.
 ///
 /// # Errors
 ///
@@ -93,7 +98,7 @@ fn calls_left(end: &End) -> u64
     }
 }
 
-// What a run with so many calls did, over the memory that it left.
+// What a run did that had so many calls to make, by its end and the memory that it left.
 fn tally_of(ran: &Ran, memory: &RawMemory, calls: u64) -> Tally
     ensures calls { result.calls ≡ calls - left_at ran.now.end }
     ensures switches { result.switches ≡ ran.now.switches }

@@ -1,4 +1,10 @@
--- What is promised of the code of a match's arms.
+-- What is promised of the code of a match's arms. An arm is the code of one clause: it binds the variables of the
+-- clause's pattern and does the clause's body. A sheet is code that is not finished: the code from a to d is what d
+-- has behind the end of a. What a match looks at, its subject, and each variable is held: it has slots, a word each.
+-- An arm leaves its value in slots that all arms share, `into`, and ends in an open jump, its join, to where all arms
+-- meet. The numbers `starts` are those of the arms' first instructions. A plan has a program with its layouts; f is
+-- the number of a function, ls are the variables before the match, s is the type of its scrutinee, t that of its
+-- value. What is `wanted` of a match or a clause is a type, or nothing.
 use Rattle.std.specs.Prelude.{◌≡◌, ℕ, zero, suc, ◌≤◌, Bool, true, List, [], ◌++◌, length, Option, Some, None, Ok, slice_get}
 use Rattle.rb_core.specs.declared.value.Value.{Value}
 use Rattle.rb_core.specs.declared.types.Ty.{Ty}
@@ -31,17 +37,19 @@ use Rattle.rb_compile.specs.inner.Ready.{SitesAreReady}
 abbrev pub IsSubject : Plan → ℕ → Held → Ty → Type 0
 IsSubject plan n held s = (held.ty ≡ s) × AllBelow n held.slots × (length held.slots ≡ words_of plan s)
 
--- what is wanted of the next arm: what is wanted of the match, then what the arms before it gave
+-- what is wanted of the next arm: of the first what is wanted of the match, of a later one the type of what the arms
+-- before it gave
 abbrev pub wanted_in : Option Ty → Option Held → Option Ty
 wanted_in wanted None = wanted
 wanted_in wanted (Some h) = Some h.ty
 
--- the slots that the arms share, once there are some
+-- the slots that the arms share, once an arm stands, hold a value of type t, from slot n on and below m; before that
+-- nothing is said
 abbrev pub IsShared : Plan → ℕ → ℕ → Ty → Option Held → Type 0
 IsShared plan n m t None = Unit {0}
 IsShared plan n m t (Some h) = (h.ty ≡ t) × AreShared n m (words_of plan t) h.slots
 
--- the slots in which arms leave their values, once an arm stands
+-- the slots in which arms leave their values; none before the first arm stands
 abbrev pub shared_slots : Option Held → List ℕ
 shared_slots None = []
 shared_slots (Some h) = h.slots
@@ -59,7 +67,7 @@ abbrev pub clause_scope : Plan → Clause → List Local → Ty → List Binder
 clause_scope plan c ls s = scope_of ls ++ binders plan.program.types c.pat s
 
 -- a clause of a match of function f, whose scrutinee is of type s: its body has type t in its scope, its pattern is
--- typed, and the matches within it are ready
+-- typed, its numbers name something, and the matches within it are exhaustive and paid for by the plan
 pub record ClauseIsReady (plan : Plan) (f : ℕ) (c : Clause) (wanted : Option Ty) (ls : List Local)
     (s t : Ty) : Type 0 where
   pub sound : PlanIsSound plan
@@ -75,14 +83,16 @@ abbrev pub ClausesAreReady : Plan → ℕ → List Clause → Option Ty → List
 ClausesAreReady plan f cs wanted ls s t =
     (k : ℕ) (c : Clause) → slice_get cs k ≡ Some c → ClauseIsReady plan f c (wanted_of k wanted (Some t)) ls s t
 
--- the slots below n hold the scrutinee and the variables
+-- before an arm whose sheet has m slots: the slots below n hold the scrutinee, of type s, and the variables ls, and n
+-- is at most m
 pub record GroundIsReady (plan : Plan) (ls : List Local) (held : Held) (s : Ty) (n m : ℕ) : Type 0 where
   pub subject : IsSubject plan n held s
   pub given : AreGiven plan n ls
   pub low : n ≤ m
 
 -- the code from a to d is an arm, which does clause c on each value that its pattern matches, and takes no more
--- switches of its own than those that bind the pattern's variables
+-- switches of its own than those that bind the pattern's variables; the scrutinee is in the slots xs, the first n
+-- slots are kept, the value comes to the slots `into`, and `join` is the number of the open jump
 pub record DoesClause (plan : Plan) (f : ℕ) (c : Clause) (wanted : Option Ty) (ls : List Local) (s t : Ty)
     (xs : List ℕ) (n : ℕ) (into : List ℕ) (a d : Sheet) (join : ℕ) : Type 0 where
   pub adds : Adds plan a d
@@ -92,7 +102,8 @@ pub record DoesClause (plan : Plan) (f : ℕ) (c : Clause) (wanted : Option Ty) 
       (λ left. meaning_of plan.program calls f c.body wanted (clause_scope plan c ls s) left (env ++ bindings c.pat v))
       t into
 
--- the code from a to d is an arm for clause c, whose value is where the arms before it left theirs, if there are any
+-- the code from a to d is an arm for clause c, whose value is where the arms before it left theirs, `into`, or in new
+-- slots where it is the first; r has these slots and the arm's open jump
 pub record ArmIsDone (plan : Plan) (f : ℕ) (c : Clause) (wanted : Option Ty) (ls : List Local) (s t : Ty)
     (xs : List ℕ) (n : ℕ) (into : Option Held) (a d : Sheet) (r : Joined) : Type 0 where
   pub shared : IsShared plan n d.slots t (Some r.into)
@@ -112,14 +123,16 @@ abbrev pub DoesNumber : Plan → ℕ → List Clause → Option Ty → List Loca
 DoesNumber plan f cs wanted ls s t xs n into k a d join =
     (c : Clause) → slice_get cs k ≡ Some c → DoesClause plan f c (wanted_of k wanted (Some t)) ls s t xs n into a d join
 
--- the first i arms of the clauses cs stand behind e, and leave their values in the same slots
+-- in the code q the arms of the first i of the clauses cs stand behind e, and leave their values in the same slots,
+-- those of `into`; no slots where that is None
 pub record ArmsDone (plan : Plan) (f i : ℕ) (cs : List Clause) (wanted : Option Ty) (ls : List Local) (s t : Ty)
     (xs : List ℕ) (n : ℕ) (e q : Sheet) (into : Option Held) (joins : List Hole) (starts : List ℕ) : Type 0 where
   pub adds : Adds plan e q
   pub shared : IsShared plan n q.slots t into
   pub arms : ArmsIn i e q joins starts (DoesNumber plan f cs wanted ls s t xs n (shared_slots into))
 
--- where the clauses and what stands before the match are ready, the first i arms stand behind e
+-- where the clauses and what stands before the match are ready, the arms of the first i of the clauses cs stand
+-- behind e in the code q
 abbrev pub EmitsArms : Plan → ℕ → ℕ → List Clause → Option Ty → List Local → Held → Sheet → Sheet
     → Option Held → List Hole → List ℕ → Type 0
 EmitsArms plan f i cs wanted ls held e q into joins starts =

@@ -1,4 +1,9 @@
--- What is promised of the code of expressions.
+-- What is promised of the code of expressions. A sheet is code that is not finished, with the number of its slots;
+-- code is appended to an old one, and gives the new one. Values are held: they stand in slots, a word each. `locals`
+-- are the variables that are bound, each with its type and its slots. A plan has a program with its layouts, and f is
+-- the number of a function. What is `wanted` of an expression is the type that its place asks for, or nothing. An
+-- expression is ready where it has a type, its numbers name something, its matches are exhaustive and paid for, and
+-- its variables have slots. What it shows of its value is a pattern: the constructors that are written in it.
 use Rattle.std.specs.Prelude.{◌≡◌, ◌==◌, ℕ, max, List, [], ◌∷◌, map, take, Option, Some, None, if◌then◌else◌, slice_index}
 use Rattle.rb_core.specs.declared.types.Ty.{Ty}
 use Rattle.rb_core.specs.declared.types.Ty.TheVariants.{Int}
@@ -22,25 +27,27 @@ use Rattle.rb_fetch.specs.Choosing.{AreAsShown}
 use Rattle.rb_compile.specs.inner.Ready.{ExprIsReady, AreReady}
 use Rattle.rb_compile.specs.inner.Shown.{shown_of}
 
--- what an expression of function f does within its variables
+-- what an expression of function f means where its variables have the values env, `calls` gives what calls of
+-- functions do, and so many calls are left
 abbrev pub meant : Plan → ℕ → Expr → Option Ty → List Local → Calls → ℕ → List Binding → Outcome
 meant plan f e wanted locals calls left env = meaning_of plan.program calls f e wanted (scope_of locals) left env
 
--- where the expression is ready, the appended code leaves its value in the slots that are answered
+-- where the expression is ready, the appended code leaves its value, of its type t, in the slots of `held`
 abbrev pub EmitsExpr : Plan → ℕ → Expr → Option Ty → List Local → Sheet → Sheet → Held → Type 0
 EmitsExpr plan f e wanted locals old new held =
     (t : Ty) → ExprIsReady plan f e wanted locals old.slots t
     → (held.ty ≡ t) × Emits plan (meant plan f e wanted locals) locals old new t held.slots
 
--- where some expressions are ready, the appended code leaves the values of the first n of them in the slots that are
--- answered, each at its wanted type
+-- where the expressions es are ready at the types ts, the appended code leaves the values of the first n of them in
+-- the slots of hs, each at its wanted type; these values are as the expressions show
 abbrev pub EmitsFirst : Plan → ℕ → ℕ → List Expr → List Ty → List Local → Sheet → Sheet → List Held → Type 0
 EmitsFirst plan f n es ts locals old new hs =
     AreReady plan f es ts locals old.slots → AreGiven plan old.slots locals
     → EmitsAll plan (AreAsShown (map shown_of (take n es)))
     (λ calls. map (meaning_of plan.program calls f) (take n es)) ts locals old new hs
 
--- the width that an instruction states: no typed program has an integer of no bits
+-- the width in bits that an instruction states for an integer type; at least 1, since no typed program has an integer
+-- of no bits
 abbrev pub stated_width : Ty → ℕ
 stated_width t = max 1 (width_of t)
 
@@ -48,15 +55,15 @@ stated_width t = max 1 (width_of t)
 abbrev pub IsOne : Sheet → Instr → Ty → Sheet → Held → Type 0
 IsOne old i t new held = (new ≡ pushed (with_slot old) i) × (held ≡ record { ty = t; slots = old.slots ∷ [] })
 
--- an operator on values that are held, a word each
+-- the instruction of an operator on two values of type t that are held, a word each: the result goes to a new slot
 abbrev pub alu_on : Sheet → Op → Ty → Held → Held → Instr
 alu_on b op t x y = Alu (alu_op_of op) (stated_width t) b.slots (slice_index x.slots 0) (slice_index y.slots 0)
 
--- so many low bits of a value that is held in a word, taken to a new slot
+-- the instruction that takes so many low bits of a value that is held in a word to a new slot
 abbrev pub low_bits_of : Sheet → Held → ℕ → Instr
 low_bits_of b x bits = Take b.slots (slice_index x.slots 0) 0 bits
 
--- new slots for a value of a type
+-- a value of type t in new slots, which are those behind the slots of the sheet b
 abbrev pub new_held : Plan → Sheet → Ty → Held
 new_held plan b t = record { ty = t; slots = slots_from b.slots (words_of plan t) }
 

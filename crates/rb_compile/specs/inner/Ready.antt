@@ -1,5 +1,7 @@
 -- What is known of the expressions of a program that was accepted. A site is a match of a function: its token, the
--- type of its scrutinee, and its patterns.
+-- type of its scrutinee, and its patterns. A plan has a program with its layouts, and says how many switches each
+-- match may cost; it pays for a match where that is at least the bound of the match. An expression is wanted at a
+-- type, or at none; `locals` are the variables that are bound, each with its type and its slots.
 use Rattle.std.specs.Prelude.{◌≡◌, ℕ, ◌≤◌, ◌⊎◌, true, List, [], ◌∷◌, Option, Some, Ok, slice_get}
 use Rattle.rb_core.specs.declared.types.Ty.{Ty}
 use Rattle.rb_core.specs.declared.site.Site.{Site}
@@ -28,8 +30,8 @@ IsAmong s (x ∷ xs) = (x ≡ s) ⊎ IsAmong s xs
 abbrev pub SitesAreReady : Plan → ℕ → List Site → Type 0
 SitesAreReady plan f ss = (s : Site) → IsAmong s ss → SiteIsReady plan f s
 
--- An expression of function f has a type where this one is wanted, its numbers name something, its matches
--- are ready, and its variables have slots below n.
+-- An expression of function f has type t where type `wanted` is wanted of it, or none, its numbers name something,
+-- its matches are exhaustive and paid for, and its variables have slots below n.
 pub record ExprIsReady (plan : Plan) (f : ℕ) (e : Expr) (wanted : Option Ty) (locals : List Local) (n : ℕ)
     (t : Ty) : Type 0 where
   pub sound : PlanIsSound plan

@@ -1,4 +1,5 @@
--- What the file shows of the values of expressions.
+-- What the file shows of the values of expressions, before any code runs: a pattern that the value matches, with the
+-- constructors that are written in the expression. A wildcard shows nothing.
 use Rattle.rb_core.specs.declared.pattern.Pat.{Pat, Wild, Con}
 use Rattle.rb_core.specs.declared.expression.Expr.{Expr}
 use Rattle.rb_core.specs.declared.expression.Expr.TheOpen as E
@@ -6,7 +7,7 @@ use Rattle.rb_core.specs.declared.expression.Expr.TheOpen.{Expr-F}
 use Rattle.rb_core.specs.declared.expression.Expr.TheFolds.{fold-Expr}
 use Rattle.rb_core.specs.declared.expression.Clause.{Clause-F}
 
--- what an expression shows, from what its parts show
+-- what an expression shows, from what its parts show: a construction its constructor over them, any other nothing
 abbrev pub shown_step : Expr-F Pat Pat → Pat
 shown_step (E.Num at n) = Wild 0
 shown_step (E.Var at x) = Wild 0
@@ -17,7 +18,7 @@ shown_step (E.To at bits p) = Wild 0
 shown_step (E.Let at x t p q) = Wild 0
 shown_step (E.Match at p qs) = Wild 0
 
--- what a clause's body shows
+-- what a clause's body shows, where that is given
 abbrev pub shown_body : Clause-F Pat Pat → Pat
 shown_body c = c.body
 

@@ -1,4 +1,10 @@
--- What is promised of code in a tail position: each way through it returns.
+-- What is promised of code in a tail position, where a value is the function's result: each way through it returns. A
+-- sheet is code that is not finished, with the number of its slots; code is appended to an old one, and gives the new
+-- one: the code from a to d is what d has behind the end of a. An arm is the code of one clause of a match, and
+-- `starts` are the numbers of the arms' first instructions. A plan has a program with its layouts; f is the number of
+-- a function, t the type of its result, s the type of a match's scrutinee, held in slots, and ls or `locals` are the
+-- variables that are bound, each with its slots. A target is the number of an instruction to which a jump or a switch
+-- leads.
 use Rattle.std.specs.Prelude.{◌≡◌, ℕ, ◌+◌, ◌<◌, ◌≤◌, ◌⊎◌, Bool, true, List, ◌++◌, length, Some, slice_get, slice_index}
 use Rattle.rb_core.specs.declared.value.Value.{Value}
 use Rattle.rb_core.specs.declared.types.Ty.{Ty}
@@ -41,7 +47,7 @@ pub record FitsTail (plan : Plan) (t : Ty) (slots long pc : ℕ) (i : Instr) : T
   pub targets : TargetsFit long pc i
   pub calls : CallsWell plan i ⊎ IsReturn plan t i
 
--- instructions and slots are appended; each new slot is written, and each new instruction fits
+-- instructions and slots are appended to the old sheet; each new slot is written, and each new instruction fits
 pub record AddsTail (plan : Plan) (t : Ty) (old new : Sheet) : Type 0 where
   pub grows : Grows old.code new.code
   pub more : old.slots ≤ new.slots
@@ -50,7 +56,7 @@ pub record AddsTail (plan : Plan) (t : Ty) (old new : Sheet) : Type 0 where
   pub fine : (pc : ℕ) (i : Instr) → length old.code ≤ pc → slice_get new.code pc ≡ Some i
       → FitsTail plan t new.slots (length new.code) pc i
 
--- there is code, and its last instruction is a return
+-- there is code behind that of the old sheet, and its last instruction is a return
 pub record IsTail (plan : Plan) (t : Ty) (old new : Sheet) : Type 0 where
   pub adds : AddsTail plan t old new
   pub longer : length old.code < length new.code
@@ -58,8 +64,9 @@ pub record IsTail (plan : Plan) (t : Ty) (old new : Sheet) : Type 0 where
 
 -- What it does
 
--- From the end of the old code the run does what o does and returns the value's words, wherever Pre holds, with at
--- most so many extra switches: in any finished code that has the new code, and with any calls that are the source's.
+-- From the end of the old code the run does what o does and returns the value's words, wherever Pre holds of its
+-- slots and its memory, with at most so many extra switches: in any finished code that has the new code, and with any
+-- calls that are the source's.
 pub record Tail (plan : Plan) (clean : Bool) (calls : Calls) (extra : ℕ) (old new : Sheet)
     (Pre : List ℕ → Memory → Type 0) (o : ℕ → Outcome) (t : Ty) : Type 0 where
   pub runs : (final : List Instr) (callee : Callee) (next : Next)
@@ -69,7 +76,7 @@ pub record Tail (plan : Plan) (clean : Bool) (calls : Calls) (extra : ℕ) (old 
       → Does plan (w.switches + extra) (next (length old.code) s w) w.memory (o w.left)
       (GivesValue plan clean t (next (length old.code) s w))
 
--- the appended code returns what ev gives
+-- the appended code returns what ev gives of what calls do, of the calls that are left, and of the variables' values
 pub record EmitsTail (plan : Plan) (ev : Calls → ℕ → List Binding → Outcome) (locals : List Local)
     (old new : Sheet) (t : Ty) : Type 0 where
   pub tail : IsTail plan t old new
@@ -84,8 +91,8 @@ EmitsReturn plan f e t locals old new =
 
 -- Arms
 
--- the code from a to d does clause c on each value that its pattern matches, and returns; of its own it takes no
--- more switches than those that bind the pattern's variables
+-- the code from a to d does clause c on each value in the slots xs that its pattern matches, and returns; of its own
+-- it takes no more switches than those that bind the pattern's variables
 pub record DoesTailArm (plan : Plan) (f : ℕ) (c : Clause) (ls : List Local) (s t : Ty) (xs : List ℕ)
     (a d : Sheet) : Type 0 where
   pub tail : IsTail plan t a d
@@ -101,7 +108,8 @@ EmitsTailArm plan f c t ls held a d =
     (s : Ty) (n : ℕ) → ClauseIsReady plan f c (Some t) ls s t → GroundIsReady plan ls held s n a.slots
     → DoesTailArm plan f c ls s t held.slots a d
 
--- an arm that stands behind e in longer code q, from start on: what it does is said of its sheets
+-- an arm that stands behind e in longer code q, from start on: what it does, `DoesArm`, is said of the sheet before
+-- it and of the one behind it
 pub record TailArmIn (e q : Sheet) (start : ℕ) (DoesArm : Sheet → Sheet → Type 0) : Type 0 where
   pub first : Sheet
   pub last : Sheet
@@ -112,11 +120,12 @@ pub record TailArmIn (e q : Sheet) (start : ℕ) (DoesArm : Sheet → Sheet → 
   pub more : last.slots ≤ q.slots
   pub does : DoesArm first last
 
--- the first `count` arms of a match stand behind e in longer code q, each at its start
+-- the first `count` arms of a match stand behind e in longer code q, each at its start; `DoesArm` says what the arm
+-- of each number does
 abbrev pub TailArmsIn : ℕ → Sheet → Sheet → List ℕ → (ℕ → Sheet → Sheet → Type 0) → Type 0
 TailArmsIn count e q starts DoesArm = (k : ℕ) → k < count → TailArmIn e q (slice_index starts k) (DoesArm k)
 
--- arms behind e, whatever they do: where they begin
+-- so many arms behind e in longer code q, whatever they do: where they begin
 pub record TailArmsAre (count : ℕ) (e q : Sheet) (starts : List ℕ) : Type 0 where
   pub grows : Grows e.code q.code
   pub starts_from : AllFrom (length e.code) starts

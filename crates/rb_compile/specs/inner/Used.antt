@@ -1,4 +1,8 @@
--- The variables that an expression uses, and scopes and values that agree on them.
+-- The variables that an expression uses, and scopes and values that agree on them. Variables are numbered, and so a
+-- list of numbers is one of variables, which may have one more than once. A scope is a list of variables with their
+-- types, an environment one of variables with their values. A pattern that is pruned for an expression has wildcards
+-- in place of numbers and of some variables that the expression does not use; the others are kept. Marks tell which
+-- variables are used.
 use Rattle.std.specs.Prelude.{◌≡◌, ◌≤◌, ℕ, ◌-◌, Bool, true, nat_lt, if◌then◌else◌, unwrap_or, slice_get, List, [], ◌∷◌, ◌++◌, Contains}
 use Rattle.std.specs.List.{flat_map}
 use Rattle.rb_core.specs.declared.typing.Binder.{Binder}
@@ -23,7 +27,7 @@ use Rattle.rb_core.specs.Meaning.{value_in}
 use Rattle.rb_layout.specs.declared.layout.Layout.{Layout}
 use Rattle.rb_match.specs.Bounding.{binding_bound}
 
--- the variables of an expression, from those of its parts
+-- the variables of an expression, from those of its parts: each one where it stands, and none where one is bound
 abbrev pub variables_step : Expr-F (List ℕ) (List ℕ) → List ℕ
 variables_step (E.Num at n) = []
 variables_step (E.Var at x) = x ∷ []
@@ -46,11 +50,11 @@ variables_in = fold-Expr (List ℕ) (List ℕ) variables_step body_variables
 abbrev pub variables_of_clause : Clause → List ℕ
 variables_of_clause = fold-Clause (List ℕ) (List ℕ) variables_step body_variables
 
--- two scopes give these variables the same types
+-- two scopes give each of these variables the same type; one that a scope does not have is u64 there
 abbrev pub ScopesAgree : List ℕ → List Binder → List Binder → Type 0
 ScopesAgree xs s s' = (x : ℕ) → Contains xs x → variable_type x s ≡ variable_type x s'
 
--- two environments give these variables the same values
+-- two environments give each of these variables the same value; one that an environment does not have is 0 there
 abbrev pub ValuesAgree : List ℕ → List Binding → List Binding → Type 0
 ValuesAgree xs e e' = (x : ℕ) → Contains xs x → value_in e x ≡ value_in e' x
 
