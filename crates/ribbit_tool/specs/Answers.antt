@@ -1,4 +1,7 @@
--- The answer to the words of a command line, given what was read.
+-- The answer to the words of a command line, given what was read: the readings, in order, each a name with the bytes
+-- that were read under it. The words are parsed to a command, or to the number of their first word at fault. What is
+-- due is the right answer: a text that is printed, or a refusal, which is a status and its line, each with the number
+-- of steps, the instructions that a run began. Names and texts are lists of bytes.
 use Rattle.std.specs.Prelude.{◌≡◌, ℕ, List, [], ◌∷◌, Ok, Err}
 use Rattle.rb_accept.specs.Reading.{ReadsOne, file_limit, code_limit, image_limit}
 use Rattle.rb_command.specs.Command.{Parsed, check, layout, compile, run, image, count, gen, genrun, exec, value, peek}
@@ -17,7 +20,8 @@ use Rattle.ribbit_tool.specs.Peek.{PeeksValue}
 use Rattle.ribbit_tool.specs.Run.{RunsFile}
 use Rattle.ribbit_tool.specs.Value.{ReadsValue}
 
--- the files that a command reads, each with its limit
+-- the names of the files that a command reads, in order, each with its limit in bytes; none for `gen` and `genrun`,
+-- and where the words are no command
 abbrev pub files_of : Parsed → List (List ℕ × ℕ)
 files_of (Ok (check file)) = (file, file_limit) ∷ []
 files_of (Ok (layout file)) = (file, file_limit) ∷ []
@@ -54,7 +58,7 @@ AnswersCommand (Ok (value file second)) readings due = ReadsValue file second re
 AnswersCommand (Ok (peek file second path)) readings due = PeeksValue file second path readings due
 AnswersCommand (Err word) readings due = due ≡ refusal Usage (usage_line word)
 
--- what is owed over what was read: the answer, or memory ran out
+-- what is owed to the words over what was read: what is due to them, or the refusal that memory ran out
 pub data Owes (parsed : Parsed) (readings : List Reading) (due : Due) : Type 0 where
   answered : AnswersCommand parsed readings due → Owes parsed readings due
   out_of_memory : due ≡ refusal NoMemory no_memory_line → Owes parsed readings due

@@ -1,4 +1,5 @@
--- What is due to the check of a file: a line for each clause that no value reaches, and then `ok`.
+-- What is due to the check of a file: a line for each clause that no value reaches, its note, and then `ok`. What is
+-- due is the right answer: a text that is printed, or a refusal, each with a number of steps, which is 0 here.
 use Rattle.std.specs.Prelude.{◌≡◌, ℕ, List, length}
 use Rattle.rb_accept.specs.Accepting.{IsAccepted, Accepts}
 use Rattle.rb_core.specs.Coverage.{IsCovered}
@@ -7,7 +8,8 @@ use Rattle.rb_core.specs.declared.program.Program.{Program}
 use Rattle.rb_lines.specs.Answer.{Due, printed}
 use Rattle.rb_lines.specs.Notes.{check_text}
 
--- what is due to `check` of an accepted file: the notes on its clauses that no value reaches, and `ok`
+-- what is due to `check` of a file that is accepted with program p: the notes on its clauses that no value reaches,
+-- and `ok`
 pub record Checks (bytes : List ℕ) (p : Program) (a : IsAccepted bytes p) (due : Due) : Type 0 where
   pub notes : List Note
   pub covered : IsCovered p notes

@@ -1,4 +1,7 @@
--- Code for accepted files, and what is due to the command `compile`.
+-- Code for accepted files, and what is due to the command `compile`: the right answer, which is a text that is
+-- printed, or a refusal. Flat layouts are those in which each case of a type has its words and its blocks written
+-- out. A switch is an instruction that goes on by the value of some bits; how many may be done, the program's matches
+-- and constructions say.
 use Rattle.std.specs.Prelude.{◌≡◌, ℕ, List}
 use Rattle.rb_accept.specs.Accepting.{Accepts}
 use Rattle.rb_compile.specs.Plans.{plan_of}
@@ -12,12 +15,12 @@ use Rattle.rb_target.specs.Text.{code_text}
 use Rattle.rb_target.specs.Validity.{IsValid}
 use Rattle.rb_target.specs.declared.code.CodeFun.{CodeFun}
 
--- a program with its flat layouts
+-- `agreed` is the program p with its flat layouts
 pub record IsLaidOut (p : Program) (agreed : LaidOut) : Type 0 where
   pub program : agreed.covered.program ≡ p
   pub layouts : agreed.layouts ≡ flat_layouts p
 
--- valid code that does what the program means, with few switches
+-- valid code that does what the program means under its layouts, with few switches
 pub record IsCompiled (agreed : LaidOut) (code : List CodeFun) : Type 0 where
   pub valid : IsValid code
   pub refines : Refines (plan_of agreed) code

@@ -1,4 +1,7 @@
--- What is due to the command `count`: the value of a run, and what the run did.
+-- What is due to the command `count`: the value of a run, and what the run did, its tally. What is due is the right
+-- answer: a text that is printed, or a refusal, each with the number of steps, the instructions that the run began.
+-- The limits are the number of calls that the run may make, and the address at which its region ends: the memory of
+-- the run, whose first address is 64. `agreed` is a program with its layouts.
 use Rattle.std.specs.Prelude.{◌≡◌, ℕ, List, ◌++◌, codes}
 use Rattle.std.specs.Fmt.{decimal}
 use Rattle.rb_bytes.specs.Memory.{empty_memory}
@@ -22,7 +25,7 @@ use Rattle.ribbit_tool.specs.Run.{PreparesFile, answer_due, laid_all, source_ans
 abbrev pub number_line : List ℕ → ℕ → List ℕ
 number_line name count = ended (name ++ codes " " ++ decimal count)
 
--- the value, and how many calls were made, switches done, blocks placed and bytes taken
+-- a line with the value, and lines with how many calls were made, switches done, blocks placed and bytes taken
 abbrev pub count_text : Program → Tally → Value → List ℕ
 count_text p tally v =
     codes "value " ++ value_line p v ++ number_line (codes "calls") tally.calls
@@ -31,8 +34,8 @@ count_text p tally v =
 
 -- What is due -------------------------------------------------------------------------------
 
--- where a call of `main` over a fresh region returns: the calls that are not left, the blocks that were laid,
--- and the bytes from address 64 up to the next one
+-- what the tally has where a call of `main` on these values over a fresh region returns: the calls that are not left,
+-- the blocks that were laid, and the bytes from address 64 up to the next one; of another end nothing is said
 abbrev pub IsMainTally : Program → List Layout → Limits → List Value → Tally → Type 0
 IsMainTally p layouts limits args tally =
     IsTally (laid_all p layouts limits args) (call_of p p.main limits.calls args).end limits.calls tally

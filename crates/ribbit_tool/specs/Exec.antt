@@ -1,4 +1,8 @@
--- What is due to a code text, the name of a function, limits and words.
+-- What is due to a code text, the name of a function, limits and words: the right answer, which is a text that is
+-- printed, or a refusal, a status and its line, each with the number of steps, the instructions that the run began.
+-- The words are numbers of 64 bits, with which the function is called. The limits are the number of calls that the
+-- run may make, and the address at which its region, the memory of the run, ends. Functions are numbered from 0, in
+-- their order.
 use Rattle.std.specs.Prelude.{◌≡◌, ℕ, List, length, ◌==◌, if◌then◌else◌, Option, Some, None, slice_get}
 use Rattle.std.specs.List.{position}
 use Rattle.std.specs.Str.{bytes_eq}
@@ -19,18 +23,19 @@ use Rattle.rb_target.specs.Stopping.{IsTextOf, StopsAt}
 use Rattle.rb_target.specs.Text.{code_text}
 use Rattle.rb_target.specs.Validity.{IsValid}
 
--- what is shown of the returned words, or the line of any other end
+-- what is due to the end of a run that had so many calls and took so many steps: what is shown of the returned words,
+-- or the line of any other end
 abbrev pub end_due : (List ℕ → List ℕ) → ℕ → End → ℕ → Due
 end_due shown calls (Returned words left) steps = printed (shown words) steps
 end_due shown calls Spent steps = refused status.Spent (spent_line calls) steps
 end_due shown calls (Full f) steps = refused status.Full (full_line f) steps
 end_due shown calls (Trapped t) steps = refused status.Trap (trap_line t) steps
 
--- what is due to a run: its words on a line, or the line of its end
+-- what is due to the outcome of a run that had so many calls: its words on a line, or the line of any other end
 abbrev pub outcome_due : Outcome → ℕ → Due
 outcome_due o calls = end_due words_line calls o.ended o.world.taken
 
--- the number of the first function of this name
+-- the number of the first function of this name; None where none has it
 abbrev pub fun_named : List CodeFun → List ℕ → Option ℕ
 fun_named funs name = position (λ f. bytes_eq f.name name) funs
 
@@ -52,8 +57,9 @@ named_due funs name limits words (Some f) = call_due funs limits words f
 abbrev pub exec_due : List CodeFun → List ℕ → Limits → List ℕ → Due
 exec_due funs name limits words = named_due funs name limits words (fun_named funs name)
 
--- What is due to the bytes of a code text: valid code is run, and of other functions the first fault is
--- shown. Where the bytes are no text of functions, it is the first byte from which none goes on.
+-- What is due to the bytes of a code text: valid code is run, and of functions that are no valid code the first fault
+-- is shown. Where the bytes are no text of functions, the number of the byte at which they stop being the front of
+-- one is shown.
 pub data Executes (name : List ℕ) (limits : Limits) (words : List ℕ) (bytes : List ℕ) (due : Due) : Type 0 where
   executed : (funs : List CodeFun) → IsValid funs → bytes ≡ code_text funs → due ≡ exec_due funs name limits words
       → Executes name limits words bytes due

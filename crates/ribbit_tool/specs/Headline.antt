@@ -1,6 +1,9 @@
--- The headline: where a file is accepted and its arguments are of `main`'s types, the run prints the value
--- of the source's meaning, or names it as over the node limit, or says that the calls are spent or the
--- region is full exactly where the source, with the blocks that its layouts ask for, first passes that limit.
+-- The headline: where a file is accepted and its arguments are of `main`'s types, the run prints the value of the
+-- source's meaning, or names it as over the node limit, or says that the calls are spent or the region is full
+-- exactly where the source, with the blocks that its layouts ask for, first passes that limit. A sink takes what is
+-- written; `out` is the output and `err` the error output, each before and after a call. A source hands out files by
+-- name. The limits are the number of calls that the run may make, and the address at which its region, the memory of
+-- the run, ends.
 use Rattle.std.specs.Prelude.{◌≡◌, ◌≤◌, ℕ, List, [], ◌∷◌, length, IsTrue, Some}
 use Rattle.rb_accept.specs.Accepting.{IsAccepted}
 use Rattle.rb_accept.specs.Arguments.{Spell}
@@ -21,7 +24,8 @@ use Rattle.ribbit_tool.specs.Answers.{files_of}
 use Rattle.ribbit_tool.specs.Promise.{IsCalm}
 use Rattle.ribbit_tool.specs.Run.{value_line}
 
--- the status and the very text of the source's answer, by what is shown of its value
+-- the status and the very text of the source's answer, by what is shown of its value: the text went to the output, or
+-- the line of the limit that was passed to the error output, and nothing to the other
 abbrev pub SaysAnswer : (Value → List ℕ) → Limits → answer.Answer → Change → Change → ℕ → Type 0
 SaysAnswer shown limits (answer.Shown v) out err status = (status ≡ 0) × Took out (shown v) × Took err []
 SaysAnswer shown limits answer.Spent out err status =

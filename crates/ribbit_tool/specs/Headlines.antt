@@ -1,4 +1,7 @@
--- What is promised of `compile`, of the other commands that call `main`, and of generated files.
+-- What is promised of `compile`, of the other commands that call `main`, and of generated files. A sink takes what is
+-- written; `out` is the output and `err` the error output, each before and after a call, and `status` is the one that
+-- the program ends with. The source hands out files by name. The limits are the number of calls that the run may
+-- make, and the address at which its region, the memory of the run, ends. A tally is what is counted of a run.
 use Rattle.std.specs.Prelude.{◌≡◌, ℕ, List, []}
 use Rattle.rb_accept.specs.Accepting.{IsAccepted}
 use Rattle.rb_accept.specs.Arguments.{Spell}

@@ -1,4 +1,8 @@
--- What is due to the command `image`: the words of a run's value, and the blocks of the memory that it left.
+-- What is due to the command `image`: the words of a run's value, and the blocks of the memory that it left. These
+-- are an image of the value: its words represent it with what is in the blocks, and cleanly where the bits that
+-- layouts leave free are 0. What is due is the right answer: a text that is printed, or a refusal, each with the
+-- number of steps, the instructions that the run began. The limits are the number of calls that the run may make, and
+-- the address at which its region, the memory of the run, ends.
 use Rattle.std.specs.Prelude.{◌≡◌, ℕ, List}
 use Rattle.rb_bytes.specs.Growth.{AreWhole}
 use Rattle.rb_bytes.specs.Memory.{Memory, IsGood, empty_memory}
@@ -19,7 +23,8 @@ use Rattle.rb_run.specs.Calling.{IsCounted}
 use Rattle.rb_target.specs.declared.code.CodeFun.{CodeFun}
 use Rattle.ribbit_tool.specs.Run.{PreparesFile, answer_due, laid_all, laid_values, whole_answer}
 
--- words and a memory that show a value of `main`: the memory has just the blocks that are asked for
+-- words and a memory that show the value v of `main` on these arguments: the memory has just the blocks that are
+-- asked for
 pub record IsImageOf (p : Program) (layouts : List Layout) (limits : Limits) (args : List Value) (v : Value)
     (words : List ℕ) (m : Memory) : Type 0 where
   pub asked : laid_all p layouts limits args ≡ Fits m.blocks m.next

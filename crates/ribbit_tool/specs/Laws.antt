@@ -1,4 +1,5 @@
--- Laws of code texts.
+-- Laws of code texts: what the command `exec` does with them. A plan has a program with its layouts, words represent
+-- values by these, and what is due is the right answer, a text that is printed or a refusal.
 use Rattle.std.specs.Prelude.{◌≡◌, ◌≤◌, ℕ, List, Bool, Some, slice_get}
 use Rattle.rb_bytes.specs.Memory.{empty_memory, most_region}
 use Rattle.rb_command.specs.Command.{Limits}

@@ -1,4 +1,5 @@
--- What is due to the command `layout`: the flat form of each type's layout.
+-- What is due to the command `layout`: the flat form of each type's layout, in which each case of the type has its
+-- words and its blocks written out. What is due is the right answer: a text that is printed, or a refusal.
 use Rattle.std.specs.Prelude.{◌≡◌, ℕ, List}
 use Rattle.rb_accept.specs.Accepting.{Accepts}
 use Rattle.rb_core.specs.declared.program.Program.{Program}

@@ -1,4 +1,8 @@
--- What the program promises, of any words, source and sinks.
+-- What the program promises, of any words, source and sinks. The words are those of a command line: they are parsed
+-- to a command, or to the number of the first word at fault. A source hands out files by name, as readings: a name
+-- with the bytes that were read under it. A sink takes what is written; `out` is the output and `err` the error
+-- output, each before and after a call. What is due is the right answer: a text that is printed, or a refusal, a
+-- status and its line, each with the number of steps, the instructions that a run began.
 use Rattle.std.specs.Prelude.{◌≡◌, ◌≢◌, ℕ, ◌+◌, ◌⊎◌, List, [], ◌∷◌, ◌++◌, IsTrue, None}
 use Rattle.rb_accept.specs.Reading.{Source, handed_out, ReadsInTurn}
 use Rattle.rb_command.specs.Command.{Parsed, IsParsed}
@@ -27,7 +31,7 @@ pub record GivesDue (due : Due) (out err : Change) (steps : Counting) (status : 
   pub shown : Shows due out err
   pub counted : steps.now ≡ steps.before + steps_of due
 
--- the right answer was given to what was read
+-- the right answer was given to what was read: the sinks took it, and its status and its steps are those of the call
 abbrev pub GivesAnswer : Parsed → Source → Change → Change → Counting → ℕ → Type 0
 GivesAnswer parsed source out err steps status =
     (due : Due) × AnswersCommand parsed (handed_out source) due × GivesDue due out err steps status

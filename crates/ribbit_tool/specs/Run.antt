@@ -1,4 +1,9 @@
--- What is due to the run of a file, and the answer of the source to a call of `main`.
+-- What is due to the run of a file, and the answer of the source to a call of `main`. What is due is the right
+-- answer: a text that is printed, or a refusal, a status and its line, each with the number of steps, the
+-- instructions that the run began. The limits are the number of calls that the run may make, and the address at which
+-- its region ends: the memory of the run, whose first address is 64. Blocks are laid in it: placed one behind the
+-- other, or one of them is the first that does not fit. The words are texts that spell the arguments of `main`.
+-- `agreed` is a program with its layouts.
 use Rattle.std.specs.Prelude.{◌≡◌, ℕ, List, ◌++◌, map, true}
 use Rattle.rb_accept.specs.Accepting.{Accepts}
 use Rattle.rb_accept.specs.Arguments.{Spell, IsMisfit}
@@ -33,8 +38,8 @@ pub record IsPrepared (agreed : LaidOut) (code : List CodeFun) (args : List Valu
   pub typed : all_of_types (map (is_of_type agreed.covered.program.types) args)
       (param_types agreed.covered.program.funs agreed.covered.program.main) ≡ true
 
--- What is due to an accepted program and words: they spell no arguments of `main`; or they do, there is code
--- that does what the source means, and something follows.
+-- What is due to an accepted program and words: they spell no arguments of `main`, and are refused; or they do, there
+-- is code that does what the source means, and what is due is what `Then` says of code and arguments.
 pub data Prepares (words : List (List ℕ)) (Then : LaidOut → List CodeFun → List Value → Due → Type 0) (p : Program)
     (due : Due) : Type 0 where
   misfit : IsMisfit p words due → Prepares words Then p due
@@ -42,8 +47,8 @@ pub data Prepares (words : List (List ℕ)) (Then : LaidOut → List CodeFun →
       → IsPrepared agreed code args → Spell p words args
       → Then agreed code args due → Prepares words Then p due
 
--- what is due to a file within the limit, by its bytes, and words: a refusal of either, or what follows of its code
--- and the arguments that the words spell
+-- what is due to a file within the limit, by its bytes, and words: a refusal of either, or what `Then` says of its
+-- code and the arguments that the words spell
 abbrev pub PreparesFile : List (List ℕ) → List ℕ → (LaidOut → List CodeFun → List Value → Due → Type 0) → Due → Type 0
 PreparesFile words bytes Then due = Accepts bytes (λ p a d. Prepares words Then p d) due
 
@@ -53,7 +58,8 @@ PreparesFile words bytes Then due = Accepts bytes (λ p a d. Prepares words Then
 abbrev pub source_answer : Program → List Layout → Limits → List Value → answer.Answer
 source_answer p layouts limits args = answer_of p layouts args limits.calls limits.region node_limit
 
--- what is due to an answer of the source: what is shown of its value, or the line of the limit that it passes first
+-- what is due to an answer of the source to a call with so many calls, after so many steps: what is shown of its
+-- value, or the line of the limit that it passes first
 abbrev pub answer_due : (Value → List ℕ) → ℕ → answer.Answer → ℕ → Due
 answer_due shown calls (answer.Shown v) steps = printed (shown v) steps
 answer_due shown calls answer.Spent steps = refused status.Spent (spent_line calls) steps
@@ -72,7 +78,8 @@ laid_all p layouts limits args =
     lay limits.region 64 (requests_of layouts (all_makings p.types args (param_types p.funs p.main)
     ++ (call_of p p.main limits.calls args).log))
 
--- the answer to a call that ends so, its blocks laid like this, however many nodes the value has
+-- the answer to a call that ends so, its blocks laid like this, however many nodes, numbers and constructions, the
+-- value has
 abbrev pub unbounded : Laid → SourceEnd → answer.Answer
 unbounded (Over full) end = answer.Full full
 unbounded (Fits blocks next) Spent = answer.Spent

@@ -1,4 +1,7 @@
--- What is due to the command `value`: the value that an image holds of the result type of `main`.
+-- What is due to the command `value`: the value that an image holds of the result type of `main`. An image has words,
+-- its root, and blocks; with what is in these the words represent the value. What is due is the right answer: a text
+-- that is printed, or a refusal. A value is too large where it has more nodes, numbers and constructions, than may be
+-- shown.
 use Rattle.std.specs.Prelude.{◌≡◌, ◌≤◌, ◌<◌, List, ℕ}
 use Rattle.rb_accept.specs.Opening.{Opens}
 use Rattle.rb_core.specs.Typing.{result_type}

@@ -1,4 +1,5 @@
-//! The command `check`.
+//! The command `check`: it reads a file, and notes the clauses that no value reaches. A refusal is
+//! the answer in place of the text: a status with its line, or that memory ran out.
 
 ghost use Rattle.std.specs.Prelude.{◌≤◌, ℕ, length, IfOk, IfErr, Ok, [], ◌∷◌};
 ghost use Rattle.rb_accept.specs.Reading.{ReadsInTurn, file_limit, source_of};
@@ -16,7 +17,8 @@ use rb_lines::note::checked;
 use rb_lines::refusal::Refusal;
 use std::alloc::{AllocError, Global};
 
-// The text of `check` for an accepted file: a line for each clause that no value reaches, and `ok`.
+// The text of `check` for the bytes of a file and what it was accepted as: a line for each clause
+// that no value reaches, and `ok`. An error is want of memory.
 fn check_accepted(alloc: Global, bytes: &[u8], accepted: &Accepted) -> Result<Vec<u8>, AllocError>
     requires { IsAcceptance bytes.now accepted.now }
     ensures { IfOk result (λ text. ChecksFile bytes.now (printed text.items 0)) }
@@ -38,7 +40,8 @@ fn check_bytes(alloc: Global, bytes: &[u8]) -> Result<Vec<u8>, Refusal>
     Ok(text)
 }
 
-/// The notes on the clauses of a file that no value reaches, and `ok`, where it is accepted.
+/// The notes on the clauses that no value reaches, and `ok`, for the file that the source has under
+/// a name, where it is accepted.
 ///
 /// # Errors
 ///

@@ -1,4 +1,6 @@
-//! Code for accepted files, and the command `compile`.
+//! Code for accepted files, and the command `compile`. A refusal is the answer in place of the
+//! text: a status with its line, or that memory ran out. A switch is an instruction that goes on by
+//! the value of some bits.
 
 ghost use Rattle.std.specs.Prelude.{◌≤◌, ℕ, length, IfOk, IfErr, Ok, [], ◌∷◌};
 ghost use Rattle.rb_accept.specs.Reading.{ReadsInTurn, file_limit, source_of};
@@ -43,7 +45,7 @@ fn compile_bytes(alloc: Global, bytes: &[u8]) -> Result<Vec<u8>, Refusal>
     Ok(text)
 }
 
-/// The code text of a file, where it is accepted.
+/// The code text of the file that the source has under a name, where it is accepted.
 ///
 /// # Errors
 ///

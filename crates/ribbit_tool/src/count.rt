@@ -1,4 +1,8 @@
-//! The command `count`: the value of a run, and what the run did.
+//! The command `count`: the value of a run, and what the run did, its tally. A refusal is the
+//! answer in place of the text: a status with its line, or that memory ran out. The limits are the
+//! number of calls that the run may make, and the address at which its region, the memory of the
+//! run, ends. A step is an instruction that the run begins: each is added to `steps`. `agreed` is a
+//! program with its layouts.
 
 ghost use Rattle.std.specs.Prelude.{◌≡◌, ◌≤◌, ◌+◌, ◌++◌, ℕ, length, IfOk, OnOk, Ok, [], ◌∷◌};
 ghost use Rattle.rb_accept.specs.Reading.{ReadsInTurn, file_limit, source_of};
@@ -29,7 +33,7 @@ use rb_run::count::{Counted, Tally, count_main};
 use rb_values::forest::Forest;
 use std::alloc::{AllocError, Global};
 
-// A line with a count behind its name.
+// A line with a count behind its name. An error is want of memory.
 fn number(alloc: Global, name: &str, count: u128) -> Result<Vec<u8>, AllocError>
     ensures { IfOk result (λ text. text.items ≡ number_line name.now count) }
 {
@@ -44,7 +48,8 @@ fn push_line(alloc: Global, text: &mut Vec<u8>, name: &str, count: u128) -> Resu
     push(text, line.as_slice())
 }
 
-// The text of a value, and what its run did.
+// The text of a value of the result type of `main`, and of what its run did. An error is want of
+// memory.
 fn counts(
     alloc: Global,
     program: &Program,
@@ -63,7 +68,8 @@ fn counts(
     Ok(text)
 }
 
-// The text of a run's answer and of its counts, or the refusal in its place.
+// The text of a run's answer and of its counts, or the refusal in its place: `calls` is the limit
+// that the run had.
 fn show(alloc: Global, program: &Program, counted: &Counted, calls: u64) -> Result<Vec<u8>, Refusal>
     ensures { (before steps : ℕ) → Meets (λ due. due
         ≡ answer_due (count_text program.now counted.now.tally) calls (meant_by counted.now.answer) steps) before
@@ -81,7 +87,8 @@ fn show(alloc: Global, program: &Program, counted: &Counted, calls: u64) -> Resu
     Err(Refusal::Refused(Refused { status, line }))
 }
 
-// Runs `main` over a fresh region, and counts.
+// Runs `main` of a prepared program over a fresh region: the text of its value and of what the run
+// did, or the refusal in its place.
 fn count_prepared<L: Ledger>(
     alloc: Global,
     agreed: &Agreed,
@@ -108,8 +115,8 @@ fn count_prepared<L: Ledger>(
 ///
 /// # Errors
 ///
-/// The answer to a file that is not accepted, to words that spell no arguments, and to a run that passes a limit; or
-/// want of memory.
+/// The answer to a file that is not accepted, to words that spell no arguments, and to a run that
+/// passes a limit; or want of memory.
 pub(crate) fn count_bytes<L: Ledger>(
     alloc: Global,
     bytes: &[u8],
@@ -125,12 +132,13 @@ pub(crate) fn count_bytes<L: Ledger>(
     count_prepared(alloc, &accepted.agreed, &prepared, limits, steps)
 }
 
-/// The value of `main` of a file on these values, within limits, and what its run did.
+/// The text of `count` for the file that the source has under a name: the value of its `main` on
+/// the values that these words spell, within limits, and what its run did.
 ///
 /// # Errors
 ///
-/// The answer to a file that is not read or not accepted, to words that spell no arguments, and to a run that passes
-/// a limit; or want of memory.
+/// The answer to a file that is not read or not accepted, to words that spell no arguments, and to
+/// a run that passes a limit; or want of memory.
 pub fn count_file<S: Source, L: Ledger>(
     alloc: Global,
     src: &mut S,

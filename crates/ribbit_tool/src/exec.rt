@@ -1,4 +1,8 @@
-//! The command `exec`: a function of a code text is run.
+//! The command `exec`: a function of a code text is run on words, numbers of 64 bits. A refusal is
+//! the answer in place of the text: a status with its line, or that memory ran out. The limits are
+//! the number of calls that the run may make, and the address at which its region, the memory of
+//! the run, ends. A step is an instruction that the run begins: each is added to `steps`. Functions
+//! are numbered from 0.
 
 ghost use Rattle.std.specs.Prelude.{◌≡◌, ◌≢◌, ◌<◌, ◌+◌, ℕ, length, IfOk, IfSome, Ok, slice_get, [], ◌∷◌};
 ghost use Rattle.rb_accept.specs.Reading.{ReadsInTurn, code_limit, source_of};
@@ -31,7 +35,8 @@ use rb_target::outcome::End;
 use rb_target::read::read_code;
 use std::alloc::{AllocError, Global};
 
-// The text of a run's end, or the refusal in its place.
+// The text of a run's end, the words that it returned, or the refusal in its place: `calls` is the
+// limit that the run had.
 fn show(alloc: Global, end: &End, calls: u64) -> Result<Vec<u8>, Refusal>
     ensures { (before steps : ℕ) → Meets (λ due. due ≡ end_due words_line calls end.now steps) before
         (before + steps) result }
@@ -125,7 +130,8 @@ fn run_named<L: Ledger>(
     }
 }
 
-// The answer to bytes that are no code.
+// The refusal of bytes that are no valid code, by their fault. An error is want of memory, where
+// that is the fault too.
 fn refuse_code(alloc: Global, fault: CodeFault) -> Result<Refused, AllocError>
     ensures fault { IfOk result (λ c. fault ≢ Memory) }
     ensures due { IfOk result (λ c. due_of c ≡ refusal status.Code (code_line fault)) }
@@ -140,7 +146,8 @@ fn refuse_code(alloc: Global, fault: CodeFault) -> Result<Refused, AllocError>
     })
 }
 
-// The text of a run of a function of a code text within the limit, or the refusal in its place.
+// The text of a run of the function of this name of a code text on these words, or the refusal in
+// its place.
 fn run_code<L: Ledger>(
     alloc: Global,
     bytes: &[u8],
@@ -161,12 +168,13 @@ fn run_code<L: Ledger>(
     }
 }
 
-/// The words that a function of a code text returns on these words, within limits.
+/// The text of `exec` for the code text that the source has under the name `code`: the words that
+/// its first function of this name returns on these words, within limits.
 ///
 /// # Errors
 ///
-/// The answer to a code text that is not read or not valid, to a function that is not there or takes other arguments,
-/// and to a run that is trapped or passes a limit; or want of memory.
+/// The answer to a code text that is not read or not valid, to a function that is not there or
+/// takes other arguments, and to a run that is trapped or passes a limit; or want of memory.
 pub fn run_code_file<S: Source, L: Ledger>(
     alloc: Global,
     src: &mut S,

@@ -1,8 +1,10 @@
-//! The commands `gen` and `genrun`: a file of so many functions that call each other in turn, and its run.
+//! The commands `gen` and `genrun`: a file of so many functions that call each other in turn, and
+//! its run.
 //!
-//! Beside functions that build a list of the numbers from 1 to 3,000, the file has functions `f0`, `f1` and
-//! so on. Each adds the first item of a list to what the next function makes of the others, and behind the
-//! last stands the first. So the run gives 4,501,500, whichever their number.
+//! Beside functions that build a list of the numbers from 1 to 3,000, the file has functions `f0`,
+//! `f1` and so on. Each adds the first item of a list to what the next function makes of the
+//! others, and behind the last stands the first. So the run gives 4,501,500, whichever their
+//! number.
 
 ghost use Rattle.std.specs.Prelude.{◌≡◌, ◌++◌, ℕ, IfOk, OnOk};
 ghost use Rattle.rb_command.specs.View.{limits_view};
@@ -16,18 +18,19 @@ use rb_lines::line::push;
 use rb_lines::refusal::Refusal;
 use std::alloc::{AllocError, Global};
 
-// The type of lists.
+// The line with the type of lists.
 const LIST_TYPE: &[u8] = b"type List = Nil | Cons(u64, List);\n";
 
-// Its layout: the lowest bit of the pointer tells the leaves apart.
+// The line with the layout of lists: the lowest bit of the word tells the empty list from a pointer
+// to an item and the rest.
 const LIST_LAYOUT: &[u8] =
     b"layout List <64> = split 0[0:1] { 1 => Nil : { word 64 { [0:1] = 1 } } 0 => Cons(_, _) : { word 64 { [0:1] = 0, [3:61] -> 8 { word 64 { [0:64] .0 }, inline .1 } } } };\n";
 
-// The function that puts the numbers from 1 to `n` in front of a list.
+// The line of the function that puts the numbers from 1 to `n` in front of a list.
 const UP: &[u8] =
     b"fun up(n: u64, l: List): List = match n { 0 => l, _ => up(sub(n, 1), Cons(n, l)) };\n";
 
-// What is run: the first function, on the numbers from 1 to 3,000.
+// The line of `main`, which calls the first function on the numbers from 1 to 3,000.
 const MAIN: &[u8] = b"fun main(): u64 = f0(up(3000, Nil));\n";
 
 // The line of function `i`, which calls function `j`.
@@ -48,7 +51,8 @@ fn push_sum(alloc: Global, text: &mut Vec<u8>, i: u64, j: u64) -> Result<(), All
     push(text, line.as_slice())
 }
 
-// Adds the lines of the functions that call each other in turn to the text so far.
+// Adds the lines of the functions that call each other in turn to the text so far: each calls the
+// next, and the last calls the first.
 fn push_sums(alloc: Global, text: &mut Vec<u8>, functions: Functions) -> Result<(), AllocError>
     ensures { OnOk result (text.new.items ≡ text.old.items ++ sum_lines functions.count 0 functions.count) }
 {
@@ -70,7 +74,7 @@ fn generate(alloc: Global, functions: Functions) -> Result<Vec<u8>, AllocError>
     Ok(text)
 }
 
-/// The text of the file with so many functions, which no step takes.
+/// The text of the file with so many functions. Nothing is run for it, and so it takes no steps.
 ///
 /// # Errors
 ///
@@ -82,7 +86,8 @@ pub fn generate_file(alloc: Global, functions: Functions) -> Result<Vec<u8>, Ref
     Ok(text)
 }
 
-/// What the run of the file with so many functions did.
+/// What `count` says of the file with so many functions: the value of its `main`, within limits,
+/// and what the run did. The steps of the run are added to `steps`.
 ///
 /// # Errors
 ///

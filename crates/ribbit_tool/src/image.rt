@@ -1,4 +1,9 @@
 //! The command `image`: the words of a run's value, and the blocks of the memory that it left.
+//! These are an image of the value, which the words represent with what is in the blocks. A refusal
+//! is the answer in place of the text: a status with its line, or that memory ran out. The limits
+//! are the number of calls that the run may make, and the address at which its region, the memory
+//! of the run, ends. A step is an instruction that the run begins: each is added to `steps`.
+//! `agreed` is a program with its layouts.
 
 ghost use Rattle.std.specs.Prelude.{◌≡◌, ◌≤◌, ◌+◌, ℕ, length, Ok, [], ◌∷◌};
 ghost use Rattle.rb_accept.specs.Reading.{ReadsInTurn, file_limit, source_of};
@@ -32,7 +37,8 @@ use rb_run::call::call_main;
 use rb_target::outcome::End;
 use std::alloc::Global;
 
-// The text of a call's end over the memory that it left, or the refusal in its place.
+// The text of the end of a call of `main` over the memory that it left, or the refusal in its
+// place: `calls` is the limit that the call had. No such call is trapped.
 fn show(
     alloc: Global,
     agreed: &Agreed,
@@ -78,7 +84,8 @@ fn image_prepared<L: Ledger>(
     show(alloc, agreed, &ran.end, &memory, limits.calls)
 }
 
-// The text of `image` for the bytes of a file within the limit, or the refusal in its place.
+// The text of `image` for the bytes of a file within the limit and words that spell the arguments
+// of `main`, or the refusal in its place.
 fn image_bytes<L: Ledger>(
     alloc: Global,
     bytes: &[u8],
@@ -94,12 +101,13 @@ fn image_bytes<L: Ledger>(
     image_prepared(alloc, &accepted.agreed, &prepared, limits, steps)
 }
 
-/// The words and the blocks of the value of `main` of a file on these values, within limits.
+/// The text of `image` for the file that the source has under a name: the words and the blocks of
+/// the value of its `main` on the values that these words spell, within limits.
 ///
 /// # Errors
 ///
-/// The answer to a file that is not read or not accepted, to words that spell no arguments, and to a run that passes
-/// a limit; or want of memory.
+/// The answer to a file that is not read or not accepted, to words that spell no arguments, and to
+/// a run that passes a limit; or want of memory.
 pub fn image_file<S: Source, L: Ledger>(
     alloc: Global,
     src: &mut S,

@@ -1,4 +1,6 @@
-//! The command `layout`.
+//! The command `layout`: it reads a file, and shows the flat form of each layout, in which each
+//! case of the type has its words and its blocks written out. A refusal is the answer in place of
+//! the text: a status with its line, or that memory ran out.
 
 ghost use Rattle.std.specs.Prelude.{◌≤◌, ℕ, length, IfOk, IfErr, Ok, [], ◌∷◌};
 ghost use Rattle.rb_accept.specs.Reading.{ReadsInTurn, file_limit, source_of};
@@ -27,7 +29,8 @@ fn layout_bytes(alloc: Global, bytes: &[u8]) -> Result<Vec<u8>, Refusal>
     Ok(text)
 }
 
-/// The flat forms of the layouts of a file, where it is accepted.
+/// The flat forms of the layouts of the file that the source has under a name, where it is
+/// accepted.
 ///
 /// # Errors
 ///

@@ -1,4 +1,7 @@
-//! The command `peek`: the part to which a path leads in the value that an image holds.
+//! The command `peek`: the part to which a path leads in the value that an image holds. An image
+//! has words, its root, and blocks; with what is in these the words represent the value. A path is
+//! a list of numbers of fields, from the outside in. `agreed` is a program with its layouts. A
+//! refusal is the answer in place of the text: a status with its line, or that memory ran out.
 
 ghost use Rattle.std.specs.Prelude.{◌≡◌, ℕ, IfOk, IfErr, Ok};
 ghost use Rattle.rb_accept.specs.Reading.{ReadsInTurn, source_of};
@@ -35,8 +38,8 @@ fn image_of(part: Peeked, whole: Image) -> Image
     }
 }
 
-// The part to which a path leads from the value of a type that an image holds, on a line. The words that are read on
-// the way are no steps of a run.
+// The part to which a path leads from the value of type `ty` that an image holds, on a line; or the
+// refusal in its place. The words that are read on the way are no steps of a run.
 fn part_text(
     alloc: Global,
     agreed: &Agreed,
@@ -66,7 +69,7 @@ fn part_text(
 }
 
 // The part to which a path leads from the value of the result type of `main` that an image holds,
-// on a line.
+// on a line; or the refusal in its place.
 fn part_of_main(
     alloc: Global,
     agreed: &Agreed,
@@ -85,13 +88,14 @@ fn part_of_main(
     part_text(alloc, agreed, ty, image, path)
 }
 
-/// The part to which a path leads in the value that an image holds of the result type of `main` of a file, where the
-/// file is accepted.
+/// The part to which a path leads in the value that an image holds of the result type of `main` of
+/// a file, where the file is accepted. The source has both under their names, `file` and `image`.
 ///
 /// # Errors
 ///
-/// The answer to a file that is not read or not accepted, to an image that is not read or not spelled, to a path that
-/// leads to no part or has a word at fault on it, or to a part that holds no value to be shown; or want of memory.
+/// The answer to a file that is not read or not accepted, to an image that is not read or not
+/// spelled, to a path that leads to no part or has a word at fault on it, or to a part that holds
+/// no value to be shown; or want of memory.
 pub fn peek_file<S: Source>(
     alloc: Global,
     src: &mut S,

@@ -1,4 +1,8 @@
-//! The command `run`: a file is accepted, prepared and run.
+//! The command `run`: a file is accepted, prepared and run. It is prepared where there are code for
+//! its program and the arguments of `main`. A refusal is the answer in place of the text: a status
+//! with its line, or that memory ran out. The limits are the number of calls that the run may make,
+//! and the address at which its region, the memory of the run, ends. A step is an instruction that
+//! the run begins: each is added to `steps`. `agreed` is a program with its layouts.
 
 ghost use Rattle.std.specs.Prelude.{◌≡◌, ◌≤◌, ◌+◌, ℕ, length, IfOk, IfErr, Ok, [], ◌∷◌};
 ghost use Rattle.rb_accept.specs.Arguments.{IsMisfit, Spell};
@@ -40,7 +44,7 @@ use std::alloc::{AllocError, Global};
 pub struct Prepared {
     /// Code that does what the program means.
     pub code: Code,
-    /// The arguments.
+    /// The arguments, one for each parameter of `main`.
     pub args: Seq<Forest>,
 }
 
@@ -59,7 +63,7 @@ pub fn prepare(alloc: Global, agreed: &Agreed, words: &[Name]) -> Result<Prepare
     Ok(Prepared { code, args })
 }
 
-/// The text of a value of a type, on a line.
+/// The text of a value of type `ty`, one of a program with these types, on a line.
 ///
 /// # Errors
 ///
@@ -92,7 +96,7 @@ pub(crate) fn show_value(
     show_at(alloc, program.types.as_slice(), ty, value)
 }
 
-// The text of a run's answer, or the refusal in its place.
+// The text of a run's answer, or the refusal in its place: `calls` is the limit that the run had.
 fn show(alloc: Global, program: &Program, answer: &Answer, calls: u64) -> Result<Vec<u8>, Refusal>
     ensures { (before steps : ℕ) → Meets (λ due. due
         ≡ answer_due (value_line program.now) calls (meant_by answer.now) steps) before (before + steps) result }
@@ -109,7 +113,8 @@ fn show(alloc: Global, program: &Program, answer: &Answer, calls: u64) -> Result
     Err(Refusal::Refused(Refused { status, line }))
 }
 
-// Runs `main` over a fresh region: the text of its answer, or the refusal in its place.
+// Runs `main` of a prepared program over a fresh region: the text of its answer, or the refusal in
+// its place.
 fn run_prepared<L: Ledger>(
     alloc: Global,
     agreed: &Agreed,
@@ -131,7 +136,8 @@ fn run_prepared<L: Ledger>(
     show(alloc, agreed.covered().program(), &answer, limits.calls)
 }
 
-// The text of `run` for the bytes of a file within the limit, or the refusal in its place.
+// The text of `run` for the bytes of a file within the limit and words that spell the arguments of
+// `main`, or the refusal in its place.
 fn run_bytes<L: Ledger>(
     alloc: Global,
     bytes: &[u8],
@@ -147,12 +153,13 @@ fn run_bytes<L: Ledger>(
     run_prepared(alloc, &accepted.agreed, &prepared, limits, steps)
 }
 
-/// The value of `main` of a file on these values, within limits.
+/// The text of `run` for the file that the source has under a name: the value of its `main` on the
+/// values that these words spell, within limits.
 ///
 /// # Errors
 ///
-/// The answer to a file that is not read or not accepted, to words that spell no arguments, and to a run that passes
-/// a limit; or want of memory.
+/// The answer to a file that is not read or not accepted, to words that spell no arguments, and to
+/// a run that passes a limit; or want of memory.
 pub fn run_file<S: Source, L: Ledger>(
     alloc: Global,
     src: &mut S,

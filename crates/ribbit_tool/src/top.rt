@@ -1,4 +1,7 @@
-//! The top call.
+//! The top call: the words of a command line are parsed to a command, the files that it names are
+//! read from the source, and the answer goes to the sinks. An answer is a text that is printed, or
+//! a refusal: a status with its line, or that memory ran out. A step is an instruction that a run
+//! begins: each is added to `steps`. Of the sinks `out` takes texts, and `err` lines.
 
 ghost use Rattle.std.specs.Prelude.{◌≡◌, IfOk, Ok};
 ghost use Rattle.rb_accept.specs.Reading.{ReadsInTurn, source_of};
@@ -85,7 +88,8 @@ fn obey<S: Source, L: Ledger>(
     }
 }
 
-// The answer to words that are no command.
+// The refusal of words that are no command, by the number of the first word at fault. An error is
+// want of memory.
 fn refuse_words(alloc: Global, word: usize) -> Result<Refused, AllocError>
     ensures { IfOk result (λ c. due_of c ≡ refusal status.Usage (usage_line word)) }
 {
@@ -118,7 +122,8 @@ fn compose<S: Source, L: Ledger>(
     }
 }
 
-// Composes the answer and delivers it.
+// Composes the answer to the words of a command line and delivers it: gives the status that is
+// right for it, or that of a sink that failed.
 fn answer<S: Source, O: Sink, E: Sink, L: Ledger>(
     alloc: Global,
     words: &[Name],
@@ -139,9 +144,9 @@ fn answer<S: Source, O: Sink, E: Sink, L: Ledger>(
     }
 }
 
-/// The whole program: from the words of a command line, the files of a source, two sinks and a counter of
-/// steps to a status. The text of status 0 goes to `out`, the line of any other to `err`; nothing is
-/// written before the text is whole.
+/// The whole program: from the words of a command line, the files of a source, two sinks and a
+/// counter of steps to a status. The text of status 0 goes to `out`, the line of any other to
+/// `err`; nothing is written before the text is whole.
 pub fn ribbit<S: Source, O: Sink, E: Sink, L: Ledger>(
     alloc: Global,
     words: &Words,
@@ -155,14 +160,14 @@ pub fn ribbit<S: Source, O: Sink, E: Sink, L: Ledger>(
         (change O.tells O.taken O.account O.faults out.old out.new)
         (change E.tells E.taken E.account E.faults err.old err.new)
         (record { before = steps.old.taken; now = steps.new.taken }) result }
-    // The headline, where the file gave bytes that are accepted: the value of the source's meaning, or the
-    // limit that it passes.
+    // The headline, where the file gave bytes that are accepted: the value of the source's meaning,
+    // or the limit that it passes.
     ensures headline { Headline words.now
         (source_of S.tells S.held S.readings S.faults src.old src.new)
         (change O.tells O.taken O.account O.faults out.old out.new)
         (change E.tells E.taken E.account E.faults err.old err.new) result }
-    // The other half of the headline: the text of code that does the same for all arguments that words
-    // represent, in any good memory, and never traps.
+    // The other half of the headline: the text of code that does the same for all arguments that
+    // words represent, in any good memory, and never traps.
     ensures compile { CompileHeadline words.now
         (source_of S.tells S.held S.readings S.faults src.old src.new)
         (change O.tells O.taken O.account O.faults out.old out.new)

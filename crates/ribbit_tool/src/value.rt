@@ -1,4 +1,6 @@
-//! The command `value`: the value that an image holds.
+//! The command `value`: the value that an image holds. An image has words, its root, and blocks;
+//! with what is in these the words represent the value. `agreed` is a program with its layouts. A
+//! refusal is the answer in place of the text: a status with its line, or that memory ran out.
 
 ghost use Rattle.std.specs.Prelude.{◌≡◌, ℕ, IfOk, IfErr, Ok};
 ghost use Rattle.rb_accept.specs.Reading.{ReadsInTurn, source_of};
@@ -33,7 +35,7 @@ pub(crate) fn layouts_are_flat(agreed: &Agreed)
     let _ = agreed.layouts();
 }
 
-/// The value of a type that an image holds, on a line.
+/// The value of type `ty` that an image holds, on a line.
 ///
 /// # Errors
 ///
@@ -47,7 +49,8 @@ pub(crate) fn value_text(
     requires placed { AreInPlace image.now.blocks }
     requires sized { AreBlocks image.now.blocks }
     requires declared { IsDeclared agreed.now.covered.program.types ty }
-    ensures text { IfOk result (λ text. ReadsBack agreed.now.covered.program ty image.now (printed text.items 0)) }
+    ensures text { IfOk result (λ text.
+        ReadsBack agreed.now.covered.program ty image.now (printed text.items 0)) }
     ensures refused { IfErr result (IsRefusal (ReadsBack agreed.now.covered.program ty image.now)) }
 {
     layouts_are_flat(agreed);
@@ -64,7 +67,8 @@ pub(crate) fn value_text(
     }
 }
 
-// The value of the result type of `main`.
+// The value of the result type of `main` that an image holds, on a line; or the refusal in its
+// place.
 fn value_of_main(alloc: Global, agreed: &Agreed, image: &Image) -> Result<Vec<u8>, Refusal>
     requires placed { AreInPlace image.now.blocks }
     requires sized { AreBlocks image.now.blocks }
@@ -78,7 +82,8 @@ fn value_of_main(alloc: Global, agreed: &Agreed, image: &Image) -> Result<Vec<u8
     value_text(alloc, agreed, ty, image)
 }
 
-/// The value that an image holds of the result type of `main` of a file, where the file is accepted.
+/// The value that an image holds of the result type of `main` of a file, where the file is
+/// accepted. The source has both under their names, `file` and `image`.
 ///
 /// # Errors
 ///
@@ -93,7 +98,8 @@ pub fn value_file<S: Source>(
     ensures read { ReadsInTurn (files_of (Ok (spec.value file.now image.now)))
         (source_of S.tells S.held S.readings S.faults src.old src.new) }
     ensures owed { (steps : ℕ) → Meets
-        (Owes (Ok (spec.value file.now image.now)) (added S.readings src.old src.new)) steps steps result }
+        (Owes (Ok (spec.value file.now image.now))
+        (added S.readings src.old src.new)) steps steps result }
 {
     let opened = open_image(alloc, src, file, image)?;
     value_of_main(alloc, &opened.accepted.agreed, &opened.image)

@@ -1,4 +1,5 @@
--- The text for the words, before it is delivered.
+-- The text for the words of a command line, or the refusal in its place, before it is delivered: before anything is
+-- written. A source hands out files by name.
 use Rattle.std.specs.Prelude.{ℕ, List, Result}
 use Rattle.std.specs.declared.alloc.Global.{Global}
 use Rattle.std.specs.declared.vec.Vec.{Vec}
