@@ -26,10 +26,10 @@ pub record HasHead (plan : Plan) (f : Fun) (q : CodeFun) : Type 0 where
   pub params : q.params ≡ words_in plan (types_of f)
   pub results : q.results ≡ words_of plan f.result
 
--- How a run from memory m ends, where the blocks that the source asks for are laid like this and the
--- source ends so. Where a block does not fit, the run ends with it; where the source has spent its calls, so has the
--- run. With a value of type t: it returns words that represent it, with as many calls left, in a memory
--- that has exactly these blocks more.
+-- How a run from memory m ends, where the blocks that the source asks for are laid like this and the source ends so.
+-- Where a block does not fit, the run ends with it. Where all fit and the source has spent its calls, so has the run.
+-- Where all fit and it comes to a value of type t, the run returns words that represent it, with as many calls left,
+-- in a memory that has exactly these blocks more.
 abbrev pub EndsAs : Plan → Bool → Ty → Memory → Laid → SourceEnd → Run → Type 0
 EndsAs plan clean t m (Over full) e run = run.ended ≡ target.Full full
 EndsAs plan clean t m (Fits blocks next) source.Spent run = run.ended ≡ target.Spent

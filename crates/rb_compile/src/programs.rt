@@ -1,6 +1,5 @@
-//! From programs to code. A program whose layouts agree has been accepted, and each of its types
-//! has a layout; `agreed` is both. A switch is an instruction that goes on by the value of some
-//! bits.
+//! From programs to code. `agreed` is a program with its layouts: the program is typed, each of its
+//! matches is exhaustive, and the layouts agree with its types.
 
 ghost use Rattle.std.specs.Prelude.{◌≡◌, length, IfOk};
 ghost use Rattle.rb_compile.specs.Plans.{plan_of};

@@ -1,7 +1,7 @@
 -- Code for accepted files, and what is due to the command `compile`: the right answer, which is a text that is
 -- printed, or a refusal. Flat layouts are those in which each case of a type has its words and its blocks written
--- out. A switch is an instruction that goes on by the value of some bits; how many may be done, the program's matches
--- and constructions say.
+-- out. A switch is an instruction that goes on by the value of some bits. Code does few of them where each match and
+-- each construction that the source does costs no more than its bound.
 use Rattle.std.specs.Prelude.{◌≡◌, ℕ, List}
 use Rattle.rb_accept.specs.Accepting.{Accepts}
 use Rattle.rb_compile.specs.Plans.{plan_of}

@@ -1,11 +1,12 @@
 //! The top call of Ribbit: the words of a command line in, a status and its text out.
 //!
-//! A command goes through steps that each give the next what it needs, or the answer at which all ends: a
-//! status with the line that says why. So each answer is the first that is due. `run list.rib 100 4096 7`:
+//! A command goes through steps that each give the next what it needs, or the answer at which all
+//! ends: a status with the line that says why. So each answer is the first that is due. Take
+//! `run list.rib 100 4096 7`:
 //!
 //! ```text
 //! parse             the command                          or usage, at a word
-//! read_within       the bytes of list.rib                or a file too long, or one that is not read
+//! read_within       the bytes of list.rib                or a file too long, or not read
 //! accept            its program, agreed with layouts     or the first fault of the file
 //! compile           code
 //! read_arguments    the values of main                   or the word that is none
@@ -14,12 +15,12 @@
 //! print             the text to the first sink           or a sink that fails
 //! ```
 //!
-//! Nothing is written before the text is whole: that of status 0 goes to the first sink, the line of any
-//! other to the second. Want of memory is the one answer that is left open, at any step.
+//! Nothing is written before the text is whole: that of status 0 goes to the first sink, the line
+//! of any other to the second. Want of memory is the one answer that is left open, at any step.
 //!
-//! There is a file for each command. [`top`] puts them together, and its contract is the main theorem: the
-//! status and the bytes in both sinks are those that the definition of the command says, for what the source
-//! handed out.
+//! There is a file for each command. [`top`] puts them together, and its contract is the main
+//! theorem: the status and the bytes in both sinks are those that the definition of the command
+//! says, for what the source handed out.
 #![tactic(auto)]
 
 pub mod check;
