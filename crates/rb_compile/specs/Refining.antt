@@ -20,7 +20,8 @@ use Rattle.rb_target.specs.Meaning.{Outcome as Run, run_of}
 use Rattle.rb_rel.specs.Placing.{Laid, Fits, Over, lay, requests_of}
 use Rattle.rb_fragment.specs.Plan.{Plan, Rep, Reps, types_of, words_in, words_of}
 
--- a function of the code has the name of the program's, and the words of its parameters and of its result
+-- function q of the code has the name of function f of the program, takes as many words as the types of f's
+-- parameters have together, and returns as many as the type of its result has
 pub record HasHead (plan : Plan) (f : Fun) (q : CodeFun) : Type 0 where
   pub name : q.name ≡ f.name
   pub params : q.params ≡ words_in plan (types_of f)

@@ -1,7 +1,7 @@
 -- What is due to the command `peek`: the part to which a path leads in the value that an image is to hold. An image
 -- has words, its root, and blocks; with what is in these the words represent the value. A path is a list of numbers
--- of fields, from the outside in, and a part is the value to which it leads, by its type and its words. What is due
--- is the right answer: a text that is printed, or a refusal.
+-- of fields, from the outermost value on, and a part is the value to which it leads, by its type and its words. What
+-- is due is the right answer: a text that is printed, or a refusal.
 use Rattle.std.specs.Prelude.{◌≡◌, List, ℕ}
 use Rattle.rb_accept.specs.Opening.{Opens}
 use Rattle.rb_core.specs.Typing.{result_type}

@@ -40,7 +40,8 @@ use Rattle.rb_compile.specs.inner.Arms.{ClauseIsReady, GroundIsReady, clause_sco
 abbrev pub IsReturn : Plan → Ty → Instr → Type 0
 IsReturn plan t i = (froms : List ℕ) × (i ≡ Return froms) × (length froms ≡ words_of plan t)
 
--- an instruction of code of so many slots and instructions: nothing stands behind the last, so no target does
+-- instruction i with number pc fits code of so many slots and `long` instructions: nothing stands behind the last, so
+-- no target does; what calls or returns does so with as many words as the program's types have
 pub record FitsTail (plan : Plan) (t : Ty) (slots long pc : ℕ) (i : Instr) : Type 0 where
   pub bounded : IsBounded i
   pub slots_fit : SlotsFit slots i
