@@ -1,4 +1,6 @@
--- When code does what other code does, with no more instructions.
+-- When code does what other code does, with no more instructions. A run is of a function, by its number from 0, on
+-- words, its arguments, over a memory and with a number of calls left. Its outcome is how it ended and the world
+-- then: the calls left, the memory, and how many switches were done and instructions taken, that is, begun.
 use Rattle.std.specs.Prelude.{◌≡◌, ℕ, ◌≤◌, List, length, Some, slice_get}
 use Rattle.rb_bytes.specs.Memory.{Memory}
 use Rattle.rb_target.specs.declared.code.CodeFun.{CodeFun}
@@ -18,8 +20,8 @@ pub record HasSameHead (f q : CodeFun) : Type 0 where
   pub params : q.params ≡ f.params
   pub results : q.results ≡ f.results
 
--- the new functions have the heads of the old ones, and each run is no dearer, from any words that the function takes
--- and any memory
+-- the new functions have the heads of the old ones, and each run is no dearer: of any function, by its number g, on
+-- any words ws that it takes, over any memory m and with any number n of calls
 pub record IsTrimOf (old new : List CodeFun) : Type 0 where
   pub count : length new ≡ length old
   pub heads : (g : ℕ) (f : CodeFun) → slice_get old g ≡ Some f → (q : CodeFun) × (slice_get new g ≡ Some q)

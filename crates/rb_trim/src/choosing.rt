@@ -1,6 +1,10 @@
 //! What is wanted of a body, from its last instruction back, which two instructions become one, and
 //! what runs come to. `facts` are those known before an instruction, or lists of them, one for each
-//! instruction of the body.
+//! instruction of the body; a fact says of a slot what it holds, its content. `pc` is the number of
+//! an instruction, here `instr`. Behind it is where a run goes on after it, by one of its ways: to
+//! the next one, or to a target; a switch's other way is the one that it takes where no arm has the
+//! number. An instruction that is not wanted is idle, and the end of one is where a run goes on
+//! that jumps to it.
 
 use crate::fact::{Content, Fact};
 use crate::hints::RETURNS;
@@ -75,7 +79,7 @@ fn is_wanted(rest: &Rest, facts: &[Fact], pc: usize, instr: &Instr) -> bool {
     }
 }
 
-// Whether a slot is read from the target of some arm on.
+// Whether a slot is read from the target of some arm on; false for no arms.
 fn is_read_by_arm(rest: &Rest, arms: &[SwitchArm], slot: usize) -> bool {
     for arm in arms {
         if is_read(rest, arm.target, slot) {

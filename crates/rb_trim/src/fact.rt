@@ -1,4 +1,5 @@
-//! Facts on the slots of a function.
+//! Facts on the slots of a function. A slot is one of a function's own words, by its number; a fact
+//! says what it holds.
 
 use rb_target::instr::AluOp;
 

@@ -1,4 +1,7 @@
-//! Whether the numbers of a shorter body fit.
+//! Whether the numbers of a shorter body fit. Slots and instructions are numbered from 0; a target
+//! is the instruction to which a jump or a switch goes. `hints` have the new number of each slot of
+//! the old body, its number in the shorter body, and for each new number its origin, the slot that
+//! has it.
 
 ghost use Rattle.std.specs.Prelude.{◌≡◌, ◌↔◌, ◌<◌, ◌≤◌, ◌+◌, ℕ, IsTrue, length, true};
 ghost use Rattle.rb_target.specs.Validity.{AreSlots, AreArms, IsTarget, SlotsFit, TargetsFit, EndsInReturn, dests, dest_count};
@@ -45,14 +48,15 @@ fn is_target(long: usize, pc: usize, target: usize) -> bool
     pc < target && target < long
 }
 
-// Whether each arm's target lies behind an instruction and within the body.
+// Whether each arm's target lies behind instruction `pc` and within a body of `long` instructions.
 fn are_arms(long: usize, pc: usize, arms: &[SwitchArm]) -> bool
     ensures { IsTrue result ↔ AreArms long pc arms.now }
 {
     arms.iter().all(|arm| is_target(long, pc, arm.target))
 }
 
-// Whether an instruction's targets lie behind it and within the body.
+// Whether the targets of instruction `pc` lie behind it and within a body of `long` instructions;
+// true where it has none.
 fn targets_fit(long: usize, pc: usize, instr: &Instr) -> bool
     ensures { IsTrue result ↔ TargetsFit long pc instr.now }
 {
@@ -75,7 +79,8 @@ fn targets_fit(long: usize, pc: usize, instr: &Instr) -> bool
     }
 }
 
-// Whether the numbers of an instruction that may be made from others are within their bounds.
+// Whether the numbers in an instruction of a kind that is made anew from facts are within their
+// bounds: bits of an operation, and a range of bits. True of every other instruction.
 fn is_ranged(instr: &Instr) -> bool
     ensures { IsTrue result → IsRanged instr.now }
 {
@@ -130,7 +135,7 @@ fn counts_slots(slots: usize, params: usize, body: &[Instr]) -> bool
     unwritten == 0
 }
 
-// Whether the last instruction is a return.
+// Whether the last instruction is a return; false where there is none.
 fn ends_in_return(body: &[Instr]) -> bool
     ensures { IsTrue result ↔ EndsInReturn body.now }
 {

@@ -1,4 +1,8 @@
 //! Switches whose other way leads to a switch on the same word: one switch has the arms of both.
+//! The other way is the one that a switch takes where no arm has the number. `hints` tell what is
+//! known before each instruction of `body`, whether a run may come to it, where a jump to it goes
+//! on, its end, and the new numbers of instructions and slots; `pc` is the number of `instr` in
+//! `body`. Where a test fails the hints do not fit, which is the error `Stop::Unfit`.
 
 ghost use Rattle.std.specs.Prelude.{◌≡◌, ◌++◌, ◌↔◌, All, IfSome, IfOk, IsTrue, map};
 ghost use Rattle.rb_target.specs.declared.instr.SwitchArm.{SwitchArm as SwitchArmDecl};
@@ -10,7 +14,7 @@ use rb_core::seq::Seq;
 use rb_target::instr::{Instr, SwitchArm};
 use std::alloc::Global;
 
-// Whether a run may come to the target of each arm.
+// Whether a run may come to where a jump to the target of each arm goes on; true for no arms.
 fn arms_come(hints: &Hints, arms: &[SwitchArm]) -> bool
     ensures { IsTrue result
         ↔ All (λ (arm : SwitchArmDecl). IsReached hints.now (end hints.now arm.target)) arms.now }
@@ -19,7 +23,8 @@ fn arms_come(hints: &Hints, arms: &[SwitchArm]) -> bool
         .all(|arm| is_reached(hints, end_at(hints, arm.target)))
 }
 
-// Whether a run may come to the target of a switch's other way, if it has one.
+// Whether a run may come to where a jump to the target of a switch's other way goes on; true where
+// there is no such way.
 fn other_comes(hints: &Hints, other: Option<usize>) -> bool
     ensures { IsTrue result → IfSome other (λ t. IsReached hints.now (end hints.now t)) }
 {
@@ -29,7 +34,8 @@ fn other_comes(hints: &Hints, other: Option<usize>) -> bool
     }
 }
 
-// The arms of two switches in one list, those of the first in front, with their new targets.
+// The arms of two switches in one list, those of the first in front, with their new targets. The
+// `Err` is want of memory.
 fn both(
     alloc: Global,
     hints: &Hints,
@@ -51,7 +57,8 @@ fn both(
 ///
 /// # Errors
 ///
-/// It does not lead to one on the same word, or want of memory.
+/// The other way is missing or does not lead to a switch on the same word, the hints do not say
+/// that runs may come to all targets, or want of memory.
 pub(crate) fn into_switch(
     alloc: Global,
     hints: &Hints,

@@ -1,4 +1,8 @@
-//! Loads whose word is copied right behind: they make it in the copy's slot.
+//! Loads whose word is copied right behind: they make it in the copy's slot. `hints` tell what is
+//! known before each instruction of `body`, which slots are read from it on, whether a run may come
+//! to it, where a jump to it goes on, and the new numbers of instructions and slots; `pc` is the
+//! number of `instr` in `body`. Where a test fails the hints do not fit, which is the error
+//! `Stop::Unfit`.
 
 ghost use Rattle.std.specs.Prelude.{IfOk};
 ghost use Rattle.rb_trim.specs.inner.Moving.{IsCopied, IsInto};
@@ -36,7 +40,8 @@ fn copied_to(hints: &Hints, body: &[Instr], at: usize, slot: usize) -> Result<us
 ///
 /// # Errors
 ///
-/// It is no load, or no copy of its word is right behind, or the word is read otherwise.
+/// It is no load, or no copy of its word is right behind, or the word is read otherwise, or the new
+/// numbers do not fit.
 pub(crate) fn into_copy(
     hints: &Hints,
     body: &[Instr],

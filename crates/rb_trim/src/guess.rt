@@ -1,5 +1,5 @@
-//! Hints for a body: what is known before each instruction, what is left out, and new numbers. Nothing rests on their
-//! being right.
+//! Hints for a body: what is known before each instruction, what is left out, and new numbers,
+//! those of instructions and slots in the shorter body. Nothing rests on their being right.
 
 use crate::choosing::{choose, clear_unreached, give, places_of, put, reach, stays, used};
 use crate::hints::Hints;
@@ -9,7 +9,8 @@ use rb_core::seq::Seq;
 use rb_target::code::CodeFun;
 use std::alloc::{AllocError, Global};
 
-/// Hints that leave everything as it is.
+/// Hints that leave every instruction and number of a function as it is: nothing is known, runs may
+/// come to everything, and each slot is read up to the end.
 ///
 /// # Errors
 ///
@@ -31,7 +32,8 @@ pub(crate) fn identity(alloc: Global, fun: &CodeFun) -> Result<Hints, AllocError
     })
 }
 
-/// Hints that leave out what is known, what is not read and what no run comes to, and make one of two instructions.
+/// Hints for a function that leave out what is known, what is not read and what no run comes to,
+/// and make one of two instructions.
 ///
 /// # Errors
 ///

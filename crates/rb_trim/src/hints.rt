@@ -1,4 +1,6 @@
-//! What tells how a body gets shorter.
+//! What tells how a body gets shorter. A fact says of a slot what it holds. Behind an instruction
+//! is where a run goes on after it, by one of its ways. An instruction stays if it, or another one
+//! in its stead, is in the shorter body, and has its new number, its place, there.
 
 use crate::fact::Fact;
 use rb_core::seq::Seq;

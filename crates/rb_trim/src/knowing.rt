@@ -1,4 +1,6 @@
-//! What is known of slots.
+//! What is known of slots. `facts` are those known at some place in a body: each says of a slot
+//! what it holds, its content, which is told by the slots that it names. Bits `o` up to `o + l` are
+//! the `l` bits from bit `o` on, as a number.
 
 ghost use Rattle.std.specs.Prelude.{◌≡◌, ◌+◌, ◌<◌, ◌^◌, ℕ, IfSome, IsTrue, Some, Contains};
 ghost use Rattle.rb_bits.specs.Words.{take_of};
@@ -27,7 +29,7 @@ pub(crate) fn source(facts: &[Fact], slot: usize) -> usize
     slot
 }
 
-// The slot whose word a fact says that `slot` holds, if it says so of any.
+// The slot whose word a fact says that `slot` holds; None where it says no such thing.
 fn same_as(fact: &Fact, slot: usize) -> Option<usize>
     ensures { IfSome result (λ from. fact.now ≡ record { slot = slot; content = Same from }) }
 {
@@ -42,7 +44,7 @@ fn same_as(fact: &Fact, slot: usize) -> Option<usize>
     }
 }
 
-// What a slot is known to hold, by the first fact on it, if there is one.
+// What a slot is known to hold, by the first fact on it; None where there is no fact on it.
 pub(crate) fn content_of(facts: &[Fact], slot: usize) -> Option<Content>
     ensures { IfSome result (λ content. IsHeld facts.now slot content) }
 {

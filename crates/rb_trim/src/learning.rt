@@ -1,4 +1,7 @@
-//! What is known before each instruction of a body, and which slots were written before it, as far as a walk forward tells.
+//! What is known before each instruction of a body, and which slots were written before it, as far
+//! as a walk forward tells. What is known are facts, the newest last: each says of a slot what it
+//! holds, its content, which is told by the slots that it names. `pc` is the number of an
+//! instruction, a place in the body. Behind it is where a run goes on after it, by one of its ways.
 
 use crate::fact::{Content, Fact};
 use crate::knowing::{remade, source};
@@ -55,8 +58,8 @@ fn common(alloc: Global, facts: &[Fact], others: &[Fact]) -> Result<Seq<Fact>, A
     Ok(both)
 }
 
-// Notes an edge, a way on which a run may come to an instruction: what is known there is what holds
-// by each edge.
+// Notes an edge, a way on which a run may come to instruction `pc`, and on which `facts` hold: what
+// is known there is what holds by each edge. Nothing is noted past the end.
 fn meet(alloc: Global, known: &mut Knowledge, pc: usize, facts: &[Fact]) -> Result<(), AllocError> {
     let Some(is_met) = known.is_met.get(pc) else {
         return Ok(());
@@ -277,7 +280,8 @@ pub(crate) fn set_by(instr: &Instr) -> Option<usize> {
     }
 }
 
-// The slots that were set last and not read since, behind an instruction: the newest ones only.
+// The slots that were set last and not read since, behind an instruction, where `slots` are those
+// before it: the newest ones only.
 fn later(
     alloc: Global,
     slots: &[usize],
@@ -298,8 +302,8 @@ fn later(
     Ok(after)
 }
 
-// Notes an edge, a way on which a run may come to an instruction: the slots that were set last by
-// either edge, as many as are kept.
+// Notes an edge, a way on which a run may come to instruction `pc`: `late` has for it the slots
+// that were set last by either edge, as many as are kept. Nothing is noted past the end.
 fn join(
     alloc: Global,
     late: &mut Seq<Seq<usize>>,

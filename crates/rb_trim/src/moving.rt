@@ -1,4 +1,9 @@
-//! The instructions that stand for others, under new numbers.
+//! The instructions that stand for others, under new numbers. `hints` tell how a body gets shorter:
+//! a slot and an instruction have new numbers, those in the shorter body, and the origin of a new
+//! number is the slot that has it. `facts` are those known before instruction `pc`: each says of a
+//! slot what it holds, its content. A switch's other way is the one that it takes where no arm has
+//! the number. Hints are guesses: where they say what cannot be used they do not fit, which is the
+//! error `Stop::Unfit`; the other error is want of memory.
 
 ghost use Rattle.std.specs.Prelude.{◌≡◌, ◌↔◌, IfOk, IsTrue, Contains, map, slice_index};
 ghost use Rattle.rb_trim.specs.inner.Moving.{dead_at, end, facts_at, moved_arm, place, landing, landing_in, IsReached, IsPlain, SlotIsRead, IsDest, IsName, AreDests, AreNames, IsWrite, IsRemade, IsJumped, IsPut, IsMoved};
@@ -145,8 +150,8 @@ pub(crate) fn dest(hints: &Hints, slot: usize) -> Result<usize, Stop>
     Ok(new)
 }
 
-// The new number of a slot that is read, or of one that is known to hold the same word; the hints
-// do not fit where that is not read there.
+// The new number of a slot that instruction `pc` reads, or of one that is known to hold the same
+// word; the hints do not fit where that one is not read from `pc` on, by what they say.
 pub(crate) fn name(hints: &Hints, facts: &[Fact], pc: usize, slot: usize) -> Result<usize, Stop>
     ensures { IfOk result (λ a. IsName hints.now facts.now pc slot a) }
 {
@@ -158,7 +163,8 @@ pub(crate) fn name(hints: &Hints, facts: &[Fact], pc: usize, slot: usize) -> Res
     Ok(new)
 }
 
-// The new numbers of slots that are written, one each and in their order.
+// The new numbers of slots that are written, one each and in their order; the hints do not fit
+// where one is that of another slot.
 fn dests(alloc: Global, hints: &Hints, slots: &[usize]) -> Result<Seq<usize>, Stop>
     ensures { IfOk result (λ new. AreDests hints.now slots.now new) }
 {
@@ -170,8 +176,9 @@ fn dests(alloc: Global, hints: &Hints, slots: &[usize]) -> Result<Seq<usize>, St
     Ok(new)
 }
 
-// The new numbers of slots that are read, or of ones that are known to hold the same words, one
-// each and in their order.
+// The new numbers of slots that instruction `pc` reads, or of ones that are known to hold the same
+// words, one each and in their order; the hints do not fit where one of them is not read from `pc`
+// on, by what they say.
 pub(crate) fn names(
     alloc: Global,
     hints: &Hints,
@@ -189,7 +196,7 @@ pub(crate) fn names(
     Ok(new)
 }
 
-// The new number of the instruction to which a switch's other way leads, if it has one.
+// The new number at which a run goes on by a switch's other way; None where it has no such way.
 pub(crate) fn other_landing(hints: &Hints, other: Option<usize>) -> Option<usize>
     ensures { result ≡ landing_in hints.now other }
 {
@@ -217,7 +224,8 @@ pub(crate) fn arms_of(
     Ok(new)
 }
 
-// The instruction that makes what is told of a slot, under new numbers.
+// The instruction that makes what is told of a slot, a fact, under new numbers; the hints do not
+// fit where the content is a loaded word, or where a slot has no fitting number.
 fn write(hints: &Hints, facts: &[Fact], pc: usize, told: &Fact) -> Result<Instr, Stop>
     ensures { IfOk result (λ j. IsWrite hints.now facts.now pc told.now j) }
 {
@@ -236,7 +244,8 @@ fn write(hints: &Hints, facts: &[Fact], pc: usize, told: &Fact) -> Result<Instr,
     Ok(new)
 }
 
-// The instruction that makes what another makes by what is known, under new numbers.
+// The instruction that makes what instruction `pc` makes, told by what is known, under new numbers;
+// the hints do not fit where nothing is told of it.
 fn move_told(hints: &Hints, facts: &[Fact], pc: usize, instr: &Instr) -> Result<Instr, Stop>
     ensures { IfOk result (λ j. IsRemade hints.now facts.now pc instr.now j) }
 {
@@ -252,7 +261,8 @@ fn move_told(hints: &Hints, facts: &[Fact], pc: usize, instr: &Instr) -> Result<
     Ok(new)
 }
 
-// Bits put into a slot, under new numbers: the slot is read, too.
+// The put of the low `l` bits of slot `from` into `slot` from bit `o` on, under new numbers. The
+// slot is read, too, so the hints do not fit where it is not read there by what they say.
 fn move_put(
     hints: &Hints,
     facts: &[Fact],
@@ -273,7 +283,8 @@ fn move_put(
     Ok(Instr::Put(new, part, o, l))
 }
 
-// A jump under new numbers, or the return, where it leads to one at once.
+// What stands for a jump to instruction `target`, under new numbers: a jump, or the return to which
+// it leads at once.
 fn move_jump(alloc: Global, hints: &Hints, body: &[Instr], target: usize) -> Result<Instr, Stop>
     ensures { IfOk result (λ j. IsJumped hints.now body.now target j) }
 {
@@ -286,7 +297,8 @@ fn move_jump(alloc: Global, hints: &Hints, body: &[Instr], target: usize) -> Res
     Ok(Instr::Jump(landing_at(hints, target)))
 }
 
-// An instruction that leaves the function, or goes on elsewhere, under new numbers.
+// A jump, a switch, a call or a return, under new numbers; of any other instruction the answer is
+// that the hints do not fit.
 fn move_other(
     alloc: Global,
     hints: &Hints,

@@ -1,4 +1,8 @@
-//! Switches all of whose ways return the same words: they return.
+//! Switches all of whose ways return the same words: they return. A way leads to the target of an
+//! arm, and the other way is the one that a switch takes where no arm has the number. `hints` tell
+//! what is known before each instruction of `body`, where a jump to it goes on, and the new numbers
+//! of slots; `words` are slots by new numbers, `facts` those known before the switch. Where a test
+//! fails the hints do not fit, which is the error `Stop::Unfit`.
 
 ghost use Rattle.std.specs.Prelude.{◌≡◌, ◌<◌, ◌≤◌, ◌^◌, ℕ, All, IfOk, IfSome, IsTrue, OnOk};
 ghost use Rattle.rb_target.specs.declared.instr.SwitchArm.{SwitchArm as SwitchArmDecl};
@@ -20,7 +24,7 @@ fn has_arm(arms: &[SwitchArm], number: u64) -> bool
     arms.iter().any(|arm| arm.number == number)
 }
 
-// Whether a switch has arms for so many numbers from 0 on.
+// Whether a switch has arms for the first `count` numbers, from 0 on.
 fn has_arms(arms: &[SwitchArm], count: u64) -> bool
     ensures { IsTrue result → ((number : ℕ) → number < count → HasArm arms.now number) }
 {
@@ -52,7 +56,9 @@ fn has_all(
     has_arms(arms, count)
 }
 
-/// Whether a switch on a slot comes to one of its ways: it has another way, or an arm for each number of few bits.
+/// Whether a switch on a slot is known to come to one of its ways: it has a way for all other
+/// numbers, or the slot is known to have at most one, two or three bits and each such number has an
+/// arm.
 pub(crate) fn is_whole(
     facts: &[Fact],
     slot: usize,
@@ -73,7 +79,8 @@ pub(crate) fn is_whole(
     has_all(facts, slot, other, arms, 3, 8)
 }
 
-// The words that a run returns that goes to `target`, under new numbers.
+// The slots whose words a run returns that goes to `target`, by new numbers; the hints do not fit
+// where it comes to no return at once.
 fn words_of(alloc: Global, hints: &Hints, body: &[Instr], target: usize) -> Result<Seq<usize>, Stop>
     ensures { IfOk result (λ words. ComesBack hints.now body.now words target) }
 {
@@ -102,14 +109,15 @@ fn comes_back(
     Ok(())
 }
 
-// Whether two lists have the same words, in the same order.
+// Whether two lists have the same slots, in the same order.
 fn are_same(words: &[usize], others: &[usize]) -> bool
     ensures { IsTrue result → (words.now ≡ others.now) }
 {
     words == others
 }
 
-// Tests that the arm at index `k`, if there is one, leads to the return of these words.
+// Tests that the arm at index `k`, if there is one, leads to the return of these words; else the
+// hints do not fit.
 fn arm_comes_back(
     alloc: Global,
     hints: &Hints,
@@ -126,7 +134,7 @@ fn arm_comes_back(
     }
 }
 
-// Tests that each arm of a switch leads to the return of these words.
+// Tests that each arm of a switch leads to the return of these words; else the hints do not fit.
 fn arms_come_back(
     alloc: Global,
     hints: &Hints,
@@ -143,7 +151,8 @@ fn arms_come_back(
     Ok(())
 }
 
-// Tests that a switch's other way, if it has one, leads to the return of these words.
+// Tests that a switch's other way, if it has one, leads to the return of these words; else the
+// hints do not fit.
 fn other_comes_back(
     alloc: Global,
     hints: &Hints,
@@ -163,7 +172,8 @@ fn other_comes_back(
 ///
 /// # Errors
 ///
-/// A way does not return them, the switch may come to none, or want of memory.
+/// It is no switch or has no arm, a way does not return them, it may come to none of its ways, or
+/// want of memory.
 pub(crate) fn into_return(
     alloc: Global,
     hints: &Hints,

@@ -1,4 +1,11 @@
-//! One instruction after the other.
+//! A walk through a body, one instruction after the other, that makes the shorter body. `hints`
+//! tell of each instruction what is known before it, which slots are read from it on, whether a run
+//! may come to it, where a jump to it goes on, and its place, its number in the shorter body; all
+//! this is tested. `facts` are those known before instruction `pc`, which is `instr`: each says of
+//! a slot what it holds. Behind an instruction is where a run goes on after it, by one of its ways:
+//! to the next one or to a target. The way of a switch's arm tells a fact, `told`, that the
+//! switch's slot holds the arm's number; any other way tells nothing. An instruction that need not
+//! be there is idle. Where a test fails the hints do not fit, which is the error `Stop::Unfit`.
 
 ghost use Rattle.std.specs.Prelude.{◌≡◌, ◌⊎◌, ◌+◌, ◌<◌, ◌↔◌, ℕ, None, OnOk, IfOk, IsTrue, Contains, length, slice_get, All, IfSome};
 ghost use Rattle.rb_target.specs.declared.instr.SwitchArm.{SwitchArm as SwitchArmDecl};
@@ -27,7 +34,8 @@ fn fact_at(facts: &[Fact], k: usize) -> Option<Fact>
     facts.get(k).copied()
 }
 
-// Whether a load is known to come to a word.
+// Whether a load of `width` bits, `offset` bytes behind the address in slot `base`, is known to
+// give a word, as some slot holds it already.
 fn is_loaded(facts: &[Fact], base: usize, offset: u64, width: u8) -> bool
     ensures { IsTrue result → IsLoaded facts.now base offset width }
 {
@@ -105,7 +113,8 @@ fn may_go(hints: &Hints, pc: usize, instr: &Instr) -> bool
     !is_reached(hints, pc) || is_left_out(hints, pc, instr)
 }
 
-// Whether a run that jumps to an instruction goes on where it should.
+// Whether a run that jumps to instruction `pc` goes on where it should: there, or, for a jump,
+// where a jump to its target goes on, or, for an idle one, where a jump to the next one does.
 fn ends_well(hints: &Hints, pc: usize, instr: &Instr) -> bool
     ensures { IsTrue result → EndsWell hints.now pc instr.now }
 {
@@ -169,7 +178,8 @@ fn each_lives(hints: &Hints, slots: &[usize], instr: &Instr, target: usize) -> b
     true
 }
 
-// Whether each slot that is read at a place behind an instruction is read from the instruction on, or set by it.
+// Whether each slot that is read from `target` on, behind an instruction, is read from the
+// instruction on, or set by it. False for a target that is not behind it.
 fn lives_on(hints: &Hints, pc: usize, instr: &Instr, target: usize) -> bool
     ensures { IsTrue result → LivesOn hints.now pc instr.now target }
 {
@@ -204,7 +214,8 @@ fn jumps_on(hints: &Hints, pc: usize, instr: &Instr, told: Option<Fact>, target:
     goes_on(hints, pc, instr, told, target) && comes_behind(hints, pc, end_at(hints, target))
 }
 
-// Whether an arm of a switch on a slot may lead to its target: there the slot holds the arm's number.
+// Whether the arm at index `k`, if there is one, of the switch `instr` on a slot may lead to its
+// target: what the hints say of that holds there, where the slot holds the arm's number.
 fn arm_jumps_on(
     hints: &Hints,
     pc: usize,
@@ -266,7 +277,8 @@ fn falls_on(hints: &Hints, pc: usize, instr: &Instr) -> bool
     }
 }
 
-// Whether what the hints say of the places holds wherever a run goes on behind an instruction.
+// Whether what the hints say of an instruction holds of each to which a run may go on from
+// instruction `pc`; true of a return.
 fn is_known_on(hints: &Hints, pc: usize, instr: &Instr) -> bool
     ensures { IsTrue result → IsKnownOn hints.now pc instr.now }
 {
@@ -302,7 +314,9 @@ fn is_out(hints: &Hints, pc: usize, instr: &Instr) -> bool
     }
 }
 
-// The instruction that stands for one of a body and for others behind it.
+// The instruction that stands for one of a body and for others behind it: a return, or a switch
+// with the arms of two, for a switch, and else a load for a load and a copy. The hints do not fit
+// where there is no such instruction.
 fn merged(
     alloc: Global,
     hints: &Hints,
@@ -324,7 +338,8 @@ fn merged(
     Ok(new)
 }
 
-// The instruction that stands for one of a body, alone or with others behind it.
+// The instruction that stands for one of a body, alone or with others behind it; the hints do not
+// fit where a test on them fails.
 fn stands_for(
     alloc: Global,
     hints: &Hints,
@@ -351,7 +366,8 @@ fn stands_for(
 }
 
 // Goes through the next instruction of a body: tests what the hints say of it, and adds the one
-// that stands for it to the new body, if it is not left out.
+// that stands for it to the new body, if it is not left out. The hints do not fit where a test
+// fails.
 fn step(
     alloc: Global,
     hints: &Hints,

@@ -1,4 +1,8 @@
-//! What instructions make, and which facts hold behind them.
+//! What instructions make, and which facts hold behind them, where the run goes on after them. A
+//! fact says of a slot what it holds, its content, which is told by the slots that it names.
+//! `facts` are those known before an instruction. A way is one by which the run goes on, and `told`
+//! the fact that it tells, if any: that of a switch's arm, that the switch's slot holds the arm's
+//! number.
 
 ghost use Rattle.std.specs.Prelude.{◌≡◌, ◌↔◌, IfSome, IsTrue, Some, Contains};
 ghost use Rattle.rb_target.specs.declared.instr.Instr.TheVariants.{Put};
@@ -81,7 +85,8 @@ fn told_made(facts: &[Fact], instr: &Instr) -> Option<Fact>
     })
 }
 
-// What an instruction makes of the slot that it writes, told by what is known, if that can be told.
+// What an instruction makes of the slot that it writes, told by what is known; None where that
+// cannot be told, as of what stores, places, jumps, switches, calls or returns.
 pub(crate) fn told(facts: &[Fact], instr: &Instr) -> Option<Fact>
     ensures { IfSome result (λ fact. IsTold facts.now instr.now fact) }
 {
@@ -101,7 +106,7 @@ pub(crate) fn told(facts: &[Fact], instr: &Instr) -> Option<Fact>
     }
 }
 
-// Whether a content is told by a slot.
+// Whether a content is told by a slot, that is, names it.
 pub(crate) fn is_told_by(content: &Content, slot: usize) -> bool
     ensures { IsTrue result ↔ IsToldBy content.now slot }
 {
@@ -286,7 +291,8 @@ fn follows_at(facts: &[Fact], told: Option<Fact>, instr: &Instr, behind: &[Fact]
     }
 }
 
-// Whether facts hold behind an instruction, by a way that tells this.
+// Whether the facts `behind` hold behind an instruction, by a way that tells `told`, where `facts`
+// hold before it.
 pub(crate) fn follow(facts: &[Fact], told: Option<Fact>, instr: &Instr, behind: &[Fact]) -> bool
     ensures { IsTrue result → Follows facts.now told instr.now behind.now }
 {

@@ -1,4 +1,7 @@
-//! Functions and code that do the same with fewer instructions.
+//! Functions and code that do the same with fewer instructions. Hints tell how a body gets shorter:
+//! what is known before each instruction, what is left out, and the new numbers of instructions and
+//! slots. They are guesses, so they are tested; where a test fails they do not fit, which is the
+//! error `Stop::Unfit`. `Stop::Memory` is want of memory.
 
 ghost use Rattle.std.specs.Prelude.{◌≡◌, IfOk, IsTrue, [], length};
 ghost use Rattle.rb_trim.specs.Trimming.{IsTrimOf};
@@ -23,7 +26,8 @@ fn knows_nothing(hints: &Hints) -> bool
     matches!(facts, [])
 }
 
-// A function that does what another does, as hints tell; all on which it rests is tested.
+// A function that does what another does, as hints tell; all on which it rests is tested. An `Err`
+// says that a test fails, so that the hints do not fit, or want of memory.
 fn trim_by(alloc: Global, fun: &CodeFun, hints: &Hints) -> Result<CodeFun, Stop>
     ensures { IfOk result (λ q. IsTrimmed fun.now q) }
 {
@@ -60,7 +64,8 @@ fn trim_by(alloc: Global, fun: &CodeFun, hints: &Hints) -> Result<CodeFun, Stop>
 }
 
 // A function that does the same with no more instructions: as the guessed hints tell, or, should
-// these not fit, with one for each of its own.
+// these not fit, with one for each of its own. An `Err` says that not even this fits, or want of
+// memory.
 fn trim_fun(alloc: Global, fun: &CodeFun) -> Result<CodeFun, Stop>
     ensures { IfOk result (λ q. IsTrimmed fun.now q) }
 {
@@ -76,7 +81,8 @@ fn trim_fun(alloc: Global, fun: &CodeFun) -> Result<CodeFun, Stop>
     }
 }
 
-// All functions, each with no more instructions, in their order.
+// All functions, each with no more instructions, in their order. An `Err` comes from the first
+// function that fails, or from want of memory.
 fn trim_funs(alloc: Global, funs: &[CodeFun]) -> Result<Seq<CodeFun>, Stop>
     ensures { IfOk result (λ new. AreTrimmed funs.now (length funs.now) new) }
 {
@@ -88,7 +94,8 @@ fn trim_funs(alloc: Global, funs: &[CodeFun]) -> Result<Seq<CodeFun>, Stop>
     Ok(new)
 }
 
-/// Code that does the same with fewer instructions: what is known is not made again, and what is not read is left out.
+/// Code that does the same with fewer instructions: what is known is not made again, and what is
+/// not read is left out. Where the test of some function fails, all code stays as it is.
 ///
 /// # Errors
 ///

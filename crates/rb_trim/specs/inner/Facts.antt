@@ -1,5 +1,8 @@
 -- What facts say, what instructions do to slots and memory, and which facts hold behind them. A fact says of a slot
 -- what it holds, its content: a number, another slot's word or bits of it, or what an operation or a load gives.
+-- Slots hold s means that s has the word of each slot by its number; m is the memory. Behind an instruction is where
+-- the run goes on in the function, to the next instruction or to a target. A way is one of these; that of a switch's
+-- arm tells the fact that the switch's slot holds the arm's number, any other tells nothing.
 use Rattle.std.specs.Prelude.{◌≡◌, ℕ, ◌%◌, ◌^◌, ◌≤◌, List, length, slice_index, slice_set, Option, IfSome, Ok, Contains}
 use Rattle.rb_bits.specs.Words.{take_of, put_of}
 use Rattle.rb_bytes.specs.Memory.{Memory, load_of}
@@ -11,7 +14,8 @@ use Rattle.rb_trim.specs.declared.fact.Content.{Content}
 use Rattle.rb_trim.specs.declared.fact.Content.TheVariants.{Number, Same, Part, Computed, Loaded}
 use Rattle.rb_trim.specs.declared.fact.Fact.{Fact}
 
--- the word x is the content, where the slots hold s and the memory is m; a load that goes astray gives none
+-- the word x is the content, where the slots hold s and the memory is m: bits are l of slot a from bit o on, and a
+-- load is of `width` bits, `offset` bytes behind the address in slot a; no word is that of a load that fails
 abbrev pub IsContent : List ℕ → Memory → Content → ℕ → Type 0
 IsContent s m (Number c) x = x ≡ c
 IsContent s m (Same a) x = x ≡ slice_index s a
@@ -27,12 +31,13 @@ IsSo s m fact = IsContent s m fact.content (slice_index s fact.slot)
 abbrev pub Hold : List ℕ → Memory → List Fact → Type 0
 Hold s m facts = (fact : Fact) → Contains facts fact → IsSo s m fact
 
--- what a way tells of the slots before it holds, if it tells anything
+-- the fact that a way tells holds where the slots hold s and the memory is m; so does None, that it tells nothing
 abbrev pub FactSays : Option Fact → List ℕ → Memory → Type 0
 FactSays told s m = IfSome told (λ fact. IsSo s m fact)
 
--- Slots and memory before an instruction, and behind it where the run goes on in the function. What a store, a place
--- and a call do to memory is left open.
+-- An instruction may lead from slots s and memory m to slots s' and memory m' behind it, where the run goes on in the
+-- function: never behind a return, nor a load that fails. What a store, a place and a call do to memory is left open,
+-- and so are the address of what is placed and the results of a call.
 abbrev pub Turns : Instr → List ℕ → Memory → List ℕ → Memory → Type 0
 Turns (Const d c) s m s' m' = (s' ≡ slice_set s d c) × (m' ≡ m)
 Turns (Copy d a) s m s' m' = (s' ≡ slice_set s d (slice_index s a)) × (m' ≡ m)

@@ -1,4 +1,8 @@
--- Words for the parts of a test whether facts hold behind an instruction.
+-- Words for the parts of a test whether facts hold behind an instruction, where the run goes on after it. A fact says
+-- of a slot what it holds, its content, which is told by the slots that it names. `facts` are those known before the
+-- instruction, and s and m the words of the slots and the memory then. A way is one by which the run goes on, and
+-- `told` the fact that it tells, if any: that of a switch's arm, that the switch's slot holds the arm's number. Bits
+-- o, l are the l bits from bit o on.
 use Rattle.std.specs.Prelude.{◌≡◌, ℕ, ◌%◌, ◌^◌, ◌<◌, ◌≤◌, ◌⊎◌, List, length, Option, Some, None, Ok, slice_get, slice_index, Contains, slice_set}
 use Rattle.rb_bits.specs.Words.{put_of}
 use Rattle.rb_bytes.specs.Memory.{Memory, load_of}
@@ -10,7 +14,7 @@ use Rattle.rb_trim.specs.declared.fact.Content.TheVariants.{Number, Same, Part, 
 use Rattle.rb_trim.specs.declared.fact.Fact.{Fact}
 use Rattle.rb_trim.specs.inner.Facts.{IsContent, IsSo, Hold, FactSays, Turns}
 
--- two slots hold the same word where the facts hold
+-- the slots a and b hold the same word where the facts hold
 abbrev pub AreSame : List Fact → ℕ → ℕ → Type 0
 AreSame facts a b = (s : List ℕ) (m : Memory) → Hold s m facts → slice_index s b ≡ slice_index s a
 
@@ -36,7 +40,7 @@ pub record IsLaid (facts : List Fact) (slot a o l : ℕ) (content : Content) : T
   pub by : (s : List ℕ) (m : Memory) → Hold s m facts
       → IsContent s m content (put_of (slice_index s slot) o l (slice_index s a % 2 ^ l))
 
--- a load comes to a word where the facts hold
+-- a load of `width` bits, `offset` bytes behind the address in slot `base`, gives a word where the facts hold
 pub record IsLoaded (facts : List Fact) (base offset width : ℕ) : Type 0 where
   pub by : (s : List ℕ) (m : Memory) → Hold s m facts → (x : ℕ) × (load_of m (slice_index s base) offset width ≡ Ok x)
 
@@ -50,7 +54,7 @@ made_of (Take d a o l) = Some (record { slot = d; content = Part a o l })
 made_of (Load d a offset width) = Some (record { slot = d; content = Loaded a offset width })
 made_of i = None
 
--- the content is told by the slot k
+-- the content is told by the slot k: it names that slot; a number is told by none
 abbrev pub IsToldBy : Content → ℕ → Type 0
 IsToldBy (Number c) k = ⊥
 IsToldBy (Same a) k = a ≡ k
@@ -58,7 +62,8 @@ IsToldBy (Part a o l) k = a ≡ k
 IsToldBy (Computed op n a b) k = (a ≡ k) ⊎ (b ≡ k)
 IsToldBy (Loaded a offset width) k = a ≡ k
 
--- the instruction writes to the slot k
+-- the instruction writes to the slot k; a call writes to those of its results, and a store, a jump, a switch and a
+-- return to none
 abbrev pub WritesTo : Instr → ℕ → Type 0
 WritesTo (Const d c) k = d ≡ k
 WritesTo (Copy d a) k = d ≡ k
@@ -84,7 +89,8 @@ Sets (Load d a offset width) k = d ≡ k
 Sets (Place d size align) k = d ≡ k
 Sets i k = ⊥
 
--- the slots s' are s with a word in the fact's slot that was its content before, and memory stays
+-- the slots s' are s with a word in the fact's slot, one of the first `slots`, that was its content before, where the
+-- memory was m; and memory stays
 pub record FactIsMade (fact : Fact) (slots : ℕ) (s s' : List ℕ) (m m' : Memory) : Type 0 where
   pub word : ℕ
   pub is : IsContent s m fact.content word
@@ -105,7 +111,7 @@ Changes (Place d size align) = Unit {0}
 Changes (Call f ds froms) = Unit {0}
 Changes i = ⊥
 
--- the instruction changes nothing that the content is told by
+-- the instruction changes nothing that the content is told by: none of its slots, nor memory where it is loaded
 abbrev pub KeepsContent : Instr → Content → Type 0
 KeepsContent i (Number c) = Unit {0}
 KeepsContent i (Same a) = ¬ WritesTo i a

@@ -1,5 +1,12 @@
--- When the instructions of a shorter body stand for those of a body. Hints tell how: the place of an instruction is
--- its number in the shorter body, its end is where a run goes on that jumps to it; a slot's name is its new number.
+-- When the instructions of a shorter body stand for those of a body. Hints h tell how: the place of an instruction is
+-- its number in the shorter body, its end is where a run goes on that jumps to it; a slot's name is its new number,
+-- its number in the shorter body, and the origin of a new number the slot that has it. A number that the hints do not
+-- have is 0. `pc` and t are numbers of instructions of the old body, i is one of them, and j a new one. A fact says
+-- of a slot what it holds, its content; `facts` are those known before an instruction. Behind an instruction is where
+-- the run goes on after it, by a way: to the next instruction or to a target. The way of a switch's arm tells the
+-- fact that the switch's slot holds the arm's number; the other way is taken where no arm has the number. An
+-- instruction that need not be there is idle. A new one may stand for one instruction, which is plain then, or for it
+-- and others behind it.
 use Rattle.std.specs.Prelude.{◌≡◌, ℕ, ◌+◌, ◌<◌, ◌≤◌, ◌⊎◌, List, [], ◌∷◌, ◌++◌, map, Option, Some, None, All, IfSome, Contains, slice_get, slice_index}
 use Rattle.rb_bytes.specs.Memory.{Memory}
 use Rattle.rb_target.specs.declared.instr.SwitchArm.{SwitchArm}
@@ -34,7 +41,8 @@ slots_in (Some slots) = slots
 abbrev pub dead_at : Hints → ℕ → List ℕ
 dead_at h pc = slots_in (slice_get h.dead pc)
 
--- the number in the new body of instruction pc, or, if it is left out, of the next one that stays
+-- the number in the new body of instruction pc, or, if it is left out, of the next one that stays; 0 where there are
+-- no hints for pc
 abbrev pub place : Hints → ℕ → ℕ
 place h pc = slice_index h.places pc
 
@@ -66,7 +74,8 @@ SlotIsRead h pc k = (pc < slice_index h.reads k) × (¬ Contains (dead_at h pc) 
 pub record IsUnread (h : Hints) (pc k : ℕ) : Type 0 where
   pub by : ¬ SlotIsRead h pc k
 
--- slots that are read from an instruction on hold the same under their new numbers
+-- each slot that is read from instruction pc on has the same word in s, the old slots, as in s', the new ones, under
+-- its new number
 abbrev pub Agree : Hints → ℕ → List ℕ → List ℕ → Type 0
 Agree h pc s s' = (k : ℕ) → SlotIsRead h pc k → slice_index s' (slice_index h.names k) ≡ slice_index s k
 
@@ -119,7 +128,7 @@ landing_in h (Some t) = Some (landing h t)
 abbrev pub moved_arm : Hints → SwitchArm → SwitchArm
 moved_arm h arm = record arm { target = landing h arm.target }
 
--- the new instruction puts the content into the new slot d'; none does so with a loaded word
+-- the new instruction j, for instruction pc, puts the content into the new slot d'; none does so with a loaded word
 abbrev pub MakesContent : Hints → List Fact → ℕ → Content → ℕ → Instr → Type 0
 MakesContent h facts pc (Number c) d' j = j ≡ Const d' c
 MakesContent h facts pc (Same a) d' j = (a' : ℕ) × (j ≡ Copy d' a') × IsName h facts pc a a'
@@ -132,7 +141,7 @@ MakesContent h facts pc (Loaded a offset width) d' j = ⊥
 abbrev pub IsWrite : Hints → List Fact → ℕ → Fact → Instr → Type 0
 IsWrite h facts pc fact j = (d' : ℕ) × IsDest h fact.slot d' × MakesContent h facts pc fact.content d' j
 
--- the new instruction makes what the old one makes
+-- the new instruction j makes what the old one i, instruction pc, makes: i is told as a fact, which j puts in place
 abbrev pub IsRemade : Hints → List Fact → ℕ → Instr → Instr → Type 0
 IsRemade h facts pc i j = (fact : Fact) × IsTold facts i fact × IsWrite h facts pc fact j
 
@@ -141,14 +150,14 @@ abbrev pub IsPut : Hints → List Fact → ℕ → ℕ → ℕ → ℕ → ℕ �
 IsPut h facts pc d a o l j =
     (d' a' : ℕ) × (j ≡ Put d' a' o l) × IsDest h d d' × IsName h facts pc d d' × IsName h facts pc a a'
 
--- a jump to where a run goes on, or the return that stands there
+-- j may stand for a jump to instruction t: it jumps to where such a run goes on, or is the return that stands there
 abbrev pub IsJumped : Hints → List Instr → ℕ → Instr → Type 0
 IsJumped h body t j =
     (j ≡ Jump (landing h t))
     ⊎ ((froms froms' : List ℕ) × (slice_get body (end h t) ≡ Some (Return froms)) × (j ≡ Return froms')
     × AreNames h (facts_at h (end h t)) (end h t) froms froms')
 
--- the new instruction does to the new slots what the old one does to the old
+-- the new instruction j does to the new slots what the old one, instruction pc of `body`, does to the old
 abbrev pub IsMoved : Hints → List Fact → List Instr → ℕ → Instr → Instr → Type 0
 IsMoved h facts body pc (Const d c) j = IsRemade h facts pc (Const d c) j
 IsMoved h facts body pc (Copy d a) j = IsRemade h facts pc (Copy d a) j
@@ -192,16 +201,16 @@ EndsOn h pc i = (end h pc ≡ end h (pc + 1)) × IsIdle h (facts_at h pc) pc i
 abbrev pub EndsWell : Hints → ℕ → Instr → Type 0
 EndsWell h pc i = (end h pc ≡ pc) ⊎ EndsOn h pc i
 
--- each slot that is read at a place behind an instruction is read from the instruction on, or set by it
+-- each slot that is read from t on, behind instruction pc, is read from pc on, or set by that instruction, i
 pub record LivesOn (h : Hints) (pc : ℕ) (i : Instr) (t : ℕ) : Type 0 where
   pub by : (k : ℕ) → SlotIsRead h t k → SlotIsRead h pc k ⊎ Sets i k
 
--- what the way of a number behind a switch tells of the slot
+-- what the way of an arm with this number tells, behind a switch on slot a: that the slot holds the number
 abbrev pub tells : ℕ → ℕ → Option Fact
 tells a number = Some (record { slot = a; content = Number number })
 
--- what the hints say of place t holds behind instruction pc: which slots are read from there on, and which facts
--- hold, where the way tells `told`
+-- what the hints say of instruction t holds behind instruction pc: which slots are read from t on, and which facts
+-- hold before t, where the way there tells `told`
 pub record GoesOn (h : Hints) (pc : ℕ) (i : Instr) (told : Option Fact) (t : ℕ) : Type 0 where
   pub lives : LivesOn h pc i t
   pub follows : Follows (facts_at h pc) told i (facts_at h t)
@@ -235,7 +244,8 @@ pub record IsCopied (h : Hints) (body : List Instr) (at slot to : ℕ) : Type 0 
   pub unread : IsUnread h (at + 1) slot
   pub comes : IsReached h (at + 1)
 
--- a load makes its word in the slot to which it is copied right behind
+-- j may stand for the load i, instruction pc, and the copy of its word right behind: it is a load into the copy's
+-- slot
 pub record IsInto (h : Hints) (body : List Instr) (pc : ℕ) (i j : Instr) : Type 0 where
   pub slot : ℕ
   pub base : ℕ
@@ -251,7 +261,8 @@ pub record IsInto (h : Hints) (body : List Instr) (pc : ℕ) (i j : Instr) : Typ
   pub copied : IsCopied h body (end h (pc + 1)) slot to
   pub next : place h (end h (pc + 1) + 1) ≡ place h pc + 1
 
--- a switch whose other way leads to one on the same word has the arms of both
+-- j may stand for the switch i, instruction pc, and for one on the same word to which the other way of i leads: it is
+-- a switch with the arms of both, those of i first
 pub record IsFolded (h : Hints) (body : List Instr) (pc : ℕ) (i j : Instr) : Type 0 where
   pub slot : ℕ
   pub target : ℕ
@@ -270,17 +281,18 @@ pub record IsFolded (h : Hints) (body : List Instr) (pc : ℕ) (i j : Instr) : T
   pub more_come : All (λ (arm : SwitchArm). IsReached h (end h arm.target)) more
   pub other_comes : IfSome other (λ t. IsReached h (end h t))
 
--- a switch on a slot comes to one of its ways
+-- a switch on a slot, with these arms and this other way, if any, finds one of its ways where the facts hold
 pub record IsWhole (facts : List Fact) (slot : ℕ) (other : Option ℕ) (arms : List SwitchArm) : Type 0 where
   pub by : (s : List ℕ) (m : Memory) → Hold s m facts → target_of arms other (slice_index s slot) ≡ None → ⊥
 
--- a way comes to the return of these words, under new numbers
+-- a run that jumps to instruction t returns at once, and `words` are the new numbers of the slots that it returns
 pub record ComesBack (h : Hints) (body : List Instr) (words : List ℕ) (t : ℕ) : Type 0 where
   pub froms : List ℕ
   pub stands : slice_get body (end h t) ≡ Some (Return froms)
   pub names : AreNames h (facts_at h (end h t)) (end h t) froms words
 
--- a switch all of whose ways return the same words returns
+-- j may stand for the switch i, instruction pc, and the returns behind it: all ways of i return the same words at
+-- once, and j is the return of these
 pub record IsBack (h : Hints) (body : List Instr) (pc : ℕ) (i j : Instr) : Type 0 where
   pub slot : ℕ
   pub other : Option ℕ
@@ -319,7 +331,7 @@ pub record IsStep (h : Hints) (body new : List Instr) (pc : ℕ) (i : Instr) : T
   pub ends : EndsWell h pc i
   pub known : LeadsAhead (FallsOn h pc i) (JumpsOn h pc i) i pc
 
--- functions with the same heads, maybe among more
+-- each function of the first list has one with the same head in the second, at its number; the second may have more
 abbrev pub HaveSameHeads : List CodeFun → List CodeFun → Type 0
 HaveSameHeads funs funs' =
     (g : ℕ) (f : CodeFun) → slice_get funs g ≡ Some f → (q : CodeFun) × (slice_get funs' g ≡ Some q) × HasSameHead f q

@@ -1,4 +1,8 @@
--- Words for the parts of a walk through a body, which makes the shorter body instruction by instruction.
+-- Words for the parts of a walk through a body, which makes the shorter body instruction by instruction. Hints h tell
+-- what is left out, and by which new numbers slots and instructions go: the place of an instruction is its number in
+-- the shorter body. They say of each instruction which slots are read from it on, which facts hold before it, that
+-- is, what slots hold, and whether a run may come to it. `pc` and t are numbers of instructions of the old body; i is
+-- instruction pc. Behind it is where the run goes on after it, by one of its ways: to the next one or to a target.
 use Rattle.std.specs.Prelude.{◌≡◌, ℕ, ◌+◌, ◌^◌, ◌<◌, ◌≤◌, ◌⊎◌, List, [], ◌∷◌, ◌++◌, length, Some, slice_get, Any}
 use Rattle.rb_bits.specs.Words.{IsRange}
 use Rattle.rb_target.specs.Validity.{SlotsFit, TargetsFit, EndsInReturn, dest_count}
@@ -10,15 +14,16 @@ use Rattle.rb_trim.specs.declared.hints.Hints.{Hints}
 use Rattle.rb_trim.specs.inner.Following.{Sets}
 use Rattle.rb_trim.specs.inner.Moving.{place, tells, IsUnread, EndsWell, FallsOn, JumpsOn, StandsFor, IsSkipped, IsStep, IsTrimmed, LeadsAhead, ComesBack}
 
--- the slot with number k in the list, if there is one, is set by the instruction, or not read from place t on
+-- the slot at index k of the list, if there is one, is set by the instruction, or not read from instruction t on
 pub record LivesAt (h : Hints) (slots : List ℕ) (i : Instr) (t k : ℕ) : Type 0 where
   pub at : (slot : ℕ) → slice_get slots k ≡ Some slot → Sets i slot ⊎ IsUnread h t slot
 
--- the arm at index k, if there is one, of a switch on slot a may lead to its target
+-- the arm at index k, if there is one, of the switch i on slot a may lead to its target: what the hints say of that
+-- holds there, where slot a holds the arm's number
 pub record JumpsOnAt (h : Hints) (pc : ℕ) (i : Instr) (a : ℕ) (arms : List SwitchArm) (k : ℕ) : Type 0 where
   pub at : (arm : SwitchArm) → slice_get arms k ≡ Some arm → JumpsOn h pc i (tells a arm.number) arm.target
 
--- the arm at index k, if there is one, comes to the return of these words
+-- the arm at index k, if there is one, leads to a return at once, and `words` are the new numbers of what it returns
 pub record ComesBackAt (h : Hints) (body : List Instr) (words : List ℕ) (arms : List SwitchArm) (k : ℕ) : Type 0 where
   pub at : (arm : SwitchArm) → slice_get arms k ≡ Some arm → ComesBack h body words arm.target
 
@@ -26,7 +31,8 @@ pub record ComesBackAt (h : Hints) (body : List Instr) (words : List ℕ) (arms 
 abbrev pub HasArm : List SwitchArm → ℕ → Type 0
 HasArm arms number = Any (λ (arm : SwitchArm). arm.number ≡ number) arms
 
--- what the hints say of the places holds wherever a run goes on behind instruction pc
+-- what the hints say of an instruction holds of each to which a run may go on from instruction pc; nothing is said
+-- behind a return
 abbrev pub IsKnownOn : Hints → ℕ → Instr → Type 0
 IsKnownOn h pc i = LeadsAhead (FallsOn h pc i) (JumpsOn h pc i) i pc
 
@@ -55,7 +61,8 @@ pub record Walks (h : Hints) (body : List Instr) (count : ℕ) (new : List Instr
   pub steps : (pc : ℕ) (i : Instr) → pc < count → slice_get body pc ≡ Some i → IsStep h body new pc i
   pub origins : HaveOrigins h body new
 
--- the numbers of an instruction that may be made from others are within their bounds
+-- the numbers in an instruction are within their bounds, where it is of a kind that may be made anew from facts:
+-- those of a word, of bits of an operation, and of a range of bits
 abbrev pub IsRanged : Instr → Type 0
 IsRanged (Const d c) = c < 2 ^ 64
 IsRanged (Alu op n d a b) = (1 ≤ n) × (n ≤ 64)
