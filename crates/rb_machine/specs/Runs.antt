@@ -1,4 +1,7 @@
--- What a run promises.
+-- What a run promises. A run is of a function of the code, on words, its arguments, over a memory. Its outcome, by
+-- the code's meaning, is how it ended and the world then: the memory, how many switches were done and how many
+-- instructions were taken, that is, begun. It is trapped where a load or a store fails or a switch has no arm for its
+-- word.
 use Rattle.std.specs.Prelude.{◌≡◌, ℕ, ◌+◌, Option, Some, None}
 use Rattle.rb_bytes.specs.Memory.{Memory}
 use Rattle.rb_target.specs.Meaning.{Outcome}
@@ -17,7 +20,8 @@ abbrev pub params_in : Option CodeFun → ℕ
 params_in None = 0
 params_in (Some f) = f.params
 
--- what a run gives is what the code means: its end, its switches, the memory, and a step an instruction
+-- what a run gives is what the code means, the outcome o: its end, its switches, the memory m that it leaves, and a
+-- step for each instruction, where `before` and `after` count the steps before the run and after it
 pub record RanAs (o : Outcome) (ran : Ran) (m : Memory) (before after : ℕ) : Type 0 where
   pub ended : ran.end ≡ o.ended
   pub switches : ran.switches ≡ o.world.switches

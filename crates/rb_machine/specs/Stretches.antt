@@ -1,4 +1,7 @@
--- Instructions of one call, up to where it calls another, returns, or ends the run.
+-- Instructions of one call, up to where it calls another, returns, or ends the run: a stretch. It stops at a call or
+-- a return, which is not begun, or ends the run. `pc` is the number of an instruction of the body, a slot one of the
+-- call's own words, by its number, and the world what a run carries along: the calls left, the memory, and how many
+-- switches and instructions so far. `callee` says what the calls that the body makes do, each up to its end.
 use Rattle.std.specs.Prelude.{ℕ, ◌+◌, ◌<◌, ◌≤◌, List, length, slice_get}
 use Rattle.rb_bytes.specs.Memory.{Memory}
 use Rattle.rb_target.specs.Meaning.{World, Outcome, Callee, over, from}
@@ -15,7 +18,8 @@ abbrev pub stop_to : List Instr → Callee → Stop → List ℕ → World → O
 stop_to body callee (At pc l) slots w = from body callee pc slots w
 stop_to body callee (Ends e) slots w = over e w
 
--- where a stretch from `start` stops after so many instructions, with so many switches more
+-- where a stretch from instruction `start` may stop after `count` instructions, with so many switches more: at a call
+-- or a return that stands at least so many instructions on, or at an end that is no return
 abbrev pub IsStop : List Instr → ℕ → Stop → ℕ → ℕ → Type 0
 IsStop body start (At pc l) count switches =
     (pc < length body) × (start + count ≤ pc) × (start + switches ≤ pc) × IsLeave (slice_get body pc) l

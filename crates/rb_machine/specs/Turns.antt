@@ -1,4 +1,10 @@
--- The machine's own state, what is still to come from it, and what one instruction does to that.
+-- The machine's own state, what is still to come from it, and what one instruction does to that. `funs` are the
+-- functions of the code, by number, and `pc` is the number of an instruction in a function's body. A call is current,
+-- or waits for one that it made; a frame is a call that waits: its function, and its call instruction. A slot is one
+-- of a call's own words, by its number. The slots of all calls stand on one stack, the outermost call's first, and
+-- those of the current call begin at the base. The world is what a run carries along: the calls left, which may still
+-- be begun, the memory, and how many switches were done and instructions taken, that is, begun. An instruction goes
+-- on in its function, leaves it by a call or a return, or ends the run.
 use Rattle.std.specs.Prelude.{◌≡◌, ℕ, ◌+◌, ◌-◌, ◌*◌, ◌^◌, ◌<◌, ◌≤◌, List, [], ◌∷◌, length, Option, Some, None, Result, Ok, Err, IsOk, take, drop, slice_get, slice_index, All}
 use Rattle.rb_bytes.specs.Memory.{Memory, load_of, store_of}
 use Rattle.rb_target.specs.Meaning.{World, Outcome, over, Next, Callee, act, after_call, put_slots, from, enter, body_of, slots_in}
@@ -29,7 +35,7 @@ resume funs depth frame slots o =
     (λ words. from (body_of funs frame.fun) (enter funs depth) (frame.pc + 1)
     (put_slots slots (dests_in (slice_get (body_of funs frame.fun) frame.pc)) words) o.world)
 
--- how many slots function number `fun` has
+-- how many slots function number `fun` has; 0 where there is no such function
 abbrev pub width_of : List CodeFun → ℕ → ℕ
 width_of funs fun = slots_in (slice_get funs fun)
 
@@ -122,8 +128,8 @@ flow_to i callee pc (Goes t) next slots w = next t slots w
 flow_to i callee pc (Leaves l) next slots w = act i next callee pc slots w
 flow_to i callee pc (Ends e) next slots w = over e w
 
--- where an instruction may lead that has number pc in a body of `long` instructions: to a target that fits there, out
--- of the function, or to an end that is no return
+-- where an instruction may lead that has number pc in a body of `long` instructions: to a target behind it in the
+-- body, out of the function, or to an end that is no return
 abbrev pub IsFlow : ℕ → ℕ → Flow → Type 0
 IsFlow long pc (Goes t) = IsTarget long pc t
 IsFlow long pc (Leaves l) = Unit {0}
@@ -136,7 +142,7 @@ MayRun m slots (Load d a offset width) = IsOk (load_of m (slice_index slots a) o
 MayRun m slots (Store a offset width v) = IsOk (store_of m (slice_index slots a) offset width (slice_index slots v)).0
 MayRun m slots i = Unit {0}
 
--- another instruction comes after each but a return
+-- instruction pc stands in a body of `long` instructions, and, unless it is a return, another one behind it
 abbrev pub GoesOn : ℕ → ℕ → Instr → Type 0
 GoesOn long pc (Return froms) = pc < long
 GoesOn long pc i = pc + 1 < long

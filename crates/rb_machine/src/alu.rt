@@ -1,4 +1,4 @@
-//! Operations on words.
+//! Operations on words: numbers of 64 bits. `bits` is how many bits an operation keeps.
 
 ghost use Rattle.std.specs.Prelude.{◌≡◌, ℕ, ◌%◌, ◌^◌, ◌≤◌};
 ghost use Rattle.rb_target.specs.Meaning.{alu_of};

@@ -1,4 +1,9 @@
-//! Calls and returns.
+//! Calls and returns. `funs` are the functions of the code, by number, and `pc` is the number of an
+//! instruction in a function's body. A slot is one of a call's own words, by its number. The slots
+//! of all calls stand on one stack: those of the current call from `base` on, and below them those
+//! of the calls that wait for one that they made, the outermost first. A frame is a call that
+//! waits. `froms` are the slots whose words a call or a return passes on, `dests` those to which a
+//! call instruction writes its results, and `depth` is how many calls can be nested in the first.
 
 ghost use Rattle.std.specs.Prelude.{◌≡◌, ℕ, ◌<◌, ◌≤◌, ◌+◌, ◌-◌, Some, List, length, take, drop, slice_get, IfOk, ◌++◌, replicate, vec_len, vec_capacity};
 ghost use Rattle.rb_bytes.specs.Memory.{Memory};
@@ -81,7 +86,8 @@ fn push_slots(
     Ok(())
 }
 
-/// The current function waits, and another begins with the words of some slots.
+/// The call at which the current function stands: that waits, and function `callee` begins with the
+/// words of the slots `froms`. One call less is left.
 ///
 /// # Errors
 ///
@@ -117,7 +123,8 @@ pub fn call_turn(
     Ok(())
 }
 
-// Puts the words of some slots of a call that ended into slots of the one that waited.
+// Puts the words of the slots `froms` of a call that ended, whose slots hold `words`, into the
+// slots `dests` of the one that waited, one each and in order, as far as both lists reach.
 fn put_back(slots: &mut [u64], dests: &[usize], words: &[u64], froms: &[usize])
     requires dests { AreSlots (length slots.old) dests.now }
     requires froms { AreSlots (length words.now) froms.now }
@@ -131,7 +138,8 @@ fn put_back(slots: &mut [u64], dests: &[usize], words: &[u64], froms: &[usize])
     }
 }
 
-// Puts the results of a call into the slots of the one that waited for it.
+// Puts the results of a call, whose slots hold `words`, into the slots of the one that waited for
+// it, at instruction `pc` of function `fun`; nothing is done where that is no call.
 fn put_results(
     funs: &[CodeFun],
     fun: usize,
@@ -186,8 +194,9 @@ fn fill(words: &mut [u64], slots: &[u64], froms: &[usize])
     }
 }
 
-/// The function that waited goes on, or the run ends: then the slots of the outermost call are the whole
-/// stack.
+/// The return at which the current function stands, with the words of the slots `froms`. The
+/// function that waited for it goes on, and None is given; or none waited, and the run ends with
+/// this end: then the slots of the outermost call are the whole stack.
 pub fn return_turn(
     alloc: Global,
     funs: &[CodeFun],

@@ -1,4 +1,6 @@
-//! Whole runs.
+//! Whole runs. A run is of a function of the code, on words, its arguments. A slot is one of a
+//! call's own words, by its number; a call waits while one that it made goes on, and has a frame
+//! then.
 
 ghost use Rattle.std.specs.Prelude.{◌≡◌, ℕ, ◌<◌, ◌≤◌, ◌+◌, false, length, slice_get, IfOk};
 ghost use Rattle.rb_bytes.specs.Memory.{Memory};
@@ -72,7 +74,8 @@ pub fn run<M: ByteMemory, L: Ledger>(
 }
 
 // A run as it begins, at the first instruction of function `fun`: the words stand in its first
-// slots and 0 in all others, no call waits, and `left` more calls may be made.
+// slots and 0 in all others, no call waits, and `left` more calls may be made. The `Err` is want of
+// memory.
 fn first_state(
     alloc: Global,
     funs: &[CodeFun],

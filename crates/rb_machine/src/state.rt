@@ -1,4 +1,6 @@
-//! A run as it stands.
+//! A run as it stands. A slot is one of a call's own words, by its number. Functions, and the
+//! instructions of a function's body, are numbered from 0. A call is current, or waits for one that
+//! it made.
 
 use rb_target::outcome::End;
 
@@ -12,7 +14,8 @@ pub struct Frame {
 /// The current call, and the calls that wait, the outermost first. The slots of all of them stand on one
 /// stack in the same order: those of the current call begin at `base` and go to the stack's end, and those
 /// of a call that waits are as many as its function has. `results` has room for what the outermost function
-/// returns, so that a return takes no memory.
+/// returns, so that a return takes no memory. The current call is of function `fun` and stands at
+/// instruction `pc`; `left` calls may still be begun, and `switches` were done so far.
 #[derive(Drop)]
 pub struct State {
     pub fun: usize,
@@ -42,7 +45,8 @@ pub enum Flow<'a> {
     Ends(End),
 }
 
-/// Where instructions of a call stop: at a call or a return, which is not begun, or at the end of the run.
+/// Where instructions of a call stop: at a call or a return, by its number, which is not begun, or
+/// at the end of the run.
 #[derive(Drop)]
 pub enum Stop<'a> {
     At(usize, Leave<'a>),

@@ -1,4 +1,5 @@
-//! One instruction.
+//! One instruction. A slot is one of a function's own words, by its number; `pc` is the number of
+//! the instruction in the function's body.
 
 ghost use Rattle.std.specs.Prelude.{◌≡◌, ℕ, ◌<◌, ◌≤◌, ◌+◌, ◌^◌, false, length, IsOk, slice_set};
 ghost use Rattle.rb_bytes.specs.Memory.{IsWidth, load_of, store_of, place_of};
@@ -15,7 +16,10 @@ use rb_target::code::CodeFun;
 use rb_target::instr::{Instr, SwitchArm};
 use rb_target::outcome::End;
 
-/// Runs one instruction; a call or a return is only told. Its contract speaks of whatever goes on after it.
+/// Runs `instr`, instruction `pc` of function `fun`, over the function's slots and the memory,
+/// counts it in `switches` if it is a switch, and gives where it leads; a call or a return is only
+/// told, with `funs` for the functions of the code. Its contract speaks of whatever goes on after
+/// it.
 pub fn step<'a, M: ByteMemory>(
     funs: &[CodeFun],
     fun: &CodeFun,
@@ -87,7 +91,7 @@ pub fn step<'a, M: ByteMemory>(
     }
 }
 
-// Puts a word into a slot, and goes on at the next instruction.
+// Puts a word into slot `dest`, and goes on at the instruction behind `pc`.
 fn write<'a>(slots: &mut [u64], dest: usize, word: u64, pc: usize) -> Flow<'a>
     requires dest { dest < length slots.old }
     requires room { pc + 1 < 2 ^ 64 }
@@ -98,7 +102,8 @@ fn write<'a>(slots: &mut [u64], dest: usize, word: u64, pc: usize) -> Flow<'a>
     Flow::Goes(pc + 1)
 }
 
-// The target of the first arm with this number, or else the other one.
+// The target of the first arm whose number is the word, or else the switch's other target; None
+// where there is neither.
 fn target_of(arms: &[SwitchArm], other: Option<usize>, word: u64) -> Option<usize>
     ensures { result ≡ the_target_of arms.now other word }
 {

@@ -1,4 +1,6 @@
 //! A stretch: the instructions of one call up to where it calls another, returns, or ends the run.
+//! A slot is one of the call's own words, by its number. `funs` are the functions of the code,
+//! `fun` is that of the call, and `switches` counts the switches that are done.
 
 ghost use Rattle.std.specs.Prelude.{◌≡◌, ℕ, ◌<◌, ◌≤◌, ◌+◌, ◌-◌, ◌^◌, false, length, take, drop};
 ghost use Rattle.rb_bytes.specs.Memory.{Memory};
@@ -14,8 +16,9 @@ use rb_bytes::memory::ByteMemory;
 use rb_edge::steps::{Ledger, Steps};
 use rb_target::code::CodeFun;
 
-/// Runs a function from one of its instructions on, over its slots. One step is ticked for each instruction
-/// that is begun. Its contract speaks of whatever calls do.
+/// Runs a function from instruction `start` on, over its slots and the memory, up to a call or a
+/// return, which is not begun, or the end of the run. One step is ticked for each instruction that
+/// is begun. Its contract speaks of whatever calls do.
 pub fn stretch<'a, M: ByteMemory, L: Ledger>(
     funs: &[CodeFun],
     fun: &'a CodeFun,

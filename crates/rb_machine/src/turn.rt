@@ -1,4 +1,6 @@
-//! Turns of the machine: a stretch of instructions, or a call or a return.
+//! Turns of the machine: a stretch of instructions, or a call or a return. `funs` are the functions
+//! of the code, and `depth` is how many calls can be nested in the first. The current call of a
+//! state is the one that runs; the others wait for one that they made.
 
 ghost use Rattle.std.specs.Prelude.{◌≡◌, ℕ, ◌≤◌, ◌-◌, false, IfOk, slice_get};
 ghost use Rattle.rb_bytes.specs.Memory.{Memory};
@@ -55,8 +57,9 @@ pub fn stretch_turn<'a, M: ByteMemory, L: Ledger>(
     }
 }
 
-/// The call or the return at which the current call stands, and the end if it ends the run. Only a call
-/// takes memory.
+/// Does `leave`, the call or the return at which the current call stands, and gives the end if it
+/// ends the run, else None: a return from the outermost call does so, and a call where none is
+/// left. Only a call takes memory.
 ///
 /// # Errors
 ///
