@@ -1,4 +1,5 @@
--- What decoding comes to: the value that words represent, or that it is too large.
+-- What decoding comes to: the value that words represent, or that it is too large. A node of a value is one of its
+-- constructions or numbers. Bits that no part of a layout's words has are free.
 use Rattle.std.specs.Prelude.{◌≡◌, ℕ, ◌<◌, ◌≤◌, List, false, Result, Ok, Err}
 use Rattle.rb_core.specs.declared.value.Value.{Value}
 use Rattle.rb_core.specs.declared.types.Ty.{Ty}

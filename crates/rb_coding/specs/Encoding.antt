@@ -1,4 +1,8 @@
--- What encoding comes to: words that represent a value, or the first block that does not fit.
+-- What encoding comes to: words that represent a value, or the first block that does not fit. A construction is a
+-- value of a data type that is built; it asks for the blocks of its leaf, the form that the type's layout has for it.
+-- A request is for a block, by its size and alignment in bytes; blocks are laid from low addresses to high ones, and
+-- `next` of a memory is where the next one may begin. A block is its address and size. Bits that no part of a
+-- layout's words has are free.
 use Rattle.std.specs.Prelude.{◌≡◌, ℕ, ◌+◌, leb, List, [], ◌∷◌, ◌++◌, Result, Ok, Err, if◌then◌else◌}
 use Rattle.rb_core.specs.declared.value.Value.{Value}
 use Rattle.rb_core.specs.declared.types.Ty.{Ty}

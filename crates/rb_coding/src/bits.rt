@@ -1,4 +1,5 @@
-//! Ranges of bits that may leave a word.
+//! Ranges of bits that may leave a word, which has 64: bits `o` up to `o + l` are the `l` bits from
+//! bit `o` on.
 
 ghost use Rattle.std.specs.Prelude.{◌≡◌};
 ghost use Rattle.rb_bits.specs.Words.{take_of};
@@ -6,7 +7,8 @@ ghost use Rattle.rb_coding.specs.Packing.{put_into};
 
 use rb_bits::words::{put, take};
 
-/// The number that stands in bits `o` up to `o + l` of a word, above which there are zeros.
+/// The number that stands in bits `o` up to `o + l` of a word, above which there are zeros; 0 where
+/// `l` is 0.
 pub fn take_from(word: u64, o: u64, l: u64) -> u64
     ensures { result ≡ take_of word o l }
 {

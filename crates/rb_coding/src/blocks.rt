@@ -1,4 +1,7 @@
-//! The blocks of a leaf, placed and filled.
+//! The blocks of a leaf, placed and filled. A node is the outermost level of a value or of a
+//! subvalue; its leaf is the form that the layout of its type has for it, with root words and
+//! blocks. `nodes` are those of the whole value, `node` is the number of one, `table` has the words
+//! of the nodes before it, and `addresses` are those of its blocks that are placed, by number.
 
 ghost use Rattle.std.specs.Prelude.{◌≡◌, ℕ, ◌+◌, ◌≤◌, Some, slice_get, slice_index};
 ghost use Rattle.rb_bytes.specs.Memory.{IsGood, most_region, size_at};
@@ -51,7 +54,9 @@ fn store_words<M: ByteMemory>(
     }
 }
 
-// Places the blocks of a node in the order of their numbers, each filled at once, and gives their addresses.
+// Places the blocks of a node in the order of their numbers, each filled at once, and gives their
+// addresses. The `Err` is the first block that does not fit, those before it being placed, or want
+// of memory.
 fn place_blocks<M: ByteMemory>(
     alloc: Global,
     memory: &mut M,
@@ -87,7 +92,8 @@ fn place_blocks<M: ByteMemory>(
     Ok(addresses)
 }
 
-/// The root words of a node with this leaf, whose blocks are placed.
+/// The root words of a node with this leaf, whose blocks are placed and filled. The `Err` is the
+/// first block that does not fit, or want of memory.
 pub(crate) fn leaf_words<M: ByteMemory>(
     alloc: Global,
     memory: &mut M,

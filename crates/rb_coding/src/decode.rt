@@ -1,4 +1,6 @@
-//! The value that words represent.
+//! The value that words represent. A node of a value is one of its constructions or numbers. A step
+//! is one thing to do: to visit words, whose value is to be found, or to join the last values to a
+//! construction.
 
 ghost use Rattle.std.specs.Prelude.{◌≡◌, slice_index};
 ghost use Rattle.rb_core.specs.declared.value.Value.{Value};

@@ -1,4 +1,7 @@
-//! Words and blocks of a value.
+//! Words and blocks of a value. A node is the outermost level of a value or of a subvalue; nodes
+//! are numbered in post-order, each behind those of its fields. A construction is a value of a data
+//! type that is built; it asks for the blocks of its leaf, the form that the type's layout has for
+//! it. Bits that no part of a layout's words has are free.
 
 ghost use Rattle.std.specs.Prelude.{◌≡◌, map, true};
 ghost use Rattle.rb_core.specs.Values.{all_of_types, is_of_type};

@@ -1,4 +1,5 @@
-//! Why a value is not encoded.
+//! Why a value is not encoded, and why words are not decoded. A node of a value is one of its
+//! constructions or numbers.
 
 ghost use Rattle.std.specs.Prelude.{◌≡◌};
 ghost use Rattle.rb_coding.specs.declared.fault.EncodeFault.TheVariants as encoding;

@@ -1,4 +1,8 @@
 //! Tables gathered from the parts of a leaf: the addresses of its blocks, or the words of a field.
+//! A leaf is the form that a layout has for some values; its words are flat, each with parts,
+//! ranges of its bits, which hold a constant, bits or a word of a field, or a pointer to a block. A
+//! field is named by its path, a list of field numbers, outermost first; where addresses are wanted
+//! the path counts for nothing. An entry is a place in the table, and the number for it.
 
 ghost use Rattle.std.specs.Prelude.{◌≡◌, ◌∷◌, [], IfOk, replicate, slice_index_or, slice_set};
 ghost use Rattle.rb_coding.specs.inner.Gathering.{count_at, entry, field_words, put_blocks, put_entry, put_part, put_parts, put_words};

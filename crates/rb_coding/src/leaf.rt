@@ -1,4 +1,6 @@
-//! The leaf of a node.
+//! The leaf of a node. A node is the outermost level of a value or of a subvalue: a number, or a
+//! construction. A layout has leaves, each for the values that its provenance, a pattern, matches.
+//! `nodes` are those of the whole value, and `node` is the number of one.
 
 ghost use Rattle.std.specs.Prelude.{◌≡◌, ◌<◌, length, map};
 ghost use Rattle.std.specs.Option.{option_copied};

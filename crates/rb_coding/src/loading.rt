@@ -1,4 +1,5 @@
-//! The words of the blocks of a leaf.
+//! The words of the blocks of a leaf. A leaf is the form that a layout has for some values: root
+//! words, and blocks to which pointers in them or in later blocks lead.
 
 ghost use Rattle.std.specs.Prelude.{IfOk};
 ghost use Rattle.rb_bytes.specs.Memory.{IsGood};

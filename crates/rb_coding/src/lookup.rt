@@ -1,4 +1,4 @@
-//! What stands at a number.
+//! What stands at a number: an item of a list, counted from 0.
 
 ghost use Rattle.std.specs.Prelude.{◌≡◌, slice_index};
 

@@ -1,4 +1,6 @@
-//! The words of one node.
+//! The words of one node. A node is the outermost level of a value or of a subvalue: a number, or a
+//! construction, whose leaf is the form that the layout of its type has for it, with root words and
+//! blocks. `nodes` are those of the whole value, in post-order, and `node` is the number of one.
 
 ghost use Rattle.std.specs.Prelude.{◌≡◌, ◌∷◌, [], IfOk};
 ghost use Rattle.rb_bytes.specs.Memory.{IsGood};
@@ -26,8 +28,9 @@ pub(crate) fn one_word(alloc: Global, word: u64) -> Result<Seq<u64>, AllocError>
     Ok(words)
 }
 
-/// The words of a node at its type, given those of the nodes before it. The blocks of its leaf are
-/// placed in the memory and filled.
+/// The words of a node at its type, given those of the nodes before it in `table`. The blocks of
+/// its leaf are placed in the memory and filled. The `Err` is the first block that does not fit, or
+/// want of memory.
 pub(crate) fn node_words<M: ByteMemory>(
     alloc: Global,
     memory: &mut M,

@@ -1,4 +1,7 @@
-//! Words made from their parts.
+//! Words made from their parts. A part is a range of a word's bits, which hold a constant, bits or
+//! a word of a field, or a pointer to a block. `nodes` are those of a whole value, each the
+//! outermost level of a subvalue; `node` is the number of the one whose words are made, `table` has
+//! the words of the nodes before it, and `addresses` are those of its blocks, by number.
 
 ghost use Rattle.std.specs.Prelude.{◌≡◌, ◌/◌, slice_index, map, IfOk};
 ghost use Rattle.rb_rel.proofs.Packing.{number_of};
@@ -22,7 +25,7 @@ fn address(addresses: &[u64], block: u32) -> u64
     }
 }
 
-// An address in steps of an alignment, as a pointer holds it.
+// An address in steps of an alignment, as a pointer holds it; 0 where the alignment is 0.
 fn scaled(address: u64, align: u64) -> u64
     ensures { result ≡ address / align }
 {

@@ -1,4 +1,8 @@
-//! The steps that a leaf's provenance comes to.
+//! The steps that a leaf's provenance comes to. A leaf is the form that a layout has for some
+//! values; its provenance is the pattern that matches them, in which wildcards and variables are
+//! open positions. A path is a list of field numbers, outermost first. A step is one thing to do:
+//! to visit words, whose value is to be found, or to join the last values to a construction. The
+//! last step is done first.
 
 ghost use Rattle.std.specs.Prelude.{◌≡◌, ◌<◌, ◌∷◌, [], ◌++◌, IfOk, OnOk, map};
 ghost use Rattle.rb_coding.specs.inner.Gathering.{field_words};
@@ -54,7 +58,8 @@ fn below(alloc: Global, path: &[u32], field: usize) -> Result<Seq<u32>, AllocErr
     Ok(found)
 }
 
-/// Adds the steps of a provenance at a path and its type. The call nests as deep as the provenance.
+/// Adds to `todo` the steps of `prov`, the part of the provenance of the opened value that stands
+/// at a path, given the type there. The call nests as deep as `prov`. The `Err` is want of memory.
 #[cycle(planning)]
 pub(crate) fn plan(
     alloc: Global,
@@ -88,8 +93,8 @@ pub(crate) fn plan(
     }
 }
 
-// Adds the steps of the fields of a constructor, those of the last field first: the last step is
-// done first.
+// Adds to `todo` the steps of the fields of a constructor at a path, given their patterns and
+// types, as far as both lists reach: those of the last field first, as the last step is done first.
 #[cycle(planning)]
 fn plan_fields(
     alloc: Global,

@@ -1,4 +1,6 @@
-//! The leaf of words: the one to which the splits of their layout lead.
+//! The leaf of words: the one to which the splits of their layout lead. A split looks at the number
+//! at a location, which begins in the root words and may lead by pointers to a block; it has an arm
+//! with a tree for each of some literals, and may have an `else` with a tree for all other numbers.
 
 ghost use Rattle.std.specs.Prelude.{◌≡◌, ℕ, Some};
 ghost use Rattle.std.specs.Option.{option_copied};
@@ -39,7 +41,8 @@ fn read_loc<M: ByteMemory>(memory: &M, words: &[u64], loc: &Loc) -> u64
     take_from(word, o, l)
 }
 
-/// What stands under a number: under the first arm with this literal, or else under `else`.
+/// The tree that stands under a number: under the first arm with this literal, or else under
+/// `else`, here `other`; None where there is neither.
 pub fn under<'a>(
     arms: &'a [FlatArm],
     other: &'a Option<Boxed<FlatTree>>,

@@ -1,4 +1,7 @@
-//! The words of nodes, by number, and where the nodes of fields stand.
+//! The words of nodes, by number, and where the nodes of fields stand. A node is the outermost
+//! level of a value or of a subvalue; it stands behind the nodes of its fields, so that the last
+//! node is that of the whole. A size is how many nodes the value of a node has. A path is a list of
+//! field numbers, outermost first.
 
 ghost use Rattle.std.specs.Prelude.{◌≡◌, ◌-◌, ◌<◌, length, slice_index};
 ghost use Rattle.rb_core.specs.Values.{subs};
@@ -27,7 +30,7 @@ pub(crate) fn layer_at(nodes: &Nodes, node: usize) -> Layer
     }
 }
 
-// How many fields a node has.
+// How many fields a node has; 0 where it is a number or not there.
 fn arity_at(nodes: &Nodes, node: usize) -> usize
     ensures { result ≡ arity_of nodes.now node }
 {
@@ -61,6 +64,7 @@ pub(crate) fn start_of(sizes: &[usize], end: usize, count: usize) -> usize
 }
 
 // The node of a field of a node: the nodes of the fields behind it stand between it and the node.
+// Of a field that the node lacks, the answer says nothing.
 fn field_node(nodes: &Nodes, sizes: &[usize], node: usize, field: u32) -> usize
     ensures { result ≡ field_node nodes.now sizes.now node field }
 {
@@ -68,7 +72,8 @@ fn field_node(nodes: &Nodes, sizes: &[usize], node: usize, field: u32) -> usize
     start_of(sizes, node, behind).saturating_sub(1)
 }
 
-// The node at a path of field numbers below the node `root`.
+// The node at a path of field numbers below the node `root`, which is `root` itself where the path
+// is empty; of a path on which some node lacks the field, the answer says nothing.
 fn node_at(nodes: &Nodes, sizes: &[usize], root: usize, path: &[u32]) -> usize
     ensures { result ≡ node_at nodes.now sizes.now root path.now }
 {

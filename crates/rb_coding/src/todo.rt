@@ -1,4 +1,6 @@
-//! What is still to be done while words are decoded.
+//! What is still to be done while words are decoded: steps, the last of which is done first. A leaf
+//! is the form that a layout has for some values of a type; its provenance is the pattern that
+//! matches them, in which wildcards and variables are open positions.
 
 ghost use Rattle.std.specs.Prelude.{OnOk};
 ghost use Rattle.rb_core.specs.declared.value.Value.{Value};
@@ -26,7 +28,8 @@ pub enum Step {
 }
 
 /// Adds to what is to be done what the words of a value of a data type come to: its leaf's
-/// constructors, numbers and open positions. The last step is to be done first.
+/// constructors, numbers and open positions. The last step is to be done first. The `Err` is want
+/// of memory.
 pub(crate) fn open<M: ByteMemory>(
     alloc: Global,
     agreed: &Agreed,

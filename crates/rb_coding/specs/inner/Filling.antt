@@ -1,4 +1,8 @@
--- Memories that grow by blocks, request by request, and what a node's leaf comes to.
+-- Memories that grow by blocks, request by request, and what a node's leaf comes to. A request is for a block, by its
+-- size and alignment in bytes; laid is the block, by its address and size, or that it is over, it does not fit. `old`
+-- and `new` are the memory before and after, `rs` the requests, and `bs` the blocks. A leaf is the form that a layout
+-- has for some values, with root words and blocks; each word has parts, which `subs`, the words of the field at a
+-- path, and the blocks' addresses fill.
 use Rattle.std.specs.Prelude.{◌≡◌, ℕ, ◌<◌, map, List, [], ◌∷◌, ◌++◌, Some, Result, Ok, Err, slice_get}
 use Rattle.rb_bytes.specs.Memory.{Memory, IsSize, IsAlign}
 use Rattle.rb_bytes.specs.Growth.{Grown}
@@ -24,13 +28,14 @@ abbrev pub behind_all : List (ℕ × ℕ) → Laid → Laid
 behind_all [] laid = laid
 behind_all (b ∷ bs) laid = behind b (behind_all bs laid)
 
--- requests were laid as these blocks, and the memory has grown by them
+-- the requests rs were laid as the blocks bs, and the memory has grown by them: whatever requests qs follow are laid
+-- in the new memory as they would be behind rs in the old one
 pub record Progress (old new : Memory) (rs : List Request) (bs : List (ℕ × ℕ)) : Type 0 where
   pub lays : (qs : List Request) → lay old.limit old.next (rs ++ qs) ≡ behind_all bs (lay new.limit new.next qs)
   pub before : (qs : List Request) → laid_before old.limit old.next (rs ++ qs) ≡ bs ++ laid_before new.limit new.next qs
   pub grown : Grown old new bs new.next
 
--- one of the requests did not fit, and the memory has grown by those before it
+-- one of the requests rs did not fit, as `full` tells, and the memory has grown by the blocks of those before it
 pub record Stopped (old new : Memory) (rs : List Request) (full : Unplaced) : Type 0 where
   pub bs : List (ℕ × ℕ)
   pub over : (qs : List Request) → lay old.limit old.next (rs ++ qs) ≡ Over full

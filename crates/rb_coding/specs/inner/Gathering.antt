@@ -1,5 +1,7 @@
--- Tables that are gathered from the parts of a leaf: the addresses of its blocks, or the words of one
--- of its fields. Each part that has an entry of the table puts it there.
+-- Tables that are gathered from the parts of a leaf: the addresses of its blocks, or the words of one of its fields,
+-- as `wanted` tells. Each part that has an entry of the table puts it there: a place in the table, and the number for
+-- it. A leaf is the form that a layout has for some values; its words are flat, each with parts, ranges of its bits,
+-- which hold a constant, bits or a word of the field at a path of field numbers, or a pointer to a block.
 use Rattle.std.specs.Prelude.{ℕ, ◌+◌, ◌*◌, ◌%◌, List, [], ◌∷◌, length, replicate, Option, Some, None, slice_index, slice_index_or, slice_set, if◌then◌else◌}
 use Rattle.rb_core.specs.declared.types.Ty.{Ty}
 use Rattle.rb_core.specs.declared.types.DataDecl.{DataDecl}

@@ -1,4 +1,6 @@
--- Splits that are read on the way to one leaf. A route is a leaf, by its number, with the tests on the way to it.
+-- Splits that are read on the way to one leaf. A split looks at the number at a location of root words, which may
+-- lead by pointers to a block, and goes on by the arm with this literal, or by `else`. A route is a leaf, by its
+-- number, with the tests on the way to it: that the number is a literal, or none of the arms' literals.
 use Rattle.std.specs.Prelude.{◌≡◌, ℕ, List, Some, slice_get}
 use Rattle.rb_core.specs.declared.layout_decl.Loc.{Loc}
 use Rattle.rb_core.specs.declared.layout_decl.Step.{Step}

@@ -1,4 +1,6 @@
--- The words of the blocks of a leaf, loaded from a memory.
+-- The words of the blocks of a leaf, loaded from a memory. A leaf is the form that a layout has for some values of a
+-- type. It is placed over root words where these and the blocks to which they point hold such a value: `subs` has the
+-- words of the field at a path of field numbers, and `ats` the address of each block by number.
 use Rattle.std.specs.Prelude.{◌≡◌, ℕ, ◌+◌, List, [], length, false, Some, Ok, slice_get, slice_index, slice_index_or}
 use Rattle.rb_bytes.specs.Memory.{Memory, IsWidth, load_of}
 use Rattle.rb_layout.specs.declared.layout.Block.{Block}

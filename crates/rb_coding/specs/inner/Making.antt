@@ -1,4 +1,6 @@
--- What making one node comes to.
+-- What making one node comes to: the words of a value, once those of its fields are known. A leaf is the form that a
+-- layout has for some values of a data type, with root words and blocks. `old` and `new` are the memory before and
+-- after.
 use Rattle.std.specs.Prelude.{◌≡◌, ℕ, List, [], ◌∷◌, Some, Result, Ok, Err}
 use Rattle.rb_core.specs.declared.value.Value.{Value, Num}
 use Rattle.rb_core.specs.declared.types.Ty.{Ty}

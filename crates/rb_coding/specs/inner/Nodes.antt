@@ -1,5 +1,7 @@
--- Nodes in post-order with their types and sizes, and where the nodes of subvalues stand. A node is named by its
--- number, from 0, and a list of nodes has the value of each.
+-- Nodes in post-order with their types and sizes, and where the nodes of subvalues stand. A node is the outermost
+-- level of a value or of one of its subvalues, the layer: a number, or a constructor with a count of fields. It is
+-- named by its number, from 0, and stands behind the nodes of its fields; a list of nodes has the value of each.
+-- `types` are the data types of the program, by number; a table has the size and, so far, the words of each node.
 use Rattle.std.specs.Prelude.{ℕ, zero, suc, ◌+◌, ◌-◌, List, [], ◌∷◌, ◌++◌, length, map, slice_get, slice_index, slice_index_or}
 use Rattle.rb_core.specs.declared.value.Value.{Value, Num, Con}
 use Rattle.rb_core.specs.declared.value.Value.TheOpen as V

@@ -1,4 +1,6 @@
--- A value of a data type that is opened: the words of its fields, and what it comes to.
+-- A value of a data type that is opened, that is, whose words are taken apart: the words of its fields, and what it
+-- comes to. Its provenance is the pattern that the leaf of its words has in the layout; a step is one thing to do for
+-- its value. A path is a list of field numbers, outermost first.
 use Rattle.std.specs.Prelude.{ℕ, List}
 use Rattle.rb_core.specs.declared.pattern.Pat.{Pat}
 use Rattle.rb_coding.specs.declared.plan.Opening.{Opening}

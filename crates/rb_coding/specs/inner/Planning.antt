@@ -1,4 +1,7 @@
--- The steps that a provenance comes to, given the words at its open positions. The last step is done first.
+-- The steps that a provenance comes to, given the words at its open positions. The last step is done first. A
+-- provenance is the pattern that a leaf of a layout has for its values; an open position is a wildcard or a variable
+-- in it, and its path the list of field numbers that leads there, outermost first. To visit words is to find their
+-- value; to join is to build a construction of the last values found.
 use Rattle.std.specs.Prelude.{ℕ, ◌+◌, List, [], ◌∷◌, ◌++◌, length}
 use Rattle.rb_core.specs.declared.types.Ty.{Ty}
 use Rattle.rb_core.specs.declared.types.DataDecl.{DataDecl}
