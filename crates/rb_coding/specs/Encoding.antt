@@ -49,8 +49,9 @@ StandApart types layouts m (t ∷ ts) (v ∷ vs) from blocks to ws =
     × (blocks ≡ own ++ others) × (ws ≡ first ++ rest)
     × StandsAlone types layouts m t v from own mid first × StandApart types layouts m ts vs mid others to rest
 
--- the old memory has grown by just the blocks of these requests and the words are right in it; or by
--- those before the first that does not fit. Of want of memory nothing is said
+-- the old memory has grown by just the blocks of these requests, and the words that are given are right: that is what
+-- `right` says of the new memory, these blocks and the words. Or it has grown by the blocks before the first that
+-- does not fit. Of want of memory nothing is said
 abbrev pub Encodes : (Memory → List (ℕ × ℕ) → List ℕ → Type 0) → List Request → Memory → Memory
     → Result (List ℕ) EncodeFault → Type 0
 Encodes right rs old new (Ok ws) =

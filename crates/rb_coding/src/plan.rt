@@ -48,7 +48,7 @@ impl<'a> Opening<'a> {
     }
 }
 
-// A path with one field more.
+// A path with one field number more, at its end.
 fn below(alloc: Global, path: &[u32], field: usize) -> Result<Seq<u32>, AllocError>
     requires { field < 4294967296 }
     ensures { IfOk result (λ found. found ≡ path.now ++ field ∷ []) }

@@ -18,8 +18,8 @@ use rb_target::outcome::End;
 
 /// Runs `instr`, instruction `pc` of function `fun`, over the function's slots and the memory,
 /// counts it in `switches` if it is a switch, and gives where it leads; a call or a return is only
-/// told, with `funs` for the functions of the code. Its contract speaks of whatever goes on after
-/// it.
+/// told. `funs` are the functions of the code, of which the contract alone speaks; it holds for
+/// whatever goes on after the instruction.
 pub fn step<'a, M: ByteMemory>(
     funs: &[CodeFun],
     fun: &CodeFun,

@@ -390,7 +390,8 @@ pub(crate) fn choose(
     Ok(rest)
 }
 
-// Notes that a run may come to where it goes on from each of a switch's targets.
+// Notes in `reached` that a run may come to where a jump to each target of a switch goes on, as
+// `ends` has it: to those of its arms and of its other way, if it has one.
 fn reach_targets(
     reached: &mut Seq<usize>,
     ends: &[usize],
@@ -536,7 +537,8 @@ pub(crate) fn used(
     Ok(uses)
 }
 
-// For each instruction, and for the end, how many of those before it stay.
+// For each instruction, and for the end, how many of those before it stay; `stay` is as `stays` has
+// it.
 pub(crate) fn places_of(alloc: Global, stay: &[usize]) -> Result<Seq<usize>, AllocError> {
     let all = number_at(stay, 0);
     let mut places = Seq::new(alloc);

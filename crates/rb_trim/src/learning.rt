@@ -29,7 +29,8 @@ pub(crate) fn numbers(
     Ok(numbers)
 }
 
-// What is known before each instruction, as far as the walk has come; None where it has not come yet.
+// What is known before each instruction, as far as the walk has come: `is_met` is false, and no
+// fact is known, where it has noted no way to the instruction yet.
 #[derive(Drop)]
 struct Knowledge {
     facts: Seq<Seq<Fact>>,
@@ -184,7 +185,8 @@ fn spread(
     }
 }
 
-// What is known before each instruction, as a walk from the first one on finds.
+// The facts known before each instruction of a body, as a walk from the first one on finds; none
+// where the walk finds no way to it.
 pub(crate) fn learn(alloc: Global, body: &[Instr]) -> Result<Seq<Seq<Fact>>, AllocError> {
     let mut known = blank(alloc, body.len())?;
     for (pc, instr) in body.iter().enumerate() {

@@ -1,8 +1,8 @@
 -- Memories that grow by blocks, request by request, and what a node's leaf comes to. A request is for a block, by its
--- size and alignment in bytes; laid is the block, by its address and size, or that it is over, it does not fit. `old`
--- and `new` are the memory before and after, `rs` the requests, and `bs` the blocks. A leaf is the form that a layout
--- has for some values, with root words and blocks; each word has parts, which `subs`, the words of the field at a
--- path, and the blocks' addresses fill.
+-- size and alignment in bytes; what is laid is a list of blocks, each by its address and size, or over, where one
+-- does not fit. `old` and `new` are the memory before and after, `rs` the requests, and `bs` the blocks. A leaf is
+-- the form that a layout has for some values, with root words and blocks; each word has parts, which `subs`, the
+-- words of the field at a path, and the blocks' addresses fill.
 use Rattle.std.specs.Prelude.{◌≡◌, ℕ, ◌<◌, map, List, [], ◌∷◌, ◌++◌, Some, Result, Ok, Err, slice_get}
 use Rattle.rb_bytes.specs.Memory.{Memory, IsSize, IsAlign}
 use Rattle.rb_bytes.specs.Growth.{Grown}

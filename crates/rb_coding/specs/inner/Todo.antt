@@ -9,8 +9,8 @@ use Rattle.rb_coding.specs.Decoding.{AreOf}
 use Rattle.rb_coding.specs.declared.todo.Step.{Step}
 use Rattle.rb_coding.specs.declared.todo.Step.TheVariants.{Visit, Join}
 
--- one step on a stack of values: it puts on it a value that the words represent, or joins the
--- last so many values on it
+-- one step on a stack of values, `old` before it and `new` after it: it puts on it a value that the words represent,
+-- or joins the last so many values on it, which must be there
 abbrev pub After : Program → Memory → Step → List Value → List Value → Type 0
 After p m (Visit ty ws) old new = (v : Value) × AreOf p m ty ws v × (new ≡ old ++ v ∷ [])
 After p m (Join k count) old new =
@@ -31,8 +31,8 @@ abbrev pub weights : List Step → ℕ
 weights [] = 0
 weights (s ∷ ss) = weight s + weights ss
 
--- steps are added that put the value of these words on the stack; they count less than if all
--- were visits, so one of them is a join
+-- to the steps `old` some are added, which gives `new`, that put the value of these words, at data type number t, on
+-- the stack; they count less than if all were visits, so one of them is a join
 abbrev pub IsOpened : Program → Memory → ℕ → List ℕ → List Step → List Step → Type 0
 IsOpened p m t ws old new = (v : Value) → AreOf p m (Named t) ws v
     → (steps : List Step) × (new ≡ old ++ steps) × ((done : List Value) → Runs p m steps done (done ++ v ∷ []))

@@ -176,7 +176,8 @@ IsMoved h facts body pc (Call f ds froms) j =
     (ds' froms' : List ℕ) × (j ≡ Call f ds' froms') × AreDests h ds ds' × AreNames h facts pc froms froms'
 IsMoved h facts body pc (Return froms) j = (froms' : List ℕ) × (j ≡ Return froms') × AreNames h facts pc froms froms'
 
--- an instruction that need not be there: what it writes is not read from there on, and it cannot end the run
+-- instruction pc need not be there: what it writes is not read behind it, and it cannot end the run; never one that
+-- stores, places, jumps, switches, calls or returns
 abbrev pub IsIdle : Hints → List Fact → ℕ → Instr → Type 0
 IsIdle h facts pc (Const d c) = IsUnread h (pc + 1) d
 IsIdle h facts pc (Copy d a) = IsUnread h (pc + 1) d
@@ -186,7 +187,8 @@ IsIdle h facts pc (Put d a o l) = IsUnread h (pc + 1) d
 IsIdle h facts pc (Load d a offset width) = IsUnread h (pc + 1) d × IsLoaded facts a offset width
 IsIdle h facts pc i = ⊥
 
--- instruction pc may be left out: it is idle, or jumps over nothing
+-- instruction pc may be left out: it is idle, or it is a jump and all that stands between it and where it leads is
+-- left out
 abbrev pub IsLeftOut : Hints → ℕ → Instr → Type 0
 IsLeftOut h pc (Jump t) = landing h t ≡ place h pc
 IsLeftOut h pc i = IsIdle h (facts_at h pc) pc i

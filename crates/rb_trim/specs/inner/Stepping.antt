@@ -61,8 +61,8 @@ pub record Walks (h : Hints) (body : List Instr) (count : ℕ) (new : List Instr
   pub steps : (pc : ℕ) (i : Instr) → pc < count → slice_get body pc ≡ Some i → IsStep h body new pc i
   pub origins : HaveOrigins h body new
 
--- the numbers in an instruction are within their bounds, where it is of a kind that may be made anew from facts:
--- those of a word, of bits of an operation, and of a range of bits
+-- the numbers in an instruction that may be made anew from facts are within their bounds: a constant is a word, an
+-- operation has 1 to 64 bits, and a range of bits lies in a word; nothing is said of other instructions
 abbrev pub IsRanged : Instr → Type 0
 IsRanged (Const d c) = c < 2 ^ 64
 IsRanged (Alu op n d a b) = (1 ≤ n) × (n ≤ 64)
@@ -73,7 +73,8 @@ IsRanged i = Unit {0}
 pub record FitsAt (slots : ℕ) (body : List Instr) (pc : ℕ) : Type 0 where
   pub at : (i : Instr) → slice_get body pc ≡ Some i → SlotsFit slots i × TargetsFit (length body) pc i × IsRanged i
 
--- slots and targets of a body fit, and so do the numbers of its instructions
+-- a body fits a function with so many slots and so many parameters: its slots, its targets and the numbers in its
+-- instructions are within their bounds, and it ends in a return
 pub record IsFit (slots params : ℕ) (body : List Instr) : Type 0 where
   pub small : (slots < 2 ^ 64) × (length body < 2 ^ 64)
   pub enough : params ≤ slots
