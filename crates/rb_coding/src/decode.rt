@@ -17,8 +17,9 @@ use rb_values::builder::Builder;
 use rb_values::forest::Forest;
 use std::alloc::Global;
 
-/// The value of this type that words represent in a memory. Its nodes are told off as they are found, so
-/// the work is at most that for so many nodes as the limit, however often the value shares a block.
+/// The value of this type that words represent in a memory. Its nodes are told off as they are
+/// found, so the work is at most that for so many nodes as the limit, however often the value
+/// shares a block.
 ///
 /// # Errors
 ///

@@ -19,13 +19,13 @@ use rb_layout::agreed::Agreed;
 use rb_values::forest::Forest;
 use std::alloc::Global;
 
-/// The words of a value of this type, with free bits 0. The memory grows by just the blocks that the
-/// value's constructions ask for, inner before outer and from left to right.
+/// The words of a value of this type, with free bits 0. The memory grows by just the blocks that
+/// the value's constructions ask for, inner before outer and from left to right.
 ///
 /// # Errors
 ///
-/// `Full` exactly where one of these blocks doesn't fit, the first one; those before it are placed and
-/// written. Or want of memory.
+/// `Full` exactly where one of these blocks doesn't fit, the first one; those before it are placed
+/// and written. Or want of memory.
 pub fn encode<M: ByteMemory>(
     alloc: Global,
     agreed: &Agreed,

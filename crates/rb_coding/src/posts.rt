@@ -63,8 +63,8 @@ fn push_fields(
     }
 }
 
-/// The type of each node of a value of this type. The nodes of a field stand before those of the fields
-/// behind it, so that from the last node to the first the types that wait are a stack.
+/// The type of each node of a value of this type. The nodes of a field stand before those of the
+/// fields behind it, so that from the last node to the first the types that wait are a stack.
 pub(crate) fn types_of(
     alloc: Global,
     types: &[DataDecl],

@@ -67,8 +67,8 @@ fn add_words(stack: &mut Vec<u64>, base: usize, froms: &[usize])
     }
 }
 
-// Adds the first slots of a call at the end: the words in some of the slots from `base` on, and zeros up to
-// a number of slots.
+// Adds the first slots of a call at the end: the words in some of the slots from `base` on, and
+// zeros up to a number of slots.
 fn push_slots(
     stack: &mut Vec<u64>,
     base: usize,

@@ -11,11 +11,12 @@ pub struct Frame {
     pub pc: usize,
 }
 
-/// The current call, and the calls that wait, the outermost first. The slots of all of them stand on one
-/// stack in the same order: those of the current call begin at `base` and go to the stack's end, and those
-/// of a call that waits are as many as its function has. `results` has room for what the outermost function
-/// returns, so that a return takes no memory. The current call is of function `fun` and stands at
-/// instruction `pc`; `left` calls may still be begun, and `switches` were done so far.
+/// The current call, and the calls that wait, the outermost first. The slots of all of them stand
+/// on one stack in the same order: those of the current call begin at `base` and go to the stack's
+/// end, and those of a call that waits are as many as its function has. `results` has room for what
+/// the outermost function returns, so that a return takes no memory. The current call is of
+/// function `fun` and stands at instruction `pc`; `left` calls may still be begun, and `switches`
+/// were done so far.
 #[derive(Drop)]
 pub struct State {
     pub fun: usize,
@@ -28,16 +29,16 @@ pub struct State {
     pub results: Vec<u64>,
 }
 
-/// An instruction that leaves its function: a call, with the number of the function that it calls and the
-/// slots of its words, or a return, with the slots of its words.
+/// An instruction that leaves its function: a call, with the number of the function that it calls
+/// and the slots of its words, or a return, with the slots of its words.
 #[derive(Clone, Copy)]
 pub enum Leave<'a> {
     Calls(usize, &'a [usize]),
     Returns(&'a [usize]),
 }
 
-/// Where an instruction leads: to another of its function, out of it, or to the end of the run. One that
-/// leads out is not begun.
+/// Where an instruction leads: to another of its function, out of it, or to the end of the run. One
+/// that leads out is not begun.
 #[derive(Drop)]
 pub enum Flow<'a> {
     Goes(usize),

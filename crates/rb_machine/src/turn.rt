@@ -18,7 +18,8 @@ use rb_target::code::CodeFun;
 use rb_target::outcome::End;
 use std::alloc::{AllocError, Global};
 
-/// Runs the current call up to where it calls another or returns, or gives the end of the run as the `Err`.
+/// Runs the current call up to where it calls another or returns, or gives the end of the run as
+/// the `Err`.
 ///
 /// # Errors
 ///

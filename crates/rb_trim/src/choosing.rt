@@ -350,8 +350,9 @@ pub(crate) fn give(
     Ok(given)
 }
 
-// Takes back that an instruction stands with another where no run comes to it: of three switches on one word, each behind
-// the other way of the one before, the second one is left out, so that it cannot stand with the third.
+// Takes back that an instruction stands with another where no run comes to it: of three switches on
+// one word, each behind the other way of the one before, the second one is left out, so that it
+// cannot stand with the third.
 pub(crate) fn clear_unreached(given: &mut Seq<usize>, reached: &[usize]) {
     for (pc, is_reached) in reached.iter().enumerate() {
         if *is_reached == 0 {

@@ -53,7 +53,8 @@ fn both(
     Ok(new)
 }
 
-/// The switch that does what a switch does and the one to which its other way leads, under new numbers.
+/// The switch that does what a switch does and the one to which its other way leads, under new
+/// numbers.
 ///
 /// # Errors
 ///

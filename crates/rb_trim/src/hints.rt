@@ -8,8 +8,8 @@ use rb_core::seq::Seq;
 /// In `given`: a switch is to return at once, as all its ways return the same words.
 pub(crate) const RETURNS: usize = 2;
 
-/// What is left out of a body, and the new numbers of its instructions and slots. Nothing is right by itself: `trim`
-/// tests what it rests on.
+/// What is left out of a body, and the new numbers of its instructions and slots. Nothing is right
+/// by itself: `trim` tests what it rests on.
 #[derive(Drop)]
 pub struct Hints {
     /// For each instruction, and for the end, how many of those before it stay.
@@ -18,19 +18,20 @@ pub struct Hints {
     pub ends: Seq<usize>,
     /// For each instruction 1 where a run may come to it, and 0 where none does.
     pub reached: Seq<usize>,
-    /// For each instruction 1 where one instruction stands for it and for another behind it, 2 where a switch returns at
-    /// once, else 0.
+    /// For each instruction 1 where one instruction stands for it and for another behind it, 2
+    /// where a switch returns at once, else 0.
     pub given: Seq<usize>,
     /// For each instruction what is known before it.
     pub facts: Seq<Seq<Fact>>,
     /// For each instruction some slots that no way from there on reads, though a later line may.
     pub dead: Seq<Seq<usize>>,
-    /// For each slot one more than the number of the last instruction that reads it; 0 where none does.
+    /// For each slot one more than the number of the last instruction that reads it; 0 where none
+    /// does.
     pub reads: Seq<usize>,
     /// How many slots the shorter body has.
     pub slots: usize,
-    /// The new number of each slot: past the shorter body's slots where only loads would write it that write another
-    /// one now, and 0 where nothing writes or reads it.
+    /// The new number of each slot: past the shorter body's slots where only loads would write it
+    /// that write another one now, and 0 where nothing writes or reads it.
     pub names: Seq<usize>,
     /// For each new number the slot, and behind them those of the slots past the shorter body's.
     pub origins: Seq<usize>,

@@ -247,7 +247,8 @@ pub(crate) fn tells(slot: usize, number: u64) -> Option<Fact>
     fact(slot, Content::Number(number))
 }
 
-// Whether a fact that a way tells holds behind an instruction: it may be told of another slot with the same word.
+// Whether a fact that a way tells holds behind an instruction: it may be told of another slot with
+// the same word.
 fn is_said(facts: &[Fact], told: Option<Fact>, instr: &Instr, fact: &Fact) -> bool
     ensures { IsTrue result → HoldsBehind facts.now told instr.now fact.now }
 {
