@@ -1,4 +1,8 @@
--- A completed program agrees where its written layouts obey the rules and flatten no boxed type.
+-- A completed program agrees where its written layouts obey the rules and flatten no boxed type. A program agrees
+-- where its layouts obey the rules A1 to A10. A layout flattens a type, a constructor of which stands below the root
+-- of the provenance of one of its leaves, and holds one where a word of an open field of that type stands in the root
+-- words of a leaf. `kinds` says for each type which layout is derived for it, boxed or packed, if any. `layouts` are
+-- the flat forms of a program's layouts.
 use Rattle.std.specs.Prelude.{◌≡◌, ℕ, ◌<◌, List, length, Option, Some, None}
 use Rattle.rb_core.specs.declared.types.Auto.{Auto}
 use Rattle.rb_core.specs.declared.types.Auto.TheVariants.{Boxed}

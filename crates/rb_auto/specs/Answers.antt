@@ -1,5 +1,6 @@
 -- What is answered where a layout is to be derived. Of each type `kinds` says which layout is derived for it, if any,
--- and `rooms` how wide its word is.
+-- and `rooms` how wide its word is. A refusal says why a type gets no layout. A packed type reaches itself where a
+-- chain of fields leads from it back to it.
 use Rattle.std.specs.Prelude.{◌≡◌, ℕ, max, nat_le, if◌then◌else◌, List, Option, Some, None, Result, Ok, Err, slice_get}
 use Rattle.rb_core.specs.declared.types.Auto.{Auto}
 use Rattle.rb_core.specs.declared.types.Auto.TheVariants as Kinds

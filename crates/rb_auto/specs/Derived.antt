@@ -1,4 +1,7 @@
--- Derived layouts: one word, with a split on the tag and an arm for each constructor.
+-- Derived layouts: one word, with a split on the tag and an arm for each constructor. A tag is a constructor's number
+-- in the lowest bits of the word. A form says how the word is used: boxed, or packed with so many bits for the tag
+-- and for the word. `rooms` says for each type how wide its word is where its layout is derived. A leaf is for the
+-- values of its provenance, a pattern; an arm is for one constructor, whose number is the arm's literal.
 use Rattle.std.specs.Prelude.{ℕ, zero, ◌+◌, List, [], ◌∷◌, map, None}
 use Rattle.rb_core.specs.declared.types.Con.{Con}
 use Rattle.rb_core.specs.declared.pattern.Pat.{Pat}

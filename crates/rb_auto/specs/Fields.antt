@@ -1,4 +1,5 @@
--- Which types a type has as fields, and whether it reaches itself through them.
+-- Which types a type has as fields, and whether it reaches itself through them. Types are named by their numbers;
+-- `types` are their declarations.
 use Rattle.std.specs.Prelude.{◌≡◌, ℕ, List, [], ◌∷◌, Option, Some, None, slice_get}
 use Rattle.rb_core.specs.declared.types.Con.{Con}
 use Rattle.rb_core.specs.declared.types.DataDecl.{DataDecl}

@@ -1,4 +1,6 @@
--- The word of a leaf with its parts: boxed with a tag of 8 bits and a pointer, or packed from bit 0 upwards.
+-- The word of a leaf with its parts: boxed with a tag of 8 bits and a pointer, or packed from bit 0 upwards. A leaf
+-- is what a constructor's values look like: here one word. A part is some bits of a word, with what they hold; a
+-- block is words in memory to which a pointer leads. The words `ws` are those of the constructor's fields.
 use Rattle.std.specs.Prelude.{ℕ, zero, suc, ◌+◌, nat_le, if◌then◌else◌, List, [], ◌∷◌, ◌++◌, map, length, take, drop}
 use Rattle.rb_core.specs.declared.layout_decl.LayItem.{LayItem}
 use Rattle.rb_core.specs.declared.layout_decl.LayItem.TheVariants as I

@@ -1,4 +1,8 @@
--- Derived layouts obey the rules of agreement, in the program that they complete.
+-- Derived layouts obey the rules of agreement, in the program that they complete. Each rule, A1 to A10, is about a
+-- layout, a leaf of it or an item of that. A leaf is for the values of its provenance, a pattern; its root words are
+-- those of the value itself, whose widths are the shape, and its items are its words and inlined fields as they are
+-- written. A layout flattens a type, a constructor of which stands below the root of the provenance of one of its
+-- leaves. `kinds` says for each type which layout is derived for it, if any.
 use Rattle.std.specs.Prelude.{◌≡◌, ℕ, ◌<◌, List, length, Option, Some, slice_get}
 use Rattle.rb_core.specs.declared.types.Auto.{Auto}
 use Rattle.rb_core.specs.declared.types.Auto.TheVariants.{Packed}

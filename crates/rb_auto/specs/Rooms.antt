@@ -1,4 +1,6 @@
--- The rooms of a program's types. A room says how wide the word of a type is where its layout is derived.
+-- The rooms of a program's types. A room says how wide the word of a type is where its layout is derived. A type
+-- reaches itself where a chain of fields leads from it back to it. `kinds` says for each type, by its number, which
+-- layout is derived for it, boxed or packed, if any.
 use Rattle.std.specs.Prelude.{◌≡◌, ℕ, List, length, Option, Some, None, slice_get}
 use Rattle.rb_core.specs.declared.types.Auto.{Auto}
 use Rattle.rb_core.specs.declared.types.Auto.TheVariants.{Packed}
@@ -17,7 +19,8 @@ kind_in (Some kind) = kind
 abbrev pub kind_of : List (Option Auto) → ℕ → Option Auto
 kind_of kinds t = kind_in (slice_get kinds t)
 
--- a room is that of type t: a packed type reaches itself or needs so many bits; any other type has a whole word
+-- a room is that of type t, where `rooms` are those of all types: a packed type reaches itself or needs so many bits;
+-- any other type has a whole word
 abbrev pub IsRoom : Program → List (Option Auto) → List Room → ℕ → Room → Type 0
 IsRoom p kinds rooms t Word = kind_of kinds t ≡ Some Packed → ⊥
 IsRoom p kinds rooms t Recursive = (kind_of kinds t ≡ Some Packed) × IsRecursive p.types t

@@ -1,4 +1,6 @@
--- The widths of words, as derived layouts count them.
+-- The widths of words, as derived layouts count them. A room says of a type how wide its word is where its layout is
+-- derived; `rooms` has that of each type, by its number. A type's shape is the widths of its words, in bits. A tag is
+-- the number of a constructor, in as few bits as tell the constructors of its type apart.
 use Rattle.std.specs.Prelude.{ℕ, zero, suc, ◌+◌, ◌^◌, max, nat_le, ◌&&◌, if◌then◌else◌, List, [], ◌∷◌, map, length, sum, sum_by, Option, Some, None, slice_get}
 use Rattle.rb_core.specs.declared.types.Ty.{Ty}
 use Rattle.rb_core.specs.declared.types.Ty.TheVariants.{Int, Named}

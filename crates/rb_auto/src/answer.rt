@@ -1,4 +1,6 @@
-//! Layouts of types whose file leaves them to the compiler.
+//! Layouts of types whose file leaves them to the compiler. `kinds` says for each type, by its
+//! number, which layout is derived for it, boxed or packed, if any; `rooms` says how wide its word
+//! is then. A type is refused where it is to be packed and cannot be.
 
 ghost use Rattle.std.specs.Prelude.{◌≡◌, length, IsSome, slice_get};
 ghost use Rattle.rb_auto.specs.Answers.{AnswersDerived, IsDerivedAnswer, answer, packed_answer, packed_fit};
@@ -14,8 +16,9 @@ use rb_core::program::Program;
 use rb_core::types::Auto;
 use std::alloc::Global;
 
-// The layout of a packed type that doesn't reach itself and needs so many bits: it is refused where
-// they are over 64, and its word has at least one.
+// The layout of a packed type `ty` that doesn't reach itself through fields and needs so many bits:
+// it is refused where they are over 64, and its word has at least one. An `Err` is the refusal, or
+// want of memory.
 fn packed_fit(
     alloc: Global,
     program: &Program,
@@ -36,8 +39,8 @@ fn packed_fit(
     Ok(decl)
 }
 
-// The layout of a packed type, by its room: it is refused where it reaches itself or needs over 64
-// bits. No room, or one that no packed type has, meets want of memory.
+// The layout of a packed type, by its room: it is refused where it reaches itself through fields or
+// needs over 64 bits. No room, or one that no packed type has, meets want of memory.
 fn packed(
     alloc: Global,
     program: &Program,

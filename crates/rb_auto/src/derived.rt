@@ -1,4 +1,9 @@
-//! Derived layouts: the leaves of a type's constructors under a split on the tag.
+//! Derived layouts: the leaves of a type's constructors under a split on the tag. A tag is the
+//! number of the constructor in the lowest bits of the word; the split has an arm for each
+//! constructor, whose number is the arm's literal. A leaf is for the values of its provenance, a
+//! pattern. `form` says how the word is used, boxed or packed, and `rooms` for each type how wide
+//! its word is where its layout is derived. `ty` is the number of the type, `cons` its
+//! constructors, and `decl` the declaration of one. An `Err` is want of memory.
 
 ghost use Rattle.std.specs.Prelude.{◌≡◌, IfOk, None};
 ghost use Rattle.rb_core.specs.declared.layout_decl.LayTree.TheVariants as S;

@@ -1,4 +1,6 @@
-//! The words of a constructor's fields.
+//! The words of a constructor's fields. A field has words by its type: an integer is one, a data
+//! type has those of its written layout or else one, as wide as `rooms` says of the type. Fields
+//! are numbered from 0 in their constructor. An `Err` is want of memory.
 
 ghost use Rattle.std.specs.Prelude.{◌≡◌, ◌++◌, IfOk, OnOk, map};
 ghost use Rattle.rb_auto.specs.FieldWords.{content, field_words, words_from, words_of};
@@ -22,7 +24,7 @@ pub struct FieldWord {
     pub width: u64,
 }
 
-/// What a part that holds the word is written as.
+/// What a part of a leaf's word that holds this word of a field is written as.
 pub(crate) fn content(alloc: Global, word: &FieldWord) -> Result<PartKind, AllocError>
     ensures { IfOk result (λ kind. kind ≡ content word.now) }
 {
@@ -34,7 +36,8 @@ pub(crate) fn content(alloc: Global, word: &FieldWord) -> Result<PartKind, Alloc
     }
 }
 
-// Adds a word of a field for each word of a written shape, all with numbers of their own.
+// Adds a word of field `field` for each word of a written shape, the list of its words' widths; all
+// have numbers of their own, from 0.
 fn add_words(field: u32, shape: &[u64], words: &mut Seq<FieldWord>) -> Result<(), AllocError>
     ensures { OnOk result (words.new ≡ words.old ++ words_from field 0 (map counted shape.now)) }
 {
@@ -48,7 +51,7 @@ fn add_words(field: u32, shape: &[u64], words: &mut Seq<FieldWord>) -> Result<()
     Ok(())
 }
 
-// Adds the words of a field whose type has this written shape; an only word has no number.
+// Adds the words of field `field`, whose type has this written shape; an only word has no number.
 fn add_shape(field: u32, shape: &[u64], words: &mut Seq<FieldWord>) -> Result<(), AllocError>
     ensures { OnOk result (words.new ≡ words.old ++ field_words field (map counted shape.now)) }
 {
@@ -62,8 +65,8 @@ fn add_shape(field: u32, shape: &[u64], words: &mut Seq<FieldWord>) -> Result<()
     add_words(field, shape, words)
 }
 
-// Adds the words of a field: one for an integer, those of the written layout for a data type that
-// has one, and else the one word by its room.
+// Adds the words of field `field` of type `ty`: one for an integer, those of the written layout for
+// a data type that has one, and else the one word by its room.
 fn add_field(
     program: &Program,
     rooms: &[Room],

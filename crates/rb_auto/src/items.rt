@@ -1,4 +1,7 @@
-//! The word of a leaf with its parts.
+//! The word of a leaf with its parts. A leaf is what the values of a constructor look like, here
+//! one word. A part is some bits of a word, `l` from bit `o` on, with what they hold; a block is
+//! words in memory to which a pointer leads. `words` are those of the constructor's fields, and
+//! `con` is its number, which stands in the tag. An `Err` is want of memory.
 
 ghost use Rattle.std.specs.Prelude.{◌≡◌, ◌∷◌, ◌++◌, [], IfOk, map, length, OnOk};
 ghost use Rattle.rb_auto.specs.Items.{block_items, boxed_parts, field_item, form_parts, form_tag, form_width, groups, group_item, leaf_items, packed_parts, part, parts_from, pointer_parts, tag_parts, whole_word};
@@ -19,7 +22,7 @@ pub const BOX_ALIGN: u64 = 8;
 /// How many words a block may have at most.
 pub const BLOCK_WORDS: usize = 64;
 
-// A whole word with one part from bit 0 on.
+// A whole word with one part, of this kind, in its lowest `l` bits.
 fn whole_word(alloc: Global, l: u64, kind: PartKind) -> Result<LayItem, AllocError>
     ensures { IfOk result (λ item. item ≡ whole_word l kind) }
 {
@@ -28,7 +31,7 @@ fn whole_word(alloc: Global, l: u64, kind: PartKind) -> Result<LayItem, AllocErr
     Ok(LayItem::Word(WORD_BITS, parts))
 }
 
-// A word of a block for each of these words of fields, from bit 0 on.
+// A word of a block for each of these words of fields, which it holds from bit 0 on.
 fn field_items(alloc: Global, words: &[FieldWord]) -> Result<Seq<LayItem>, AllocError>
     ensures { IfOk result (λ items. items ≡ map field_item words.now) }
 {

@@ -1,7 +1,12 @@
-//! Derived layouts obey the rules of agreement, as functions that carry the laws.
+//! Derived layouts obey the rules of agreement, as functions that carry the laws. Each function
+//! does nothing: the law is its contract.
 //!
-//! A program is completed by its derived layouts, which stand after the written ones. Where the written
-//! ones obey the rules, and none of them flattens a boxed type, the completed program agrees.
+//! A program is completed by its derived layouts, which stand after the written ones. Where the
+//! written ones obey the rules, and none of them flattens a boxed type, the completed program
+//! agrees. A program agrees where its layouts obey the rules A1 to A10. A leaf is for the values of
+//! its provenance, a pattern. A layout flattens a type, a constructor of which stands below the
+//! root of the provenance of one of its leaves; it holds a type where a word of an open field of
+//! that type stands in the root words of a leaf, that is, outside of blocks.
 
 ghost use Rattle.rb_auto.specs.Agreeing.{CompletedAgree};
 ghost use Rattle.rb_auto.specs.Obeying.{DerivedAreOnNoCycle, DerivedFlattenNothing, DerivedObey, PackedHaveNoPointer};

@@ -1,4 +1,6 @@
-//! Layouts that are left to the compiler: `layout T = boxed;` and `layout T = packed;`.
+//! Layouts that are left to the compiler: `layout T = boxed;` and `layout T = packed;`. A program
+//! agrees where its layouts obey the rules A1 to A10, so that each value has one leaf, which splits
+//! can find in its words, and the words of a leaf hold just what its pattern leaves open.
 //!
 //! Either is one word that begins with a tag, the number of the constructor. A boxed type's tag has 8
 //! bits, and behind it stands a pointer to a block with the words of the fields. A packed type's tag has

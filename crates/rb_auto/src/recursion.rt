@@ -15,7 +15,8 @@ use rb_core::types::{Con, DataDecl, Ty};
 use rb_layout::graphs::{edges_of, no_marks};
 use std::alloc::{AllocError, Global};
 
-// Adds the data types among the types of fields, once for each such field.
+// Adds the data types among the types of fields at the end of `row`, once for each such field. An
+// `Err` is want of memory.
 fn add_fields(fields: &[Ty], row: &mut Seq<u32>) -> Result<(), AllocError>
     ensures { OnOk result (row.new ≡ row.old ++ flat_map named_types fields.now) }
 {
@@ -28,7 +29,8 @@ fn add_fields(fields: &[Ty], row: &mut Seq<u32>) -> Result<(), AllocError>
     Ok(())
 }
 
-// The data types that fields of constructors have, once for each such field.
+// The data types that fields of constructors have, in order, once for each such field. An `Err` is
+// want of memory.
 fn field_row(alloc: Global, cons: &[Con]) -> Result<Seq<u32>, AllocError>
     ensures { IfOk result (λ row. row ≡ flat_map con_types cons.now) }
 {
@@ -40,6 +42,10 @@ fn field_row(alloc: Global, cons: &[Con]) -> Result<Seq<u32>, AllocError>
 }
 
 /// For each type the data types that it has as fields: the graph in which cycles are looked for.
+///
+/// # Errors
+///
+/// Want of memory.
 pub(crate) fn field_graph(alloc: Global, types: &[DataDecl]) -> Result<Seq<Seq<u32>>, AllocError>
     ensures { IfOk result (λ graph. graph ≡ field_graph types.now) }
 {
@@ -50,7 +56,8 @@ pub(crate) fn field_graph(alloc: Global, types: &[DataDecl]) -> Result<Seq<Seq<u
     Ok(graph)
 }
 
-// Marks and adds a number, if it was not found before; nothing changes where it has no mark.
+// Marks number `next` and adds it to those that were found, if it was not found before; nothing
+// changes where it has no mark. An `Err` is want of memory.
 fn add(next: u32, marks: &mut Seq<bool>, found: &mut Seq<u32>) -> Result<(), AllocError>
     ensures { OnOk result (state marks.new found.new ≡ added next (state marks.old found.old)) }
 {
@@ -67,8 +74,8 @@ fn add(next: u32, marks: &mut Seq<bool>, found: &mut Seq<u32>) -> Result<(), All
     Ok(())
 }
 
-// Adds the numbers to which these edges lead, until one leads to the number `start`, from which the
-// search began. Tells whether one does.
+// Adds the numbers to which these edges lead, unless they were found before, until one leads to the
+// number `start`, from which the search began. Tells whether one does. An `Err` is want of memory.
 fn follow(
     edges: &[u32],
     start: u32,
@@ -88,7 +95,8 @@ fn follow(
     Ok(false)
 }
 
-/// Whether a cycle goes through a number; `graph` lists for each number those to which it leads.
+/// Whether a cycle goes through number `start`; `graph` lists for each number those to which it
+/// leads. False where it has no such number.
 ///
 /// # Errors
 ///

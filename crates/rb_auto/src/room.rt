@@ -1,4 +1,5 @@
-//! The room that the word of a type takes where its layout is derived.
+//! The room that the word of a type takes where its layout is derived. A type that is to be packed
+//! is refused where it reaches itself through fields or needs over 64 bits.
 
 ghost use Rattle.std.specs.Prelude.{◌≡◌};
 ghost use Rattle.std.specs.Option.{option_copied};

@@ -1,9 +1,15 @@
 //! The rooms of a program's types.
 //!
-//! A packed type that reaches itself has no room. Another needs the bits of its tag and of its longest
-//! constructor, which are known once those of its fields' types are. So the types are gone over until
-//! all are known. Take `type Rgb = Gray(Byte) | Full(u5, u6, u5)` and `type Byte = B(u8)`, both packed. First
-//! `Byte` comes to 8 bits, then `Rgb` to 1 and the greater of 8 and 16, so 17.
+//! A room says how wide the word of a type is where its layout is derived. Of a packed type that
+//! reaches itself through fields it says that. Another packed type needs the bits of its tag, the
+//! constructor's number, and of its longest constructor, which are known once those of its fields'
+//! types are. So the types are gone over until all are known. Take `type Rgb = Gray(Byte) |
+//! Full(u5, u6, u5)` and `type Byte = B(u8)`, both packed. First `Byte` comes to 8 bits, then `Rgb`
+//! to 1 and the greater of 8 and 16, so 17.
+//!
+//! `kinds` says for each type, by its number, which layout is derived for it, boxed or packed, if
+//! any. `settled` has for each type its room, or None where that is not known yet. An `Err` is want
+//! of memory.
 
 ghost use Rattle.std.specs.Prelude.{◌≡◌, List, Option, Some, IfOk, IfSome, OnOk, map, sum_by};
 ghost use Rattle.rb_core.specs.declared.types.Auto.{Auto as Kind};
@@ -23,7 +29,7 @@ use rb_layout::decls::decl_of;
 use rb_layout::numbers::number_of;
 use std::alloc::{AllocError, Global};
 
-/// The least number of bits that tell so many constructors apart.
+/// The least number of bits that tell so many constructors apart; 63 where they are over 2^63.
 pub(crate) fn tag_bits(count: usize) -> u64
     ensures { result ≡ tag_bits count }
 {
@@ -46,8 +52,8 @@ fn shape_width(shape: &[u64]) -> Option<u64>
     Some(bits)
 }
 
-// How many bits all words of a field have, where the room of its type is known or not needed; None
-// where it isn't, or the number is too great.
+// How many bits all words of a field of this type have, where the room of its type is known or not
+// needed; None where it isn't, or the number is too great.
 fn field_width(program: &Program, settled: &[Option<Room>], ty: Ty) -> Option<u64>
     ensures { IfSome result (λ bits. (rooms : List TheRoom)
         → ExtendsSettled settled.now rooms → bits ≡ field_width program.now rooms ty) }
@@ -112,7 +118,8 @@ pub(crate) fn kind_of(kinds: &[Option<Auto>], ty: u32) -> Option<Auto>
 }
 
 // The room of a type as it is known at first; None for a packed type that doesn't reach itself,
-// whose bits are still to be counted.
+// whose bits are still to be counted. `graph` lists for each type the data types that it has as
+// fields.
 fn first_room(
     alloc: Global,
     program: &Program,
@@ -153,8 +160,8 @@ fn first_rooms(
     Ok(settled)
 }
 
-// Counts the bits that a type needs, where its room isn't known and those of its fields' types are.
-// Tells whether it could.
+// Counts the bits that a type needs, where its room isn't known and those of its fields' types are,
+// and puts the room in. Tells whether it could.
 fn settle_type(program: &Program, settled: &mut Seq<Option<Room>>, ty: u32) -> bool
     ensures { (kinds : List (Option Kind))
         → AreSettled program.now kinds settled.old → AreSettled program.now kinds settled.new }
@@ -215,7 +222,7 @@ fn all_settled(alloc: Global, settled: &[Option<Room>]) -> Result<Seq<Room>, All
     Ok(rooms)
 }
 
-/// The rooms of a program's types; `kinds` says for each type which layout is derived for it.
+/// The rooms of a program's types, in their order.
 ///
 /// # Errors
 ///

@@ -1,4 +1,6 @@
--- What a call answers: what the definition of numbering gives, or want of memory.
+-- What a call answers: what the definition of numbering gives, or want of memory. Numbering replaces the names in a
+-- part of a file by numbers; it gives the numbered part or the first fault of a name. A binder is what binds a
+-- variable; it has a number in its function.
 use Rattle.std.specs.Prelude.{◌≡◌, ℕ, Ok, Err}
 use Rattle.rb_names.specs.declared.fault.NameFault.TheVariants.{Memory}
 use Rattle.rb_names.specs.Numbering.{Resolved, Numbered}

@@ -1,5 +1,6 @@
 -- A program completed by the layouts that its file leaves to the compiler, which derives each by its kind, boxed or
--- packed.
+-- packed. An item `layout T = boxed` or `layout T = packed` leaves that of type T so. The answer for a type is its
+-- layout or a refusal: why it gets none.
 use Rattle.std.specs.Prelude.{◌≡◌, ℕ, List, [], ◌∷◌, map, Option, Some, None, Ok, Err}
 use Rattle.rb_core.specs.declared.types.Auto.{Auto}
 use Rattle.rb_core.specs.declared.program.Program.{Program}

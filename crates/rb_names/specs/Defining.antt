@@ -1,4 +1,7 @@
--- Definitions gone through one after the other, with the tables of those before.
+-- Definitions gone through one after the other, with the tables of those before. A definition is a name that an item
+-- of the file defines, with its kind, which says in which table: that of types, of constructors, of functions, or of
+-- types that have a layout. `before` are the definitions that were gone through, `more` those that come next, and
+-- `known` the tables so far.
 use Rattle.std.specs.Prelude.{◌≡◌, Bool, List, ◌++◌, ◌&&◌, length, is_some, Err, if◌then◌else◌, Option, Some, None}
 use Rattle.std.specs.List.{list_any}
 use Rattle.std.specs.Str.{bytes_eq}
@@ -48,7 +51,8 @@ made_again there name = if there then Some name else None
 abbrev pub HasNames : {A : Type 0} → Table A → List Name → Type 0
 HasNames table names = (name : Name) → is_some (meaning table name) ≡ list_any (bytes_eq name) names
 
--- the tables when the items that are left are gone through as well
+-- the tables t when the items that are left are gone through as well: new types and functions get the numbers that
+-- follow those of t
 abbrev pub with_rest : Tables → List ItemTree → Tables
 with_rest t items = record {
   types = t.types ++ numbered_from (length t.types) (type_names items);

@@ -1,4 +1,7 @@
--- What a file defines: its tables, and the first name that is defined twice.
+-- What a file defines: its tables, and the first name that is defined twice. A file is a list of items: type
+-- declarations, functions, written layouts, and layouts that are left to the compiler (`Derived`). A table says what
+-- names stand for: of a type or a function its number, of a constructor its type's number and its own in that type,
+-- all from 0.
 use Rattle.std.specs.Prelude.{ℕ, suc, Bool, true, false, List, [], ◌∷◌, ◌++◌, map, ◌&&◌, if◌then◌else◌, Option, Some, None}
 use Rattle.std.specs.List.{list_any, flat_map}
 use Rattle.std.specs.Str.{bytes_eq}
@@ -109,6 +112,6 @@ first_again before [] = None
 first_again before (d ∷ ds) =
     if list_any (same_definition d) before then Some d.name else first_again (before ++ d ∷ []) ds
 
--- the first name of a file that was defined before in its table
+-- the first name of a file with these items that was defined before in its table; none where each is defined once
 abbrev pub defined_twice : List ItemTree → Option NameTree
 defined_twice items = first_again [] (flat_map (definitions (type_names items)) items)

@@ -1,4 +1,6 @@
 -- Parts that were numbered, in front of what is found of the rest, as in a loop that has gone through some of a list.
+-- A part is numbered where its names are replaced by numbers; its fault is the first name for which that fails. A
+-- binder is what binds a variable; it has a number in its function.
 use Rattle.std.specs.Prelude.{List, ◌++◌, Ok}
 use Rattle.rb_names.specs.declared.items.Items.{Items}
 use Rattle.rb_names.specs.Numbering.{Resolved, Numbered, and_then, numbered_as}

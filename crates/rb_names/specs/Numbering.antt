@@ -1,6 +1,9 @@
 -- Numbering: the tree with each name's number in its place, or the first name that stands for nothing. Each form has
 -- one equation, and its parts are numbered in the order in which they are written. A binder gives a variable its
--- number: variables of one name in a pattern are one, as are those in a parameter list; a `let` is one by itself.
+-- number: variables of one name in a pattern are one, as are those in a parameter list; a `let` is one by itself. The
+-- tables `t` say what the names of types, constructors and functions stand for, and a scope what those of variables
+-- do. A provenance is the pattern of the values for which a leaf of a layout is. A place, often `at`, is the number
+-- of a token in the file; it stays.
 use Rattle.std.specs.Prelude.{ℕ, suc, ◌+◌, List, [], ◌∷◌, map, length, Option, Some, None, Result, Ok, Err}
 use Rattle.rb_core.specs.declared.types.Ty.{Ty}
 use Rattle.rb_core.specs.declared.types.Ty.TheVariants as core_ty

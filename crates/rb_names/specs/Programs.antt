@@ -1,4 +1,6 @@
--- The program of a file's tree, or the first fault of its names.
+-- The program of a file's tree, or the first fault of its names. The tree has names as text, the program has numbers
+-- in their places. The tables `t` say what the names of types, constructors and functions stand for. Items are type
+-- declarations, layouts and functions.
 use Rattle.std.specs.Prelude.{ℕ, List, [], ◌∷◌, codes, Option, Some, None, Ok, Err}
 use Rattle.rb_core.specs.declared.types.DataDecl.{DataDecl}
 use Rattle.rb_core.specs.declared.program.Fun.{Fun}
@@ -27,7 +29,8 @@ with_layout l rest = record { types = rest.types; layouts = l ∷ rest.layouts; 
 abbrev pub with_function : Fun → Items → Items
 with_function f rest = record { types = rest.types; layouts = rest.layouts; functions = f ∷ rest.functions }
 
--- items in the file's order; a layout that is left to the compiler is none yet, but its type has to be there
+-- items with numbers for their names, each kind in the file's order, or the first fault of a name in them; a layout
+-- that is left to the compiler is none yet, but its type has to be there
 abbrev pub numbered_items : Tables → List ItemTree → Resolved Items
 numbered_items t [] = Ok (record { types = []; layouts = []; functions = [] })
 numbered_items t (top.Types d ∷ items) =

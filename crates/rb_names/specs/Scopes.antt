@@ -14,7 +14,8 @@ use Rattle.rb_names.specs.Tables.{Name, Table}
 abbrev pub Scope : Type 0
 Scope = Table ℕ
 
--- the scope inside binders of these names, which are numbered from n on
+-- the scope inside binders of these names, which are numbered from n on, the last of them the innermost; the given
+-- scope is that round them
 abbrev pub inside : List Name → ℕ → Scope → Scope
 inside [] n scope = scope
 inside (x ∷ xs) n scope = inside xs (suc n) ((x, n) ∷ scope)

@@ -1,4 +1,6 @@
--- What reading leaves of a file: the spelling of its names, and counts within their limits.
+-- What reading leaves of a file: the spelling of its names, and counts within their limits. A file is read as a list
+-- of tokens and as the tree of items that they spell. `Upper` tokens are names that begin with a capital, of types
+-- and constructors; `Lower` ones are those of functions and variables.
 use Rattle.std.specs.Prelude.{◌≡◌, ◌<◌, ◌^◌, List, [], ◌∷◌, length, Bool, true, ◌&&◌, nat_le}
 use Rattle.std.specs.List.{list_all}
 use Rattle.rb_core.specs.Limits.{most_types, most_functions, most_constructors, most_fields, most_parameters, most_words}
@@ -13,7 +15,8 @@ use Rattle.rb_syntax.specs.declared.tree.FileTree.{FileTree}
 use Rattle.rb_syntax.specs.Spelling.{IsTreeOf}
 use Rattle.rb_names.specs.Definitions.{types_in, functions_in}
 
--- each name begins with a letter of its kind and goes on with letters, digits and underscores
+-- each name among these tokens begins with a letter of its kind, a capital or a small one, and goes on with letters,
+-- digits and underscores; other tokens may be any
 abbrev pub AreNamed : List Token → Type 0
 AreNamed [] = Unit {0}
 AreNamed (tok.Upper name ∷ ts) = (is_upper name ≡ true) × AreNamed ts
@@ -39,7 +42,7 @@ item_is_counted (top.Layouts l) = nat_le (length l.shape) most_words
 item_is_counted (top.Funs f) = nat_le (length f.params) most_parameters
 item_is_counted (top.Derived name a) = true
 
--- a file has no more of anything than the limits of the language allow
+-- a file of these items has no more of anything than the limits of the language allow
 pub record AreCounted (items : List ItemTree) : Type 0 where
   pub types : nat_le (length (types_in items)) most_types ≡ true
   pub functions : nat_le (length (functions_in items)) most_functions ≡ true

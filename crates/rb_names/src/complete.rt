@@ -1,4 +1,5 @@
-//! A file's program with the layouts that the file leaves to the compiler.
+//! A file's program with the layouts that the file leaves to the compiler. A refusal says why a
+//! type gets no layout where one is to be derived for it.
 
 ghost use Rattle.std.specs.Prelude.{◌≡◌, Ok, None, IfOk};
 ghost use Rattle.rb_core.specs.WellNumbered.{IsWellNumbered};
@@ -40,7 +41,8 @@ pub fn complete(alloc: Global, tree: &FileTree, program: Program) -> Result<Comp
     with_derived(program, derived)
 }
 
-// The program with the derived layouts behind its own, and the refusal that was kept.
+// The program with the derived layouts behind its own, and the refusal that was kept. An `Err` is
+// want of memory.
 fn with_derived(program: Program, derived: Derived) -> Result<Completed, AllocError>
     ensures { IfOk result (IsWith program derived) }
 {

@@ -1,4 +1,7 @@
-//! Layouts that are derived, one type after the other.
+//! Layouts that are derived, one type after the other. A derived layout is one that the file leaves
+//! to the compiler; `kinds` says for each type, by its number, which it is, boxed or packed, if
+//! any. `rooms` says for each type how wide its word is where its layout is derived. A refusal says
+//! why a type gets no layout.
 
 ghost use Rattle.std.specs.Prelude.{◌≡◌, Some, IfOk, OnOk};
 ghost use Rattle.rb_auto.specs.Rooms.{AreTheRooms};
@@ -57,8 +60,8 @@ pub fn derive_all(
     Ok(derived)
 }
 
-// Derives the layout of one more type: it goes behind the others, or its refusal is kept, if it is
-// the first.
+// Derives the layout of one more type, `ty`: it goes behind the others in `derived`, or its refusal
+// is kept, if it is the first. An `Err` is want of memory.
 fn derive_next(
     alloc: Global,
     program: &Program,

@@ -1,4 +1,8 @@
-//! Expressions.
+//! Expressions. A tree is what was read of the file, with names as text, and numbers replace them:
+//! `tables` say what the names of types, constructors and functions stand for, `scope` what those
+//! of variables do. A binder is what binds a variable, and `next` is the number of the next one in
+//! the function. The first name that stands for nothing is the fault `Unknown`; an `Err` may also
+//! be want of memory.
 
 ghost use Rattle.std.specs.Prelude.{◌≡◌, ◌∷◌, map, OnOk};
 ghost use Rattle.rb_names.specs.Answers.{AnswersFrom};
@@ -93,7 +97,7 @@ fn number_boxed<'a>(
     Ok(Boxed::new(alloc, expr)?)
 }
 
-// An expression inside one more binder, with this name and number.
+// An expression, in a box, inside one more binder, with this name and the number `var`.
 #[cycle(expression)]
 fn number_inside<'a>(
     alloc: Global,

@@ -44,8 +44,8 @@ impl<T: Drop> From<AllocFailed<T>> for NameFault {
     }
 }
 
-/// What the name stands for, where it was found; else the fault that it is unknown, or want of
-/// memory.
+/// What the name stands for, if that was found; else, where `found` is None, the fault that the
+/// name is unknown at its place, or want of memory.
 pub(crate) fn known<T: Copy>(
     alloc: Global,
     name: &NameTree,
@@ -62,7 +62,8 @@ pub(crate) fn known<T: Copy>(
     }
 }
 
-/// The number of what stands behind so many others; there is no memory for 2^32 of them.
+/// The number, from 0, of what stands behind `len` others: `len`. There is no memory for 2^32 of
+/// them.
 pub(crate) fn number_behind(len: usize) -> Result<u32, NameFault>
     ensures { AnswersNumbering result (Ok len) }
 {

@@ -1,4 +1,5 @@
-//! What one pattern, one list of parameters or one `let` binds.
+//! What one pattern, one list of parameters or one `let` binds. A binder is what binds a variable
+//! there; it has a number in its function, and `next` is the number of the next new one.
 
 ghost use Rattle.std.specs.Prelude.{◌≡◌, ◌+◌, [], OnOk, IfOk, IfErr, Ok};
 ghost use Rattle.rb_names.specs.declared.fault.NameFault.TheVariants.{Memory};
@@ -28,7 +29,8 @@ impl<'a> Frame<'a> {
         }
     }
 
-    /// Binds a name, unless it is bound here: binders of one name in one pattern or list are one.
+    /// Binds a name with the next number, unless it is bound here: binders of one name in one
+    /// pattern or list are one.
     ///
     /// # Errors
     ///
@@ -48,7 +50,7 @@ impl<'a> Frame<'a> {
     }
 }
 
-/// The next binder's number, which the one after it follows; there is no memory for 2^32 binders.
+/// The number of the next binder, and `next` goes up by one; there is no memory for 2^32 binders.
 ///
 /// # Errors
 ///

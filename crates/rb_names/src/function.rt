@@ -1,5 +1,6 @@
 //! Functions, whose names become numbers: a variable gets that of its binder, a data type its
-//! number in the tables.
+//! number in the tables. A binder is what binds a variable; it has a number in its function. A
+//! frame has the binders of the parameters, a scope those round a place.
 
 ghost use Rattle.std.specs.Prelude.{◌≡◌, ◌+◌, length, map, OnOk, IfErr};
 ghost use Rattle.rb_names.specs.declared.fault.NameFault.TheVariants.{Memory};
@@ -61,7 +62,8 @@ fn enter_params<'a>(
     Ok(())
 }
 
-// Binds the names of parameters, each once.
+// Binds the names of parameters in a frame, each once, with its next numbers. An `Err` is want of
+// memory.
 fn bind_params<'a>(frame: &mut Frame<'a>, trees: &'a [ParamTree]) -> Result<(), NameFault>
     ensures ok { OnOk result (frame.new ≡ with_binders frame.old (map (λ p. p.var.text) trees.now)) }
     ensures memory { IfErr result (λ e. e ≡ Memory) }

@@ -1,4 +1,6 @@
-//! The items of a file.
+//! The items of a file. An item is a type declaration, a function, a layout, or a layout that is
+//! left to the compiler. `tables` say what the names of types, constructors and functions stand
+//! for.
 
 ghost use Rattle.std.specs.Prelude.{◌≡◌, ◌∷◌, List, Err, OnOk, IfErr};
 ghost use Rattle.rb_syntax.specs.declared.tree.ItemTree.{ItemTree as Tree};
@@ -46,8 +48,9 @@ pub fn number_items(alloc: Global, tables: &Tables, trees: &[ItemTree]) -> Resul
     Ok(items)
 }
 
-// Adds what one more item stands for behind those of its kind. A layout that is left to the
-// compiler adds nothing yet, but its type has to be there.
+// Adds what one more item, `tree`, stands for behind those of its kind in `items`. A layout that is
+// left to the compiler adds nothing yet, but its type has to be there. The first name that stands
+// for nothing is `Unknown`; an `Err` may also be want of memory.
 fn number_item(
     alloc: Global,
     tables: &Tables,

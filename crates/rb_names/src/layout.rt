@@ -1,4 +1,7 @@
-//! Layouts.
+//! Layouts. The tree of a layout has splits, each with arms for literals and perhaps an `else`, and
+//! leaves. A provenance is the pattern of the values for which a leaf is. Numbers replace the names
+//! of types and constructors, by `tables`; all else stays. The first name that stands for nothing
+//! is the fault `Unknown`; an `Err` may also be want of memory.
 
 ghost use Rattle.std.specs.Prelude.{[], map};
 ghost use Rattle.rb_names.specs.Answers.{AnswersNumbering};
@@ -77,7 +80,7 @@ fn number_arms(alloc: Global, tables: &Tables, trees: &[ArmTree]) -> Result<Seq<
     Ok(arms)
 }
 
-// An arm of a split: its literal stays.
+// An arm of a split, with numbers in the tree under it: its literal stays.
 #[cycle(splitting)]
 fn number_arm(alloc: Global, tables: &Tables, tree: &ArmTree) -> Result<Arm, NameFault>
     ensures { AnswersNumbering result (numbered_arm tables.now tree.now) }

@@ -1,4 +1,6 @@
-//! The types whose layouts are left to the compiler.
+//! The types whose layouts are left to the compiler. The item `layout T = boxed`, or one with
+//! `packed`, leaves that of type T so; boxed and packed are the kinds of such layouts. An `Err` is
+//! want of memory.
 
 ghost use Rattle.std.specs.Prelude.{◌≡◌, ◌++◌, [], ◌∷◌, List, None, IfOk, OnOk, map};
 ghost use Rattle.rb_syntax.specs.declared.tree.ItemTree.{ItemTree as Tree};

@@ -1,4 +1,5 @@
-//! From names to numbers: the program that a file's tree stands for.
+//! From names to numbers: the program that a file's tree stands for. A binder is what binds a
+//! variable: in a pattern, in a parameter list, or a `let`.
 //!
 //! Types, constructors and functions have a table each. A variable is that of the innermost binder
 //! of its name round it. No call recurses deeper than the tree is nested.
@@ -66,7 +67,8 @@ pub fn resolve(alloc: Global, tree: &FileTree) -> Result<Program, NameFault>
     number_file(alloc, tree)
 }
 
-// The program of a tree, or the first fault of its names.
+// The program of a tree, or the first fault of its names: one that is defined twice, then one that
+// stands for nothing, then that no function is called `main`; or want of memory.
 fn number_file(alloc: Global, tree: &FileTree) -> Result<Program, NameFault>
     ensures { AnswersNumbering result (numbered tree.now) }
 {

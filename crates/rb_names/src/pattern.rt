@@ -1,4 +1,6 @@
-//! Patterns: what they bind, and their numbers.
+//! Patterns: what they bind, and their numbers. A pattern binds the variables in it; those of one
+//! name have one binder, which has a number in its function. A frame has the binders of one
+//! pattern, a scope those round a place. `tables` say which constructor a name stands for.
 
 ghost use Rattle.std.specs.Prelude.{◌≡◌, ◌+◌, drop, length, map, OnOk, IfErr};
 ghost use Rattle.std.specs.List.{flat_map};
@@ -17,7 +19,8 @@ use rb_core::seq::Seq;
 use rb_syntax::tree::PatTree;
 use std::alloc::Global;
 
-/// Goes into the scope of a pattern's variables, which are numbered from `next` on.
+/// Goes into the scope of a pattern's variables, which are numbered from `next` on; `next` is then
+/// the number of the binder that follows them.
 ///
 /// # Errors
 ///
@@ -40,7 +43,8 @@ pub fn enter_pattern<'a>(
     Ok(())
 }
 
-// Binds the names of a pattern's variables, each once.
+// Binds the names of a pattern's variables, each once, with the next numbers of the frame. An `Err`
+// is want of memory.
 #[cycle(binding)]
 fn bind_names<'a>(frame: &mut Frame<'a>, tree: &'a PatTree) -> Result<(), NameFault>
     ensures ok { OnOk result (frame.new ≡ with_binders frame.old (names_in tree.now)) }
@@ -59,7 +63,8 @@ fn bind_names<'a>(frame: &mut Frame<'a>, tree: &'a PatTree) -> Result<(), NameFa
     }
 }
 
-// Binds the names of the variables in several patterns, from left to right, each once.
+// Binds the names of the variables in several patterns, from left to right, each once, with the
+// next numbers of the frame. An `Err` is want of memory.
 #[cycle(binding)]
 fn bind_all_names<'a>(frame: &mut Frame<'a>, trees: &'a [PatTree]) -> Result<(), NameFault>
     ensures ok { OnOk result (frame.new ≡ with_binders frame.old (flat_map names_in trees.now)) }
@@ -101,7 +106,8 @@ pub fn number_pattern(
     }
 }
 
-// The patterns of trees, from left to right.
+// The patterns of trees, from left to right, with numbers for the names in them. The first name
+// that stands for nothing is `Unknown`; an `Err` may also be want of memory.
 #[cycle(numbering)]
 fn number_patterns(
     alloc: Global,

@@ -1,4 +1,5 @@
-//! The variables round a place.
+//! The variables that are bound round a place. A binder is what binds one; it has a number in its
+//! function. A frame has the binders of one pattern, one list of parameters or one `let`.
 
 ghost use Rattle.std.specs.Prelude.{◌≡◌, [], ◌∷◌, drop, reverse, OnOk};
 ghost use Rattle.rb_names.specs.Tables.{meaning};
@@ -56,7 +57,7 @@ impl<'a> Scope<'a> {
         Ok(())
     }
 
-    /// Goes into the scope of one binder.
+    /// Goes into the scope of one binder, of this name and with the number `var`.
     ///
     /// # Errors
     ///
@@ -70,7 +71,7 @@ impl<'a> Scope<'a> {
         Ok(())
     }
 
-    /// Leaves the scope of the innermost binders.
+    /// Leaves the scope that was entered last; nothing changes where there is none.
     pub fn leave(&mut self)
         ensures { self.new ≡ drop 1 self.old }
     {

@@ -1,4 +1,4 @@
-//! Tables of names.
+//! Tables of names. A table says what names stand for; a name is the bytes of its text.
 
 ghost use Rattle.std.specs.Prelude.{◌≡◌, [], ◌∷◌, is_some, length, not, reverse, IfOk, OnOk};
 ghost use Rattle.rb_names.specs.Tables.{meaning, defined};
@@ -35,7 +35,7 @@ impl<'a, T: Copy> Table<'a, T> {
         }
     }
 
-    /// A table of one name.
+    /// A table of one name, which stands for `stands_for`.
     ///
     /// # Errors
     ///
@@ -73,7 +73,8 @@ impl<'a, T: Copy> Table<'a, T> {
         self.by_name.get(name).copied()
     }
 
-    /// Defines a name, unless it is defined already, and answers whether it was new.
+    /// Defines a name as `stands_for`, unless it is defined already, and answers whether it was
+    /// new.
     ///
     /// # Errors
     ///

@@ -1,4 +1,7 @@
-//! The tables of a file, and the names that are defined twice.
+//! The tables of a file, and the names that are defined twice. Items are gone through one after the
+//! other, and each defines names in the table of its kind. `known` has the tables so far, `types`
+//! the names of all types of the file, and a name that its table has already is the fault `Twice`.
+//! An `Err` may also be want of memory.
 
 ghost use Rattle.std.specs.Prelude.{◌≡◌, [], ◌∷◌, ◌++◌, List, Ok, Err, OnOk, IfOk, IfErr, map, length, false, is_some, ◌||◌};
 ghost use Rattle.std.specs.List.{list_any};
@@ -59,7 +62,8 @@ pub fn define_all<'a>(alloc: Global, items: &'a [ItemTree]) -> Result<Tables<'a>
     Ok(known.tables)
 }
 
-// The names of all types of a file: a layout is of one of them, and may stand before it.
+// The names of all types of a file, each with 0: a layout is of one of them, and may stand before
+// it.
 fn type_names<'a>(alloc: Global, items: &'a [ItemTree]) -> Result<Table<'a, u32>, NameFault>
     ensures names { IfOk result (λ t. HasNames t (spec.type_names items.now)) }
     ensures memory { IfErr result (λ e. e ≡ Memory) }
@@ -85,7 +89,7 @@ fn add_type_name<'a>(types: &mut Table<'a, u32>, item: &'a ItemTree) -> Result<(
     }
 }
 
-// Puts what an item defines into the tables: the constructors of a type, a function, or a layout.
+// Puts what an item defines into the tables: a type and its constructors, a function, or a layout.
 fn define_item<'a>(
     alloc: Global,
     types: &Table<'a, u32>,
@@ -119,7 +123,7 @@ fn define_item<'a>(
     }
 }
 
-// Defines a type and then its constructors.
+// Defines a type, whose number is how many types were defined before it, and then its constructors.
 fn define_type<'a>(
     alloc: Global,
     tree: &'a TypeTree,
@@ -203,7 +207,8 @@ fn define_layout<'a>(
     Ok(())
 }
 
-// Defines a name, which has to be new in its table: else it is refused as defined twice.
+// Defines a name as `stands_for`. It has to be new in its table: else it is refused as defined
+// twice.
 fn define<'a, T: Copy>(
     alloc: Global,
     table: &mut Table<'a, T>,

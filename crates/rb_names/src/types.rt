@@ -1,4 +1,6 @@
-//! Types and their declarations.
+//! Types and their declarations. A tree, or some `trees`, is what was read of the file, with names
+//! as text; `tables` has the number of each type by its name. The first name that no type has, from
+//! left to right, is the fault `Unknown`; an `Err` may also be want of memory.
 
 ghost use Rattle.std.specs.Prelude.{map};
 ghost use Rattle.rb_names.specs.Answers.{AnswersNumbering};

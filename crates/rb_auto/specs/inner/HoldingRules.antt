@@ -1,4 +1,8 @@
--- A10: no derived layout stands on a cycle of types that hold each other in their root words.
+-- A10: no derived layout stands on a cycle of types that hold each other in their root words. A leaf is for the
+-- values of its provenance, a pattern; its root words are those of the value itself, without blocks. A position is
+-- open where a wildcard or a variable stands in the provenance. A type holds another where a word of an open position
+-- of that type stands in the root words of one of its leaves. `decls` are the layouts of a program, `rooms` how wide
+-- its derived words are.
 use Rattle.std.specs.Prelude.{◌≡◌, ℕ, List, Some}
 use Rattle.rb_core.specs.declared.types.Ty.TheVariants.{Named}
 use Rattle.rb_core.specs.declared.program.Program.{Program}

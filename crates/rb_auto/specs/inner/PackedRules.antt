@@ -1,4 +1,7 @@
--- Packed layouts obey the rules of agreement on blocks, parts and fields.
+-- Packed layouts obey the rules of agreement on blocks, parts and fields. A packed layout has one word, of `width`
+-- bits, with a tag of `tag` bits, the constructor's number, and behind it the words of the fields. `decls` are the
+-- layouts of the program, `rooms` how wide its derived words are. An item of a leaf is a word with its parts or an
+-- inlined field; a block is words to which a pointer leads.
 use Rattle.std.specs.Prelude.{◌≡◌, ℕ, ◌+◌, ◌≤◌, List, Some, slice_get}
 use Rattle.rb_core.specs.declared.types.Con.{Con}
 use Rattle.rb_core.specs.declared.types.Ty.{Ty}

@@ -1,4 +1,7 @@
--- Derived layouts obey the rules of agreement, each rule by itself, in any program with other layouts beside them.
+-- Derived layouts obey the rules of agreement, each rule by itself, in any program with other layouts beside them. A
+-- form says how the one word of a derived layout is used: boxed, or packed with so many bits for the tag, the
+-- constructor's number, and for the word. `decls` are the layouts of the program, `rooms` how wide its derived words
+-- are. A leaf is for the values of a pattern, its provenance; n is its number.
 use Rattle.std.specs.Prelude.{ℕ, List, Some}
 use Rattle.rb_core.specs.declared.program.Program.{Program}
 use Rattle.rb_core.specs.declared.layout_decl.LayoutDecl.{LayoutDecl}

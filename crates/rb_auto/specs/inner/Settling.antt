@@ -1,5 +1,6 @@
 -- Rooms that are known so far. A type's room is settled where it is known; a type whose room is not has an empty
--- entry.
+-- entry. A room says how wide the word of a type is where its layout is derived. `kinds` says for each type, by its
+-- number, which layout is derived for it, boxed or packed, if any.
 use Rattle.std.specs.Prelude.{◌≡◌, ℕ, List, length, Option, Some, None, slice_get}
 use Rattle.rb_core.specs.declared.types.Auto.{Auto}
 use Rattle.rb_core.specs.declared.types.Auto.TheVariants.{Packed}

@@ -1,4 +1,8 @@
--- A derived layout in a program that has other layouts beside the written ones, and its flat form there.
+-- A derived layout in a program that has other layouts beside the written ones, and its flat form there. The flat
+-- form of a layout has for each leaf its root words and its blocks, with inlined fields put in; the rules are about
+-- it. A form says how the one word of a derived layout is used: boxed, or packed with so many bits for the tag, the
+-- constructor's number, and for the word. `rooms` says for each type how wide its word is where its layout is
+-- derived.
 use Rattle.std.specs.Prelude.{◌≡◌, ℕ, ◌^◌, ◌<◌, ◌≤◌, length, List, Some, slice_get}
 use Rattle.rb_core.specs.declared.program.Program.{Program}
 use Rattle.rb_core.specs.declared.layout_decl.LayoutDecl.{LayoutDecl}

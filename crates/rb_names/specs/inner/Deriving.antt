@@ -1,4 +1,6 @@
--- Layouts that are derived one after the other.
+-- Layouts that are derived one after the other. A derived layout is one that the file leaves to the compiler; `kinds`
+-- says for each type, by its number, which it is, boxed or packed, if any. The answer for a type is its layout or a
+-- refusal: why it gets none.
 use Rattle.std.specs.Prelude.{◌≡◌, ℕ, List, [], ◌∷◌, ◌++◌, Option, Some, None}
 use Rattle.rb_core.specs.declared.types.Auto.{Auto}
 use Rattle.rb_core.specs.declared.program.Program.{Program}

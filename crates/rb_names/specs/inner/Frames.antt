@@ -1,11 +1,14 @@
--- Frames: what one pattern, one list of parameters or one `let` binds, each name once, in the order of the numbers.
+-- Frames: what one pattern, one list of parameters or one `let` binds, each name once, in the order of the numbers. A
+-- binder is what binds a variable there; it has a number in its function. A frame has its binders, each a name with
+-- its number, and in `next` the number of the next new one.
 use Rattle.std.specs.Prelude.{ℕ, suc, List, [], ◌∷◌, ◌++◌, reverse, Option, Some, None}
 use Rattle.std.specs.List.{flat_map}
 use Rattle.rb_names.specs.declared.frame.Frame.{Frame}
 use Rattle.rb_names.specs.Tables.{Name, Table, meaning}
 use Rattle.rb_names.specs.Scopes.{Scope}
 
--- the scope within the binders of frames, the innermost of which stands first
+-- the scope within the binders of frames, the innermost of which stands first; in a frame the last binder is the
+-- innermost
 abbrev pub scope_of : List (Table ℕ) → Scope
 scope_of = flat_map reverse
 
