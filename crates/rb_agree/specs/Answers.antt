@@ -1,4 +1,6 @@
 -- What checking places in their order answers. A place is a type, a leaf or an item at which a rule is checked.
+-- Evidence is how a rule fails there; a refusal names the rule, the type, the leaf if the place has one, and the
+-- evidence.
 use Rattle.std.specs.Prelude.{List, Option, Some, None}
 use Rattle.rb_core.specs.declared.program.Program.{Program}
 use Rattle.rb_layout.specs.declared.layout.Layout.{Layout}

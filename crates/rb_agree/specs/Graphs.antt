@@ -1,5 +1,7 @@
 -- The graphs of types, and when a graph shows a relation of numbers. A graph lists for each number, that of a type,
--- those to which it leads.
+-- those to which it leads. A leaf is for the values of its provenance, a pattern. Its root words are those outside of
+-- blocks. A layout flattens the types of the constructors that stand below the root of a provenance, and holds those
+-- of whose fields a word stands in a root word. A row is what the graph lists for one number.
 use Rattle.std.specs.Prelude.{◌↔◌, ℕ, List, [], ◌∷◌, map, Option, Some, None}
 use Rattle.std.specs.List.{flat_map}
 use Rattle.rb_core.specs.declared.types.ConRef.{ConRef}

@@ -1,4 +1,5 @@
--- Which layouts have a pointer part in a leaf.
+-- Which layouts have a pointer part in a leaf. A part is some bits of a word of the leaf; the words are root words or
+-- those of its blocks. A mark is a truth value, on where true, that a list has for each type, by its number.
 use Rattle.std.specs.Prelude.{◌≡◌, ℕ, ◌⊎◌, List, length, Bool, true, false, Some, MatchBool, slice_get}
 use Rattle.rb_core.specs.declared.types.ConRef.{ConRef}
 use Rattle.rb_layout.specs.declared.layout.Layout.{Layout}

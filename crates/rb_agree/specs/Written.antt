@@ -1,5 +1,7 @@
 -- The items of a leaf, as values of a program, and how they are shown, that is, turned into the items of which the
--- rules speak.
+-- rules speak. An item is a word with its parts, or a field whose words stand inline; a part is `l` bits of its word
+-- from bit `o` on. A path is the field numbers from the root of the leaf's provenance. The items inside a word are
+-- those behind its pointers.
 use Rattle.std.specs.Prelude.{List, map}
 use Rattle.rb_core.specs.declared.layout_decl.LayItem.TheFolds.{fold-PartKind, fold-PartDecl}
 use Rattle.rb_core.specs.declared.layout_decl.PartKind.{PartKind}

@@ -1,4 +1,8 @@
-//! Whether the layouts of a program agree with its types.
+//! Whether the layouts of a program agree with its types. They do where they obey ten rules: A1,
+//! that on shapes, comes first, and the others look at the flat forms of the layouts, `layouts`,
+//! one for each type. A place is a type, a leaf or an item at which a rule is checked. A refusal
+//! names the rule, the type, the leaf if the place has one, and how the rule fails. An `Err` of a
+//! private call is want of memory.
 
 ghost use Rattle.std.specs.Prelude.{◌≡◌, ◌++◌, length, IfErr, IfOk};
 ghost use Rattle.rb_core.specs.TypedPrograms.{IsTyped};
@@ -47,7 +51,8 @@ fn related(alloc: Global, program: &Program, layouts: &[Layout]) -> Result<Relat
     })
 }
 
-// The refusal by the first place that fails a rule between that on shapes and that on tests.
+// The refusal by the first place that fails a rule between that on shapes and that on tests; None
+// where they hold at all places.
 fn early_fault(
     alloc: Global,
     program: &Program,
@@ -67,7 +72,8 @@ fn early_fault(
     rules_fault(alloc, program, layouts, related, &rules)
 }
 
-// The refusal by the first place that fails a rule from that on tests on.
+// The refusal by the first place that fails a rule from that on tests on; None where they hold at
+// all places. All leaves have to be readable, as they are where the rules before these hold.
 fn late_fault(
     alloc: Global,
     program: &Program,
@@ -82,7 +88,8 @@ fn late_fault(
     rules_fault(alloc, program, layouts, related, &rules)
 }
 
-// The refusal by the first place that fails a rule behind that on shapes.
+// The refusal by the first place that fails a rule behind that on shapes; None where they hold at
+// all places.
 fn layouts_fault(
     alloc: Global,
     program: &Program,

@@ -1,4 +1,6 @@
-//! Whether a leaf excludes at a location what another does, told by their parts alone.
+//! Whether a leaf excludes at a location what another does, told by their parts alone. A part is
+//! some bits of a word, `l` from bit `o` on; a location leads to a range of bits of a word, and a
+//! leaf excludes a number there that its bits never are.
 //!
 //! What a leaf excludes rests on the parts of the word that meet the range: constants, pointers, and the
 //! types of fields of which they have words. So leaves that are alike there exclude the same. Take
@@ -24,7 +26,7 @@ use rb_core::types::{DataDecl, Ty};
 use rb_layout::layout::{Kind, Leaf, Part};
 use rb_layout::positions::type_at;
 
-// Whether a part has a bit and lies beside the range.
+// Whether a part has a bit and lies beside the range of `l` bits from bit `o` on.
 fn is_beside(part: &Part, o: u64, l: u64) -> bool
     ensures { OnTrue result (IsBeside o l part.now) }
 {
@@ -55,8 +57,9 @@ fn same_type(one: Option<Ty>, other: Option<Ty>) -> bool
     }
 }
 
-// Whether two parts are of one kind, with the same number, pointers both, or with the same word of fields
-// of one type.
+// Whether what two parts hold, `kind` and `kind_2`, is alike: the same number, bits both, pointers
+// both, or the same word of fields of one type, where `one` and `other` are the provenances of
+// their leaves.
 fn same_kind(types: &[DataDecl], one: &Pat, other: &Pat, kind: &Kind, kind_2: &Kind) -> bool
     ensures { OnTrue result (AreKinds types.now one.now other.now kind.now kind_2.now) }
 {
@@ -88,7 +91,8 @@ fn same_kind(types: &[DataDecl], one: &Pat, other: &Pat, kind: &Kind, kind_2: &K
     }
 }
 
-// Whether two parts are alike in a location's range: both beside it, or of the same bits and of one kind.
+// Whether two parts are alike in a location's range: both beside it, or of the same bits and of one
+// kind. `one` and `other` are the provenances of their leaves.
 fn is_part_alike(
     types: &[DataDecl],
     one: &Pat,
@@ -113,7 +117,8 @@ fn is_part_alike(
     same_kind(types, one, other, &part.kind, &part_2.kind)
 }
 
-// Whether the parts of two words are alike in a range, one by one.
+// Whether the parts of two words are alike in a location's range, one by one; false where one word
+// has more. `one` and `other` are the provenances of their leaves.
 fn are_parts_alike(
     types: &[DataDecl],
     one: &Pat,
@@ -135,7 +140,8 @@ fn are_parts_alike(
     true
 }
 
-/// Whether two leaves are known to be alike at a location in a root word.
+/// Whether two leaves are known to be alike at a location in a root word; false where it leads on
+/// through a pointer, or a leaf has no such word.
 pub(crate) fn are_alike(types: &[DataDecl], one: &Leaf, other: &Leaf, loc: &Loc) -> bool
     ensures { OnTrue result (AreAlike types.now one.now other.now loc.now) }
 {

@@ -1,9 +1,14 @@
 //! Whether the blocks of a leaf and the pointers to them are as they must be.
 //!
-//! Where a leaf fails in several ways, the first is named, word by word as the leaf is written. Of a word
-//! its pointers come first, from left to right, each with its alignment, its bits and the number of words
-//! behind it; then, in a block, its own width; and then what stands behind its pointers, from left to
-//! right. Take the word
+//! A block is words in memory to which a pointer leads; a leaf has its root words and its blocks. A
+//! part is some bits of a word. A pointer's alignment is the bytes in whose multiples it counts,
+//! and saves bits of it. A call that says how something fails answers None where it finds nothing
+//! that does.
+//!
+//! Where a leaf fails in several ways, the first is named, word by word as the leaf is written. Of
+//! a word its pointers come first, from left to right, each with its alignment, its bits and the
+//! number of words behind it; then, in a block, its own width; and then what stands behind its
+//! pointers, from left to right. Take the word
 //!
 //! ```text
 //! word 64 { [0:32] -> 8 { word 12 { } }, [32:20] -> 1 { word 8 { } } }
@@ -85,7 +90,7 @@ fn parts_fault(parts: &[Part]) -> Option<Why>
     None
 }
 
-// How a pointer in some word fails.
+// How a pointer in one of these words fails.
 fn pointers_fault(words: &[FlatWord]) -> Option<Why>
     ensures { MatchOption result (ArePointersFine words.now) (FailsPointers words.now) }
 {
@@ -158,7 +163,8 @@ fn pointed_block(part: &Part) -> Option<u32>
     }
 }
 
-// How a part that is a pointer fails, or the block behind it by its number of words.
+// How a part that is a pointer fails, or the block behind it, one of `blocks`, by its number of
+// words.
 fn near_part_fault(blocks: &[Block], part: &Part) -> Option<Why>
     ensures { IfSome result (FailsNearPart blocks.now part.now) }
 {
@@ -169,7 +175,7 @@ fn near_part_fault(blocks: &[Block], part: &Part) -> Option<Why>
     length_fault(block.words.as_slice())
 }
 
-// How a pointer among parts fails, or the block behind one by its number of words.
+// How a pointer among parts fails, or the block behind one, among `blocks`, by its number of words.
 fn near_fault(blocks: &[Block], parts: &[Part]) -> Option<Why>
     ensures { IfSome result (FailsNear blocks.now parts.now) }
 {
@@ -181,8 +187,8 @@ fn near_fault(blocks: &[Block], parts: &[Part]) -> Option<Why>
     None
 }
 
-// How a word of the block with this number fails, or a word behind its pointers. A block of a flat form
-// has one pointer to it, so none is looked at twice.
+// How a word of the block with this number fails, or a word behind its pointers; None also where
+// there is no such block. A block of a flat form has one pointer to it, so none is looked at twice.
 #[cycle(reaching)]
 fn inside_fault(blocks: &[Block], number: usize) -> Option<Why>
     ensures { IfSome result (FailsInBlocks blocks.now) }

@@ -1,4 +1,6 @@
-//! Cycles in a graph of numbers.
+//! Cycles in a graph of numbers. A graph lists for each number its edges: the numbers to which it
+//! leads. A way lists numbers, each of which leads to the next. A mark is on for each number that
+//! was found.
 //!
 //! From a number on, all numbers to which it leads are found, each once, with a way to it, until one of
 //! them leads back. Take the edges 0 to 1, 1 to 2 and 2 to 0. From 1 on, 2 is found by the way 1, 2, and
@@ -20,8 +22,8 @@ pub struct Way {
     pub way: Seq<u32>,
 }
 
-// Marks and adds number `next`, whose way is `way` and then itself, if it was not found before;
-// nothing changes where it has no mark.
+// Marks number `next` and adds it, whose way is `way` and then itself, to those that were found, if
+// it was not found before; nothing changes where it has no mark. An `Err` is want of memory.
 fn add(
     alloc: Global,
     way: &Seq<u32>,
@@ -50,7 +52,7 @@ fn add(
 }
 
 // Adds the numbers to which these edges lead, each at the end of `way`, until one is `start`, from
-// which the search began. Tells whether one is.
+// which the search began. Tells whether one is. An `Err` is want of memory.
 fn follow(
     alloc: Global,
     edges: &[u32],
@@ -72,8 +74,8 @@ fn follow(
     Ok(false)
 }
 
-/// A cycle from a number on, none of whose numbers stands twice, if there is one; `graph` lists for each
-/// number those to which it leads.
+/// A cycle from number `start` on, none of whose numbers stands twice; None where there is none, or
+/// no such number. `graph` lists for each number those to which it leads.
 ///
 /// # Errors
 ///

@@ -1,4 +1,5 @@
-//! Why layouts are not agreed.
+//! Why layouts are not agreed. A rule is asked at places: a type, a leaf of its layout, or an item
+//! of the leaf.
 
 ghost use Rattle.std.specs.Prelude.{◌≡◌};
 ghost use Rattle.rb_agree.specs.declared.fault.AgreeFault.TheVariants as Faults;

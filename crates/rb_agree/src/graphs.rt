@@ -1,5 +1,8 @@
-//! The graphs of types: which types each flattens, and which it holds in its root words; and whether a
-//! cycle goes through a type.
+//! The graphs of types: which types each flattens, and which it holds in its root words; and
+//! whether a cycle goes through a type. A leaf is for the values of its provenance, a pattern. A
+//! layout flattens the types of the constructors that stand below the root of a provenance; it
+//! holds those of whose fields a word stands in a root word of a leaf, that is, outside of blocks.
+//! A graph lists for each type a row, the types to which it leads. An `Err` is want of memory.
 
 ghost use Rattle.std.specs.Prelude.{◌≡◌, ◌++◌, IfOk, MatchOption, OnOk};
 ghost use Rattle.std.specs.List.{flat_map};
@@ -17,7 +20,7 @@ use rb_layout::layout::{FlatWord, Kind, Layout, Leaf, Part};
 use rb_layout::positions::type_at;
 use std::alloc::{AllocError, Global};
 
-// Adds the types of all constructors in a pattern, its root's and those below it.
+// Adds the types of all constructors in a pattern, its root's and those below it, to a row.
 #[cycle(listing)]
 fn add_types(pat: &Pat, row: &mut Seq<u32>) -> Result<(), AllocError>
     ensures { OnOk result (row.new ≡ row.old ++ pattern_types pat.now) }
@@ -33,7 +36,7 @@ fn add_types(pat: &Pat, row: &mut Seq<u32>) -> Result<(), AllocError>
     }
 }
 
-// Adds the types of the constructors in each of these patterns, from left to right.
+// Adds the types of the constructors in each of these patterns, from left to right, to a row.
 #[cycle(listing)]
 fn add_all_types(pats: &[Pat], row: &mut Seq<u32>) -> Result<(), AllocError>
     ensures { OnOk result (row.new ≡ row.old ++ flat_map pattern_types pats.now) }
@@ -44,7 +47,8 @@ fn add_all_types(pats: &[Pat], row: &mut Seq<u32>) -> Result<(), AllocError>
     Ok(())
 }
 
-// Adds the types of the constructors below a provenance's root.
+// Adds the types of the constructors below a provenance's root to a row; none where its root is no
+// constructor.
 fn add_below(prov: &Pat, row: &mut Seq<u32>) -> Result<(), AllocError>
     ensures { OnOk result (row.new ≡ row.old ++ below_types prov.now) }
 {
@@ -82,7 +86,8 @@ pub fn flattened(alloc: Global, layouts: &[Layout]) -> Result<Seq<Seq<u32>>, All
     Ok(graph)
 }
 
-// Adds the data type of the field of which a part has a word, if it has one.
+// Adds the data type of the field of which a part has a word, if it has one, to a row; `prov` is
+// the provenance of the leaf.
 fn add_part(
     types: &[DataDecl],
     prov: &Pat,
@@ -103,7 +108,8 @@ fn add_part(
     }
 }
 
-// Adds the types of the fields of which the parts of a word have words.
+// Adds the types of the fields of which the parts of a word have words to a row; `prov` is the
+// provenance of the leaf.
 fn add_parts(
     types: &[DataDecl],
     prov: &Pat,
@@ -118,7 +124,8 @@ fn add_parts(
     Ok(())
 }
 
-// Adds the types of the fields of which the parts of these words have words.
+// Adds the types of the fields of which the parts of these words have words to a row; `prov` is the
+// provenance of the leaf.
 fn add_words(
     types: &[DataDecl],
     prov: &Pat,
@@ -164,8 +171,8 @@ pub fn held(
     Ok(graph)
 }
 
-/// How types flatten each other in a cycle through a type, listed from it on; `graph` is what `flattened`
-/// gives.
+/// How types flatten each other in a cycle through type `ty`, listed from it on; None where they do
+/// not. `graph` is what `flattened` gives.
 ///
 /// # Errors
 ///
@@ -186,8 +193,8 @@ pub fn flattening_fault(
     }
 }
 
-/// How types hold each other in root words in a cycle through a type, listed from it on; `graph` is what
-/// `held` gives.
+/// How types hold each other in root words in a cycle through type `ty`, listed from it on; None
+/// where they do not. `graph` is what `held` gives.
 ///
 /// # Errors
 ///

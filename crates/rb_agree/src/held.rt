@@ -1,4 +1,6 @@
-//! Whether each open position of a leaf is held exactly once, and no other path is held.
+//! Whether each open position of a leaf is held exactly once, and no other path is held. An open
+//! position is a wildcard or a variable in a leaf's provenance, the pattern of its values; its path
+//! is the field numbers that lead there from the root.
 //!
 //! A unit is a bit of an integer or a word of a data type. What the parts of the leaf hold of a position
 //! is a list of runs of units. Take a field of type u8, bits 0 up to 4 of which stand in one part and bits
@@ -6,7 +8,7 @@
 //!
 //! The items are the leaf's words and inlined fields as they are written, and `prov` is its
 //! provenance. A function that says how something fails gives the fault that it finds first, or
-//! None where nothing fails.
+//! None where nothing fails; its `Err` is want of memory.
 
 ghost use Rattle.std.specs.Prelude.{◌≡◌, IfOk, MatchOption};
 ghost use Rattle.std.specs.List.{flat_map};
@@ -52,7 +54,7 @@ fn times(runs: &[Run], unit: u64) -> usize
     count
 }
 
-// How a unit of the position at a path fails to stand in one run.
+// How unit number `unit` of the position at a path fails to stand in exactly one of these runs.
 fn unit_fault(
     alloc: Global,
     path: &Seq<u32>,
@@ -82,7 +84,8 @@ fn units_of(program: &Program, ty: Ty) -> u64
     }
 }
 
-// How some unit of so many of the position at a path fails to stand in one run.
+// How some unit of so many, from the first on, of the position at a path fails to stand in exactly
+// one of these runs.
 fn units_fault(
     alloc: Global,
     path: &Seq<u32>,

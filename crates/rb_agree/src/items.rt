@@ -1,4 +1,7 @@
-//! The items of a leaf as they are written, one after the other: an outer one before those inside it.
+//! The items of a leaf as they are written, one after the other: an outer one before those inside
+//! it. An item is a word with its parts, or a field whose words stand inline; behind a pointer
+//! stand items, too, which are inside its word. A path is the field numbers from the root of the
+//! leaf's provenance. An `Err` is want of memory.
 
 ghost use Rattle.std.specs.Prelude.{◌≡◌, ◌++◌, map, IfOk, OnOk};
 ghost use Rattle.std.specs.List.{flat_map};
@@ -70,7 +73,7 @@ fn parts_of(alloc: Global, parts: &[PartDecl]) -> Result<Seq<Written>, AllocErro
     Ok(written)
 }
 
-// Adds items, and after each those inside it.
+// Adds items to `out`, and after each those inside it.
 #[cycle(writing)]
 fn add_items(alloc: Global, items: &[LayItem], out: &mut Seq<Item>) -> Result<(), AllocError>
     ensures { OnOk result (shown_items out.new ≡ shown_items out.old ++ item_lists items.now) }
@@ -81,7 +84,7 @@ fn add_items(alloc: Global, items: &[LayItem], out: &mut Seq<Item>) -> Result<()
     Ok(())
 }
 
-// Adds an item, and after a word the items behind its pointers.
+// Adds an item to `out`, and after a word the items behind its pointers.
 #[cycle(writing)]
 fn add_item(alloc: Global, item: &LayItem, out: &mut Seq<Item>) -> Result<(), AllocError>
     ensures { OnOk result (shown_items out.new ≡ shown_items out.old ++ item_list item.now) }
@@ -96,7 +99,7 @@ fn add_item(alloc: Global, item: &LayItem, out: &mut Seq<Item>) -> Result<(), Al
     }
 }
 
-// Adds the items behind those of these parts that are pointers, from left to right.
+// Adds the items behind those of these parts that are pointers, from left to right, to `out`.
 #[cycle(writing)]
 fn add_inside(alloc: Global, parts: &[PartDecl], out: &mut Seq<Item>) -> Result<(), AllocError>
     ensures { OnOk result (shown_items out.new ≡ shown_items out.old ++ flat_map inside_of parts.now) }
@@ -107,7 +110,7 @@ fn add_inside(alloc: Global, parts: &[PartDecl], out: &mut Seq<Item>) -> Result<
     Ok(())
 }
 
-// Adds the items behind a part that is a pointer, and nothing for another part.
+// Adds the items behind a part that is a pointer to `out`, and nothing for another part.
 #[cycle(writing)]
 fn add_behind(alloc: Global, part: &PartDecl, out: &mut Seq<Item>) -> Result<(), AllocError>
     ensures { OnOk result (shown_items out.new ≡ shown_items out.old ++ inside_of part.now) }

@@ -1,4 +1,6 @@
-//! The items of each leaf of a layout, from left to right.
+//! The items of each leaf of a layout, from left to right. An item is a word of a leaf with its
+//! parts, or a field whose words stand inline. `decls` are the layouts that a program declares. An
+//! `Err` is want of memory.
 
 ghost use Rattle.std.specs.Prelude.{◌≡◌, ◌++◌, IfOk, OnOk, slice_get};
 ghost use Rattle.std.specs.List.{flat_map};
@@ -15,7 +17,7 @@ use rb_layout::decls::decl_of;
 use rb_layout::numbers::number_of;
 use std::alloc::{AllocError, Global};
 
-// Adds the items of each leaf of a tree.
+// Adds a list of the items of each leaf of a tree, from left to right, to `out`.
 #[cycle(reading)]
 fn add_tree(alloc: Global, tree: &LayTree, out: &mut Seq<Seq<Item>>) -> Result<(), AllocError>
     ensures { OnOk result (shown_leaves out.new ≡ shown_leaves out.old ++ items_under (leaves tree.now)) }
@@ -35,7 +37,7 @@ fn add_tree(alloc: Global, tree: &LayTree, out: &mut Seq<Seq<Item>>) -> Result<(
     }
 }
 
-// Adds the items of each leaf below these arms, arm by arm.
+// Adds a list of the items of each leaf below these arms, arm by arm, to `out`.
 #[cycle(reading)]
 fn add_arms(alloc: Global, arms: &[Arm], out: &mut Seq<Seq<Item>>) -> Result<(), AllocError>
     ensures { OnOk result
@@ -61,7 +63,8 @@ fn leaves_of(alloc: Global, decls: &[LayoutDecl], ty: u32) -> Result<Seq<Seq<Ite
     }
 }
 
-/// For each of so many types the items of each leaf of its layout.
+/// For each of the first `count` types the items of each leaf of its layout; none where it has no
+/// layout.
 ///
 /// # Errors
 ///
@@ -80,7 +83,7 @@ pub(crate) fn all_leaves(
     Ok(written)
 }
 
-/// The items of each leaf of type `ty`; none where there is no such type.
+/// The items of each leaf of type `ty`, by those of all types; none where there is no such type.
 pub(crate) fn leaves_at(written: &[Seq<Seq<Item>>], ty: u32) -> &[Seq<Item>]
     ensures { result.now ≡ leaves_or_none (slice_get written.now ty) }
 {
@@ -90,7 +93,7 @@ pub(crate) fn leaves_at(written: &[Seq<Seq<Item>>], ty: u32) -> &[Seq<Item>]
     }
 }
 
-/// The items of leaf `n`; none where there is no such leaf.
+/// The items of leaf `n`, by those of all leaves of a type; none where there is no such leaf.
 pub(crate) fn items_at(leaves: &[Seq<Item>], n: usize) -> &[Item]
     ensures { shown_items result.now ≡ items_or_none (slice_get leaves.now n) }
 {

@@ -1,9 +1,13 @@
 //! The checker of agreement: whether the layouts of a program agree with its types, and else the first
 //! place at which a rule fails.
 //!
-//! `agree::agree` goes rule after rule, in a rule type after type, and in a type leaf after leaf. Each rule
-//! has a call that looks at one place, a type or a leaf of its layout, and answers that the rule holds there
-//! or with evidence that it fails. Take the type and the layout
+//! A leaf is for the values of its provenance, a pattern. Its root words are those outside of
+//! blocks, and its items its words and inlined fields as they are written. A wildcard or a variable
+//! in the provenance is an open position.
+//!
+//! `agree::agree` goes rule after rule, in a rule type after type, and in a type leaf after leaf.
+//! Each rule has a call that looks at one place, a type or a leaf of its layout, and answers that
+//! the rule holds there or with evidence that it fails. Take the type and the layout
 //!
 //! ```text
 //! type Bit = Off | On;

@@ -1,9 +1,10 @@
 //! Whether a graph of numbers has no cycle at all, told in one walk.
 //!
-//! A walk goes from number to number along the edges, and a number is done when all to which it leads
-//! are. Where no cycle is, each edge leads from a number to one that was done before it. So each edge is
-//! looked at: if all of them lead to lower ranks, the order in which numbers were done, no chain of edges
-//! comes back. Take the edges 0 to 1, 0 to 2 and 1 to 2: 2 is done first, then 1, then 0.
+//! A graph lists for each number its edges, the numbers to which it leads. A walk goes from number
+//! to number along the edges, and a number is done when all to which it leads are. Where no cycle
+//! is, each edge leads from a number to one that was done before it. So each edge is looked at: if
+//! all of them lead to lower ranks, the order in which numbers were done, no chain of edges comes
+//! back. Take the edges 0 to 1, 0 to 2 and 1 to 2: 2 is done first, then 1, then 0.
 
 ghost use Rattle.std.specs.Prelude.{◌≡◌, ℕ, IfOk};
 ghost use Rattle.std.specs.Bool.{OnTrue};
@@ -23,7 +24,8 @@ pub struct Visit {
     pub edge: usize,
 }
 
-// Marks a number and puts it on top of the walk, if the walk was not there yet.
+// Marks a number and puts it on top of the walk, if the walk was not there yet; nothing changes
+// where it has no mark. An `Err` is want of memory.
 fn enter(number: u32, marks: &mut Seq<bool>, walk: &mut Seq<Visit>) -> Result<(), AllocError> {
     let at = number as usize;
     if let Some(false) = marks.get(at) {
@@ -33,8 +35,9 @@ fn enter(number: u32, marks: &mut Seq<bool>, walk: &mut Seq<Visit>) -> Result<()
     Ok(())
 }
 
-// Walks from a number on, and adds each number when all its edges have been followed; nothing is
-// added where the walk was at the first number before.
+// Walks from number `start` on, and adds each number to `done` when all its edges have been
+// followed; nothing is added where the walk was at the first number before. `marks` are on for the
+// numbers where it was. An `Err` is want of memory.
 fn walk_from(
     alloc: Global,
     graph: &[Seq<u32>],
@@ -63,7 +66,7 @@ fn walk_from(
     Err(AllocError)
 }
 
-// The numbers of a graph in the order in which they are done.
+// The numbers of a graph in the order in which they are done. An `Err` is want of memory.
 fn done_in(alloc: Global, graph: &[Seq<u32>]) -> Result<Seq<u32>, AllocError> {
     let mut marks = no_marks(alloc, graph.len())?;
     let mut done = Seq::new(alloc);
@@ -73,7 +76,8 @@ fn done_in(alloc: Global, graph: &[Seq<u32>]) -> Result<Seq<u32>, AllocError> {
     Ok(done)
 }
 
-// The rank of each number of a graph: how many numbers are done before it.
+// The rank of each number of a graph: how many numbers are done before it. An `Err` is want of
+// memory.
 fn ranks_in(alloc: Global, graph: &[Seq<u32>]) -> Result<Seq<usize>, AllocError> {
     let done = done_in(alloc, graph)?;
     let mut ranks = Seq::new(alloc);
@@ -111,7 +115,7 @@ fn row_falls(ranks: &[usize], t: u32, row: &[u32]) -> bool
     true
 }
 
-// Whether each edge leads to a lower rank.
+// Whether each edge of a graph leads to a number of lower rank. An `Err` is want of memory.
 fn falls(graph: &[Seq<u32>], ranks: &[usize]) -> Result<bool, AllocError>
     ensures { IfOk result (λ b. OnTrue b (RanksFall graph.now ranks.now)) }
 {
@@ -124,7 +128,7 @@ fn falls(graph: &[Seq<u32>], ranks: &[usize]) -> Result<bool, AllocError>
     Ok(true)
 }
 
-/// Whether a graph is known to have no cycle.
+/// Whether a graph is known to have no cycle: true only where it has none.
 ///
 /// # Errors
 ///

@@ -1,9 +1,12 @@
-//! Whether the parts of written words lie in them, are disjoint, and fit what they hold.
+//! Whether the parts of written words lie in them, are disjoint, and fit what they hold. An open
+//! position is a wildcard or a variable in a leaf's provenance, the pattern of its values; its path
+//! is the field numbers that lead there from the root.
 //!
 //! An item of a leaf, by number `i`, is a word with its parts or an inlined field. A part is `l`
 //! bits of its word from bit `o` on. The program has the data types `types` and the layout
 //! declarations `decls`, and the leaf's provenance is `prov`. A function that says how something
-//! fails gives the fault that it finds first, or None where nothing fails.
+//! fails gives the fault that it finds first, or None where nothing fails. An `Err` is want of
+//! memory.
 
 ghost use Rattle.std.specs.Prelude.{◌≡◌, ◌↔◌, ◌<◌, ◌≤◌, length, IfOk, IsTrue, MatchOption};
 ghost use Rattle.rb_layout.specs.Flattening.{IsOpenIn};
@@ -25,7 +28,8 @@ use rb_layout::evidence::Why;
 use rb_layout::positions::type_at;
 use std::alloc::{AllocError, Global};
 
-// Whether so many bits hold a field of this type, whole.
+// Whether a part of `l` bits holds a field of this type, whole; so it does where there is no type,
+// as no open position is there.
 fn fits_whole(decls: &[LayoutDecl], ty: Option<Ty>, l: u64) -> bool
     ensures { IsTrue result ↔ FitsWhole decls.now ty l }
 {
@@ -39,7 +43,8 @@ fn fits_whole(decls: &[LayoutDecl], ty: Option<Ty>, l: u64) -> bool
     }
 }
 
-// Whether so many bits hold `k` bits from bit `a` of an integer of this type.
+// Whether a part of `l` bits holds `k` bits from bit `a` of an integer of this type; so it does
+// where there is no type, as no open position is there.
 fn fits_slice(ty: Option<Ty>, l: u64, a: u64, k: u64) -> bool
     ensures { IsTrue result ↔ FitsSlice ty l a k }
 {
@@ -53,7 +58,8 @@ fn fits_slice(ty: Option<Ty>, l: u64, a: u64, k: u64) -> bool
     }
 }
 
-// Whether so many bits hold word `j` of a field of this type.
+// Whether a part of `l` bits holds word `j` of a field of this type; so it does where there is no
+// type, as no open position is there.
 fn fits_word(decls: &[LayoutDecl], ty: Option<Ty>, l: u64, j: u64) -> bool
     ensures { IsTrue result ↔ FitsWord decls.now ty l j }
 {
@@ -90,7 +96,7 @@ fn is_placed(types: &[DataDecl], prov: &Pat, content: &Content) -> bool
     }
 }
 
-// The path of a field that a part doesn't fit.
+// The fault that a part of item `i` does not fit the field at this path.
 fn misfit(alloc: Global, i: u32, part: &Written, path: &Seq<u32>) -> Result<Why, AllocError>
     ensures { IfOk result (λ why. why ≡ Whys.Misfit i part.now.o part.now.l path.now) }
 {
@@ -192,7 +198,8 @@ fn each_fault(
     Ok(None)
 }
 
-// The bits that two parts have in common, the one that begins lower first.
+// The fault that two parts of item `i` overlap, with the bits of both, those of the part that
+// begins lower first; None where they have no bit in common.
 fn pair_fault(i: u32, p: &Written, q: &Written) -> Option<Why>
     requires later { 1 ≤ q.now.l }
     requires earlier { 1 ≤ p.now.l }

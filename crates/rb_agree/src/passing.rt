@@ -1,4 +1,8 @@
-//! Which leaves pass the tests on the ways to them, in one walk over the tree of splits.
+//! Which leaves pass the tests on the ways to them, in one walk over the tree of splits. A location
+//! is where a split looks: a range of bits of a word. A leaf excludes a literal there where its
+//! bits are never that number. A way leads from the root of the tree to a leaf. Marks have one
+//! truth value for each leaf, by its number; a mark is on where the leaf may fail. An `Err` is want
+//! of memory.
 //!
 //! The leaves below a part of a tree stand side by side. So behind each arm of a split the walk knows the
 //! first and the last of the leaves below it, asks each of them the arm's literal, and marks those that
@@ -38,8 +42,8 @@ pub struct Span {
     pub end: usize,
 }
 
-/// What a split asks of leaves at its location: of those below an arm to have its literal, and of those below
-/// its `else` to exclude those of all arms.
+/// What a split asks of leaves at its location: of those below an arm to have its literal, and of
+/// those below its `else`, where `literal` is None, to exclude those of all arms.
 #[derive(Clone, Copy)]
 pub struct Asking<'a> {
     pub loc: &'a Loc,
@@ -47,7 +51,7 @@ pub struct Asking<'a> {
     pub literal: Option<u64>,
 }
 
-// All leaves from the first of both on to the last of both.
+// The span of all leaves from the first of both spans on to the last of both.
 fn joined(one: Span, other: Span) -> Span
     ensures one { CoversSpan result one }
     ensures other { CoversSpan result other }
@@ -76,7 +80,8 @@ fn mark(marks: &mut Seq<bool>, n: usize)
     }
 }
 
-// Whether a leaf is alike at a location to one with this number.
+// Whether a leaf is known to be alike at a location to the one with number `prior`, so that it
+// excludes the same there; false without a number or such a leaf.
 fn is_like(
     types: &[DataDecl],
     leaves: &[Leaf],
@@ -95,8 +100,8 @@ fn is_like(
     }
 }
 
-// Whether a leaf meets what a split asks: to have a literal, or to exclude those of all arms, as one that
-// is alike may be known to do.
+// Whether a leaf meets what a split asks: to have a literal, or to exclude those of all arms, as
+// the leaf with number `prior`, if one is given, is known to do.
 fn meets(
     alloc: Global,
     types: &[DataDecl],
@@ -123,8 +128,9 @@ fn meets(
     }
 }
 
-// Marks leaf `n` where it fails what a split asks, and answers the number of a leaf that is known to
-// exclude the literals of all arms, if there is one.
+// Marks leaf `n` where it fails what a split asks, and answers the number of a leaf that is known
+// to exclude the literals of all arms, if there is one, as `prior` is before. Nothing changes where
+// there is no such leaf.
 fn ask(
     alloc: Global,
     types: &[DataDecl],

@@ -1,5 +1,7 @@
 //! Whether the types that a leaf flattens have no pointer in their leaves. A leaf flattens the
-//! types of the constructors that stand below the root of its provenance.
+//! types of the constructors that stand below the root of its provenance. A part is some bits of a
+//! word; a leaf has root words and blocks of words. `marks` say for each type, by its number,
+//! whether one of its leaves has a pointer part: on where it has.
 
 ghost use Rattle.std.specs.Prelude.{◌≡◌, IfOk, MatchBool, MatchOption};
 ghost use Rattle.std.specs.List.{flat_map};

@@ -1,4 +1,5 @@
-//! Whether the root words of a leaf have the shape's widths.
+//! Whether the root words of a leaf have the shape's widths. The root words of a leaf are those
+//! outside of blocks; a shape lists the widths of the words of a layout, in bits.
 
 ghost use Rattle.std.specs.Prelude.{IfOk, MatchOption};
 ghost use Rattle.rb_layout.specs.A2.{FailsRoot, HasRoot};
@@ -8,7 +9,8 @@ use rb_layout::layout::Leaf;
 use rb_layout::numbers::number_of;
 use std::alloc::AllocError;
 
-/// How a leaf's root words fail to have the widths of a shape.
+/// How a leaf's root words fail to have the widths of a shape, by their number or by the first that
+/// has another width; None where they have them.
 ///
 /// # Errors
 ///

@@ -1,5 +1,10 @@
 //! The rules behind that on shapes, each at its places in their order: by type, and in a type those
-//! without a leaf before those with one.
+//! without a leaf before those with one. A place is a type, a leaf or an item at which a rule is
+//! checked. An open position is a wildcard or a variable in a leaf's provenance, the pattern of its
+//! values. Marks have one truth value for each leaf, by its number; where one is off, the rule is
+//! known to hold at the leaf. `layouts` are flat forms, one for each type. A call that says how
+//! something fails, or that gives a refusal, answers None where nothing fails; its `Err` is want of
+//! memory.
 
 ghost use Rattle.std.specs.Prelude.{◌≡◌, ℕ, IfOk, List, MatchOption, Some, slice_get};
 ghost use Rattle.std.specs.Bool.{OnTrue};
@@ -65,7 +70,7 @@ pub enum Rule {
 pub struct Related {
     /// For each type the items of each leaf of its layout.
     pub written: Seq<Seq<Seq<Item>>>,
-    /// For each type whether a leaf has a pointer.
+    /// For each type whether a leaf of its layout has a pointer.
     pub marks: Seq<bool>,
     /// For each type those that it flattens.
     pub flattened: Seq<Seq<u32>>,
@@ -77,7 +82,8 @@ pub struct Related {
     pub holds_in_order: bool,
 }
 
-/// A type's layout that is looked at under one rule, and how all layouts of its program are related.
+/// A type's layout that is looked at under one rule, and how all layouts of its program are
+/// related: `layouts` are the flat forms of all, `layout` is that of type number `ty`.
 #[derive(Clone, Copy)]
 pub struct Ruled<'a> {
     pub program: &'a Program,
@@ -131,7 +137,8 @@ fn items_fault(
     Ok(None)
 }
 
-// How leaf `n` of a type's layout fails a rule.
+// How leaf `n` of a type's layout, with these items, fails a rule; None also for a rule that has no
+// places at leaves.
 fn leaf_fault(
     alloc: Global,
     ruled: &Ruled,
@@ -196,7 +203,7 @@ fn doubts(alloc: Global, ruled: &Ruled) -> Result<Seq<bool>, AllocError>
     }
 }
 
-// Whether leaf `n` has a mark that is off.
+// Whether leaf `n` has a mark that is off; false where it has no mark.
 fn is_off(marks: &[bool], n: usize) -> bool
     ensures { OnTrue result (IsOff marks.now n) }
 {
@@ -206,7 +213,8 @@ fn is_off(marks: &[bool], n: usize) -> bool
     }
 }
 
-// How leaf `n` of a type's layout fails a rule, if its mark is on.
+// How leaf `n` of a type's layout, with these items, fails a rule; None where its mark is off. A
+// leaf without a mark is looked at.
 fn doubted_fault(
     alloc: Global,
     ruled: &Ruled,
@@ -294,7 +302,8 @@ fn type_fault(alloc: Global, ruled: &Ruled) -> Result<Option<Why>, AllocError>
     }
 }
 
-// The refusal by the first leaf of a type's layout that fails a rule, where these are the leaves' items.
+// The refusal by the first leaf of a type's layout that fails a rule, where `written` has the items
+// of each leaf.
 fn leaves_fault(
     alloc: Global,
     ruled: &Ruled,
@@ -324,7 +333,7 @@ fn leaves_fault(
     Ok(None)
 }
 
-// The refusal by the first place of a type that fails a rule.
+// The refusal by the first place of a type that fails a rule: the type itself, and then its leaves.
 fn layout_fault(alloc: Global, ruled: &Ruled) -> Result<Option<Refused>, AllocError>
     requires ruled { IsRuled ruled.now }
     requires ready { RuleIsReady ruled.now.layouts.now ruled.now.rule }
@@ -347,7 +356,7 @@ fn layout_fault(alloc: Global, ruled: &Ruled) -> Result<Option<Refused>, AllocEr
     )
 }
 
-// The refusal by the first place that fails a rule.
+// The refusal by the first place that fails this rule, type by type.
 fn rule_fault(
     alloc: Global,
     program: &Program,

@@ -1,4 +1,7 @@
-//! What the parts of a leaf hold of each open position, in one walk over the parts.
+//! What the parts of a leaf hold of each open position, in one walk over the parts. An open
+//! position is a wildcard or a variable in a leaf's provenance, the pattern of its values; its path
+//! is the field numbers that lead there from the root. `places` are such positions, from left to
+//! right, and `rows` has for each, by its place in that list, its runs. An `Err` is want of memory.
 //!
 //! A unit is a bit of an integer or a word of a data type. What a part holds of a position is a run of
 //! units, and stands in the list of that position. Take the positions `.0`, a u8, and `.1`, a u16, and a
@@ -24,7 +27,7 @@ use rb_layout::layout::{Block, FlatWord, Kind, Leaf, Part};
 use rb_layout::opens::OpenPosition;
 use std::alloc::{AllocError, Global};
 
-/// So many units of a position, from this one on.
+/// `count` units of a position, from unit `first` on.
 #[derive(Clone, Copy)]
 pub struct Run {
     pub first: u64,
@@ -52,7 +55,8 @@ fn has_words(ty: Ty) -> bool
     }
 }
 
-// Adds a run of words or of bits to those of the position at a path, where one is there that has such.
+// Adds a run, of words or of bits as `words` says, to those of the position at a path; nothing is
+// added where none is there, or one with other units.
 fn add_at(
     alloc: Global,
     places: &[OpenPosition],
@@ -74,7 +78,8 @@ fn add_at(
     Ok(())
 }
 
-// Adds what a part holds to the runs of the position at its path, if it is open.
+// Adds what a part holds to the runs of the position at its path; nothing is added where it has no
+// path, or none that is open.
 fn add_part(
     alloc: Global,
     places: &[OpenPosition],

@@ -1,4 +1,6 @@
-//! The open position at a path, found by halves.
+//! The open position at a path, found by halves. An open position is a wildcard or a variable in a
+//! leaf's provenance, the pattern of its values; its path is the field numbers that lead there from
+//! the root.
 //!
 //! Open positions stand from left to right: of two, the one whose number is less at the first field where
 //! their paths differ comes first. So a path is compared with that of the position in the middle, and then

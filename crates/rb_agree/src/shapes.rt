@@ -1,4 +1,5 @@
-//! Whether each type has a layout, and shapes have words of 1 to 64 bits.
+//! Whether each type has a layout, and shapes have words of 1 to 64 bits. A shape lists the widths
+//! of the words of a layout, in bits.
 
 ghost use Rattle.std.specs.Prelude.{◌↔◌, IfOk, IsTrue, List, MatchOption, Some};
 ghost use Rattle.std.specs.Option.{option_copied};
@@ -21,7 +22,8 @@ fn is_shape_width(width: u64) -> bool
     1 <= width && width <= 64
 }
 
-// The first word of a layout's shape that has no bits or over 64, with its number and width.
+// The first word of a layout's shape that has no bits or over 64, with its number and width; None
+// where there is none. An `Err` is want of memory.
 fn shape_fault(decl: &LayoutDecl) -> Result<Option<Why>, AllocError>
     ensures { IfOk result (λ found. MatchOption found (HasShape (Some decl.now)) (FailsShape (Some decl.now))) }
 {
@@ -33,7 +35,8 @@ fn shape_fault(decl: &LayoutDecl) -> Result<Option<Why>, AllocError>
     Ok(None)
 }
 
-/// How a type's layout fails to be there, or to have a shape of words of 1 to 64 bits.
+/// How a type's layout fails to be there, or to have a shape of words of 1 to 64 bits; None where
+/// it does not fail.
 ///
 /// # Errors
 ///
@@ -48,7 +51,8 @@ pub fn decl_fault(decl: Option<&LayoutDecl>) -> Result<Option<Why>, AllocError>
     }
 }
 
-/// The refusal by the first type without a layout or with a shape that has a word not of 1 to 64 bits.
+/// The refusal by the first type without a layout or with a shape that has a word not of 1 to 64
+/// bits; None where there is no such type.
 ///
 /// # Errors
 ///

@@ -1,4 +1,8 @@
-//! Which leaves may share a value with a later one, without a look at all pairs of leaves.
+//! Which leaves may share a value with a later one, without a look at all pairs of leaves. A path
+//! leads to a place in a provenance, the pattern of a leaf's values, by field numbers from the
+//! root. `heads` has for each leaf the number of the constructor at one path, None where none
+//! stands there. A group is for one constructor: its members are the numbers of the leaves that may
+//! have it. An `Err` is want of memory.
 //!
 //! Two provenances with different constructors in one place have no common value. So a place is chosen
 //! that tells most leaves apart, and a leaf is compared with those alone that have its constructor there
@@ -30,7 +34,7 @@ use std::alloc::{AllocError, Global};
 // How many constructors a type has at most.
 const CONSTRUCTORS: usize = 256;
 
-// The pattern in a field of a pattern's root constructor, if there is one.
+// The pattern in a field of a pattern's root constructor; None without such a constructor or field.
 fn sub_at(pat: &Pat, field: u32) -> Option<&Pat>
     ensures { option_copied result ≡ sub_at (out-Pat pat.now) field }
 {
@@ -42,7 +46,7 @@ fn sub_at(pat: &Pat, field: u32) -> Option<&Pat>
     }
 }
 
-// The number of the constructor at a pattern's root, if one stands there.
+// The number of the constructor at a pattern's root; None where none stands there.
 fn root_con(pat: &Pat) -> Option<u32>
     ensures { result ≡ root_con (out-Pat pat.now) }
 {
@@ -54,7 +58,8 @@ fn root_con(pat: &Pat) -> Option<u32>
     }
 }
 
-// The number of the constructor at a path of fields, if one stands there.
+// The number of the constructor at a path of field numbers in a pattern; None where none stands
+// there.
 fn con_at(pat: &Pat, path: &[u32]) -> Option<u32>
     ensures { result ≡ con_at pat.now path.now }
 {
@@ -70,7 +75,8 @@ fn con_at(pat: &Pat, path: &[u32]) -> Option<u32>
     root_con(here)
 }
 
-// The constructor of each leaf at a path.
+// The number of the constructor at a path of each leaf's provenance; None for one where none stands
+// there.
 fn heads_in(alloc: Global, path: &[u32], leaves: &[Leaf]) -> Result<Seq<Option<u32>>, AllocError>
     ensures { IfOk result (λ heads. heads ≡ heads_in path.now leaves.now) }
 {
@@ -81,7 +87,7 @@ fn heads_in(alloc: Global, path: &[u32], leaves: &[Leaf]) -> Result<Seq<Option<u
     Ok(heads)
 }
 
-// Adds the path of each constructor in a pattern that stands at `path`.
+// Adds the path of each constructor in a pattern that stands at `path` to `paths`.
 #[cycle(finding)]
 fn add_paths(
     alloc: Global,
@@ -100,7 +106,8 @@ fn add_paths(
     }
 }
 
-// Adds the paths of the constructors in these patterns, which stand in the fields at `path`.
+// Adds the paths of the constructors in these patterns, which stand in the fields at `path`, to
+// `paths`.
 #[cycle(finding)]
 fn add_paths_below(
     alloc: Global,
@@ -137,7 +144,8 @@ fn distinct(alloc: Global, heads: &[Option<u32>]) -> Result<usize, AllocError> {
 }
 
 // The path of a constructor in the first leaf's provenance at which the leaves have most different
-// constructors, so that it tells most of them apart.
+// constructors, so that it tells most of them apart; the root's where there is no leaf or no
+// constructor.
 fn telling(alloc: Global, leaves: &[Leaf]) -> Result<Seq<u32>, AllocError> {
     let mut best = Seq::new(alloc);
     let Some(first) = leaves.get(0) else {
@@ -180,7 +188,8 @@ fn members(alloc: Global, heads: &[Option<u32>], con: u32) -> Result<Seq<u32>, A
     Ok(members)
 }
 
-// For each constructor the numbers of the leaves that may have it.
+// For each number of a constructor, from 0 to 255, the numbers of the leaves that may have that
+// constructor.
 fn groups(alloc: Global, heads: &[Option<u32>]) -> Result<Seq<Seq<u32>>, AllocError>
     ensures { IfOk result (AreGroups heads.now) }
 {
@@ -191,7 +200,7 @@ fn groups(alloc: Global, heads: &[Option<u32>]) -> Result<Seq<Seq<u32>>, AllocEr
     Ok(groups)
 }
 
-// Whether leaf `n` shares a value with a later one of these.
+// Whether leaf `n` shares a value of type `ty` with a later one of these members.
 fn shares_with(
     alloc: Global,
     types: &[DataDecl],
@@ -235,7 +244,8 @@ fn group_of<'a>(heads: &[Option<u32>], groups: &'a [Seq<u32>], n: usize) -> Opti
     }
 }
 
-// Whether leaf `n` shares a value with a later one.
+// Whether leaf `n` shares a value of type `ty` with a later one, by `groups`, the groups of the
+// constructors at one path.
 fn shares(
     alloc: Global,
     types: &[DataDecl],
@@ -262,7 +272,8 @@ fn shares(
     }
 }
 
-/// A mark for each leaf of a layout, off only where the leaf shares no value with a later one.
+/// A mark for each leaf of the layout of type `ty`, off only where the leaf shares no value with a
+/// later one.
 ///
 /// # Errors
 ///

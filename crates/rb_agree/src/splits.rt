@@ -1,4 +1,7 @@
-//! Whether the literals of splits are distinct and fit, and each split has an arm.
+//! Whether the literals of splits are distinct and fit, and each split has an arm. A split looks at
+//! the bits at a location; its arms are for the numbers that may stand there, their literals, and
+//! its `else` is for all others. A call that says how something fails answers None where nothing
+//! does; its `Err` is want of memory.
 
 ghost use Rattle.std.specs.Prelude.{◌≡◌, ◌<◌, ◌^◌, IfOk, MatchOption};
 ghost use Rattle.rb_layout.specs.Splits.{splits_of};
@@ -13,7 +16,7 @@ use rb_layout::evidence::Why;
 use rb_layout::layout::{FlatArm, FlatTree, Layout};
 use std::alloc::{AllocError, Global};
 
-/// How many bits a location's last range has.
+/// How many bits the last range of a location has, that behind its last step, or its only one.
 pub(crate) fn length_of(loc: &Loc) -> u64
     ensures { result ≡ length_of loc.now }
 {
@@ -35,7 +38,7 @@ fn literals_of(alloc: Global, arms: &[FlatArm]) -> Result<Seq<u64>, AllocError>
     Ok(literals)
 }
 
-// The first literal that has more than so many bits, if there is one.
+// The first literal that has more than so many bits; None where there is none.
 fn wide_literal(literals: &[u64], bits: u64) -> Option<u64>
     ensures { MatchOption result (AreFit bits literals.now) (λ c. IsAmong literals.now c × (c < 2 ^ bits → ⊥)) }
 {
@@ -47,7 +50,7 @@ fn wide_literal(literals: &[u64], bits: u64) -> Option<u64>
     None
 }
 
-// The first literal that stands among those before it, too, if there is one.
+// The first literal that stands among those before it, too; None where there is none.
 fn twice(literals: &[u64]) -> Option<u64>
     ensures { MatchOption result (AreDistinct literals.now) (IsTwice literals.now) }
 {

@@ -1,4 +1,8 @@
-//! Whether a leaf passes the tests on the way to it.
+//! Whether a leaf passes the tests on the way to it. A test is what a split asks of a leaf below
+//! it: to have an arm's literal at the split's location or, below its `else`, to exclude the
+//! literals of all arms there. A number is known at a location where the bits there are constant,
+//! and excluded where they are never that number. A call that says how something fails answers None
+//! where nothing does; an `Err` of a private call is want of memory.
 
 ghost use Rattle.std.specs.Prelude.{◌≡◌, ◌↔◌, IfOk, IsTrue, MatchOption};
 ghost use Rattle.rb_layout.specs.A7.{FailsTest, FailsTests, MeetsTest, MeetsAll};
@@ -61,7 +65,8 @@ pub(crate) fn literal_fault(
     }
 }
 
-// Whether a literal of so many bits is known to be another number than that which is known, if there is one.
+// Whether a literal is another number than `number`, and has at most so many bits; false where no
+// number is given, as none is known.
 fn is_another(number: Option<u64>, bits: u64, literal: u64) -> bool
     ensures { IsTrue result ↔ IsAnother number bits literal }
 {

@@ -1,4 +1,5 @@
-//! Whether each value of a type has exactly one leaf.
+//! Whether each value of a type has exactly one leaf. A leaf is for the values of its provenance, a
+//! pattern. A call that says how something fails answers None where nothing does.
 
 ghost use Rattle.std.specs.Prelude.{◌≡◌, ◌<◌, length, IfOk, MatchBool, MatchOption};
 ghost use Rattle.rb_core.specs.declared.types.Ty.TheVariants as Tys;
@@ -15,7 +16,7 @@ use rb_layout::numbers::number_of;
 use rb_matrix::{MatrixFault, are_apart, common, exhaust};
 use std::alloc::{AllocError, Global};
 
-// The provenances of leaves, in order.
+// The provenances of leaves, in order. An `Err` is want of memory.
 fn provenances(alloc: Global, leaves: &[Leaf]) -> Result<Seq<Pat>, AllocError>
     ensures { IfOk result (λ pats. pats ≡ provenances_in leaves.now) }
 {
@@ -76,7 +77,8 @@ pub(crate) fn have_common(
     }
 }
 
-/// How leaf `n` of a layout fails to have no value in common with a later one.
+/// How leaf `n` of the layout of type `ty` fails to have no value in common with a later one: the
+/// first that has one.
 ///
 /// # Errors
 ///

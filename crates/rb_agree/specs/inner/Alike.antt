@@ -1,4 +1,8 @@
--- Leaves whose parts are alike in a range of a root word, so that they exclude the same numbers there.
+-- Leaves whose parts are alike in a range of a root word, so that they exclude the same numbers there. A part is some
+-- bits of a word of a leaf, p.l in number from bit p.o on, with what they hold; a range is l bits from bit o on. A
+-- location leads to a range, in a root word where it has no steps through pointers. A leaf excludes a number at a
+-- location where the bits there are never that number. An open position is a wildcard or a variable in a leaf's
+-- provenance; its path is the field numbers that lead there from the root.
 use Rattle.std.specs.Prelude.{◌≡◌, ◌⊎◌, ℕ, ◌+◌, ◌≤◌, List, [], length, Some, slice_get}
 use Rattle.rb_core.specs.declared.types.DataDecl.{DataDecl}
 use Rattle.rb_core.specs.declared.pattern.Pat.{Pat}

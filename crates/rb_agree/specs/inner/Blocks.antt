@@ -1,4 +1,7 @@
--- Blocks and pointers, part by part, word by word and block by block.
+-- Blocks and pointers, part by part, word by word and block by block. A block is words in memory to which a pointer
+-- of a leaf leads; a part is l bits of a word, with what they hold. A pointer's alignment is the bytes in whose
+-- multiples it counts; an alignment of 2^k saves k bits. A pointer is wide enough where its bits and those that it
+-- saves are at least 24. `why` is evidence: how something fails.
 use Rattle.std.specs.Prelude.{◌≡◌, ℕ, ◌+◌, ◌^◌, ◌<◌, ◌⊎◌, List, length, Option, Some, None}
 use Rattle.rb_layout.specs.declared.layout.Block.{Block}
 use Rattle.rb_layout.specs.declared.layout.FlatWord.{FlatWord}

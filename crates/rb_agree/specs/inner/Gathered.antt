@@ -1,5 +1,7 @@
 -- What the parts of a leaf hold of each of its open positions, a row of runs for each. A unit of a position is a bit
--- of an integer or a word of a data type; a run has units that follow each other.
+-- of an integer or a word of a data type; a run has units that follow each other. An open position is a wildcard or a
+-- variable in a leaf's provenance; its path is the field numbers that lead there from the root. `places` are such
+-- positions, and `rows` has for each, by its place in that list, its row.
 use Rattle.std.specs.Prelude.{◌≡◌, ℕ, ◌&&◌, List, [], ◌∷◌, ◌++◌, length, Bool, true, false, Some, slice_get, slice_index_or, if◌then◌else◌}
 use Rattle.std.specs.List.{flat_map}
 use Rattle.rb_core.specs.declared.types.Ty.{Ty}

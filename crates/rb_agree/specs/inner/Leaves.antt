@@ -1,4 +1,5 @@
--- The items of leaves.
+-- The items of leaves. An item is a word of a leaf with its parts, or a field whose words stand inline. The rules
+-- have their own type of items, and what the code has is shown in it.
 use Rattle.std.specs.Prelude.{◌≡◌, ℕ, ◌<◌, List, [], map, Option, Some, None, slice_get}
 use Rattle.rb_core.specs.Layouts.{WrittenLeaf}
 use Rattle.rb_core.specs.declared.layout_decl.LayoutDecl.{LayoutDecl}

@@ -1,4 +1,5 @@
--- Graphs whose edges all lead to lower ranks, where each number has a rank: such a graph has no cycle.
+-- Graphs whose edges all lead to lower ranks, where each number has a rank: such a graph has no cycle. A graph lists
+-- for each number a row: those to which an edge leads from it.
 use Rattle.std.specs.Prelude.{◌≡◌, ℕ, ◌<◌, List, Some, slice_get, slice_index_or}
 use Rattle.rb_layout.specs.Graphs.{Leads}
 

@@ -1,4 +1,7 @@
--- The parts of written words, one by one and two by two.
+-- The parts of written words, one by one and two by two. An item of a leaf, here number i, is a word with its parts;
+-- part p is the bits p.l in number from bit p.o on, and what they hold. `decls` are the layouts of the program.
+-- `opens` are the open positions of the leaf's provenance, wildcards and variables, each with its path of field
+-- numbers. `why` is evidence: how something fails.
 use Rattle.std.specs.Prelude.{◌≡◌, ℕ, ◌^◌, ◌<◌, ◌≤◌, ◌⊎◌, List, [], ◌∷◌, Some, slice_get}
 use Rattle.rb_bits.specs.Words.{AreDisjoint}
 use Rattle.rb_core.specs.declared.layout_decl.LayoutDecl.{LayoutDecl}

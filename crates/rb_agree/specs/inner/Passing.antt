@@ -1,5 +1,7 @@
--- What a walk over a tree of splits finds: which leaves may fail a test on a way to them. A leaf whose
--- mark is off passes.
+-- What a walk over a tree of splits finds: which leaves may fail a test on a way to them. A leaf whose mark is off
+-- passes. A split asks leaves below it a test: to have an arm's literal at its location or, below its `else`, to
+-- exclude those of all arms. A way leads from the root of the tree to a leaf. A span is the leaves between two
+-- numbers. Marks have one truth value for each leaf, by its number; a mark is on where it is true.
 use Rattle.std.specs.Prelude.{◌≡◌, ℕ, ◌<◌, ◌≤◌, List, Bool, false, Option, Some, None, slice_get}
 use Rattle.rb_core.specs.declared.types.DataDecl.{DataDecl}
 use Rattle.rb_core.specs.declared.layout_decl.Loc.{Loc}

@@ -1,5 +1,7 @@
 -- The rules behind that on shapes, each with its places. A place, or spot, is a type, a leaf or an item at which a
--- rule is checked.
+-- rule is checked. `decls` are the layouts that the program declares, `layouts` their flat forms, one for each type.
+-- A mark is off where it is false. `why` is evidence: how a rule fails at a place; a refusal names the rule, the
+-- type, the leaf if the place has one, and the evidence.
 use Rattle.std.specs.Prelude.{◌≡◌, ℕ, List, [], ◌∷◌, ◌++◌, length, Bool, Option, Some, None, slice_get}
 use Rattle.std.specs.Bool.{OnTrue}
 use Rattle.std.specs.List.{flat_map}

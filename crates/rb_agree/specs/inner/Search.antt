@@ -1,4 +1,6 @@
--- Paths beside each other, and the open position at a path.
+-- Paths beside each other, and the open position at a path. An open position is a wildcard or a variable in the
+-- pattern of a leaf; its path is the field numbers that lead there from the root. A position stands to the left of
+-- another where its number is less at the first field in which their paths differ.
 use Rattle.std.specs.Prelude.{◌≡◌, ◌≢◌, ℕ, ◌<◌, List, [], ◌∷◌, Some, slice_get, nat_lt, if◌then◌else◌}
 use Rattle.rb_layout.specs.Positions.{IsLeftOf}
 use Rattle.rb_layout.specs.declared.opens.OpenPosition.{OpenPosition}

@@ -1,4 +1,8 @@
--- Leaves that may share a value: those whose provenances have no different constructors at a path of fields.
+-- Leaves that may share a value: those whose provenances have no different constructors at a path of fields. A
+-- provenance is the pattern of the values for which a leaf is, and a path leads to a place in it, by field numbers
+-- from the root. A list of heads has for each leaf the number of the constructor at one path, None where none stands
+-- there. A group is for one constructor: its members are the numbers of the leaves that may have it. A mark is off
+-- where it is false.
 use Rattle.std.specs.Prelude.{◌≡◌, ℕ, ◌<◌, List, [], ◌∷◌, map, Bool, Option, Some, None, slice_get}
 use Rattle.rb_core.specs.declared.types.DataDecl.{DataDecl}
 use Rattle.rb_core.specs.declared.pattern.Pat.{Pat, out-Pat}

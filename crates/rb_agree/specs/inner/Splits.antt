@@ -1,4 +1,6 @@
--- Splits one by one: their literals, and how a split fails.
+-- Splits one by one: their literals, and how a split fails. A split looks at the bits at a location; its arms are for
+-- the numbers that may stand there, their literals, and its `else` is for all others. `why` is evidence: how a split
+-- fails.
 use Rattle.std.specs.Prelude.{◌≡◌, ℕ, ◌^◌, ◌<◌, List, map, Bool, Some, slice_get}
 use Rattle.std.specs.List.{flat_map}
 use Rattle.rb_core.specs.declared.layout_decl.Loc.{Loc}

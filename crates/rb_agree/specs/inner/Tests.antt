@@ -1,5 +1,6 @@
 -- The tests on the ways to a leaf, way by way. A way leads from the root of a tree of splits to a leaf, by an arm or
--- the `else` of each split on it.
+-- the `else` of each split on it. A test is what a split asks of a leaf below it: to have the arm's literal at the
+-- split's location, or, below the `else`, to exclude the literals of all arms. `why` is evidence: how a test fails.
 use Rattle.std.specs.Prelude.{◌≡◌, ℕ, ◌<◌, ◌^◌, List, [], map, Bool, true, false, Option, Some, None}
 use Rattle.std.specs.List.{flat_map}
 use Rattle.rb_core.specs.declared.types.DataDecl.{DataDecl}
@@ -72,7 +73,8 @@ module _ (types : List DataDecl) (layouts : List Layout) (leaf : Leaf) (n : ℕ)
   IsBelow routes Passes = SomeOf LeadsToLeaf routes × EachOf PassesRoute routes
   IsBelow routes (Fails why) = SomeOf (FailsRoute why) routes
 
--- a number is known, and a literal of at most so many bits is another one
+-- a number is given, the first argument, and the literal is another one of at most so many bits; false where none is
+-- given
 abbrev pub IsAnother : Option ℕ → ℕ → ℕ → Type 0
 IsAnother None bits literal = ⊥
 IsAnother (Some number) bits literal = (number ≡ literal → ⊥) × (literal < 2 ^ bits)

@@ -1,4 +1,4 @@
--- The provenances of a layout's leaves.
+-- The provenances of a layout's leaves. A provenance is the pattern of the values for which a leaf is.
 use Rattle.std.specs.Prelude.{List, map}
 use Rattle.rb_core.specs.declared.pattern.Pat.{Pat}
 use Rattle.rb_layout.specs.declared.layout.Leaf.{Leaf}

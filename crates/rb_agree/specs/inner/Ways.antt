@@ -1,5 +1,6 @@
 -- What a search for a cycle has found: which numbers are marked, and the ways to them. A way to a number is the list
--- of numbers from the first of the search on, each of which leads to the next.
+-- of numbers from the first of the search on, each of which leads to the next. A mark is a truth value, on where
+-- true, that a list has for each number of the graph.
 use Rattle.std.specs.Prelude.{ℕ, List, [], ◌∷◌, ◌++◌, Bool, true, false, Option, Some, None, slice_get, slice_set}
 use Rattle.rb_agree.specs.declared.cycles.Way.{Way}
 
