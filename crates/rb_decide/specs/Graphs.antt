@@ -1,5 +1,6 @@
 -- Decision graphs, whose nodes have links, that is, numbers of other nodes, in the place of subtrees: the tree that a
--- graph unfolds to, and what it shares.
+-- graph unfolds to, and what it shares. An arm is the branch of a test for one head, which is a number or a
+-- constructor. Nodes are numbered by their place, from 0 on.
 use Rattle.std.specs.Prelude.{◌≡◌, ◌<◌, ◌⊎◌, ℕ, List, [], ◌∷◌, ◌++◌, map, length, Option, Some, None, unwrap_or, option_map, slice_get}
 use Rattle.std.specs.List.{AllByRecursion}
 use Rattle.rb_decide.specs.declared.decision_tree.Tree.{Tree}

@@ -1,4 +1,10 @@
 //! The matrices under the branches of a test.
+//!
+//! A column of a matrix is a position of the value that is matched, by field numbers from the root,
+//! and a row has a clause's number and a pattern for each column. A head is what a pattern or a
+//! value begins with: a number or a constructor. A test of the first column has a branch for each
+//! of some heads, with the specialised matrix, and may have one for all other values, with the
+//! default matrix. The types of the program are `types`.
 
 ghost use Rattle.std.specs.Prelude.{◌≡◌, ◌∷◌, ◌++◌, [], IfOk};
 ghost use Rattle.rb_decide.specs.ClauseMatrices.{special_rows, default_rows, field_columns, field_types};
@@ -37,7 +43,7 @@ pub fn rows_by_head(
 }
 
 /// The rows of the default matrix: those whose first pattern is a wildcard or a variable, without
-/// that pattern.
+/// that pattern. A row without patterns is left out.
 ///
 /// # Errors
 ///
@@ -77,7 +83,8 @@ fn field_column(alloc: Global, column: &Column, i: usize, ty: Ty) -> Result<Colu
     Ok(Column { position, ty })
 }
 
-/// The columns of a head's fields, and then the other columns.
+/// The columns of a head's fields, of the types `fields`, in what stands in `column`, and then the
+/// other columns, `rest`.
 ///
 /// # Errors
 ///

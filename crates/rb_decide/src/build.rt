@@ -1,6 +1,8 @@
 //! The tree of a matrix, unless it is too large. A column of the matrix is a position of the value
-//! that is matched, and a row has a clause's number and a pattern for each column. `left` is how
-//! many nodes may still be built; where None is given, what is left of it says nothing.
+//! that is matched, and a row has a clause's number and a pattern for each column. A head is what a
+//! pattern or a value begins with: a number or a constructor. The types of the program are `types`.
+//! `left` is how many nodes may still be built; where None is given, what is left of it says
+//! nothing.
 
 ghost use Rattle.std.specs.Prelude.{◌≡◌, ◌<◌, IfOk, is_some};
 ghost use Rattle.rb_matrix.specs.Heads.{first_head};

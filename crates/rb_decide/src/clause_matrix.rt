@@ -1,4 +1,5 @@
-//! Clause matrices: rows of patterns with their clauses, over columns with their positions.
+//! Clause matrices: rows of patterns with their clauses, over columns with their positions. The
+//! scrutinee is the value that is matched; clauses are numbered from 0 on.
 
 ghost use Rattle.std.specs.Prelude.{◌≡◌, ◌∷◌, ◌++◌, [], IfOk, OnOk, map, is_some};
 ghost use Rattle.rb_matrix.specs.Heads.{layer_head};
@@ -53,8 +54,9 @@ fn has_head(pat: &Pat) -> bool
     }
 }
 
-/// The first column in which a row has a number or a constructor; None where all its patterns are
-/// wildcards and variables, so that the row's clause is taken without a test.
+/// The number of the first column in which a row of these patterns has a number or a constructor;
+/// None where all its patterns are wildcards and variables, so that the row's clause is taken
+/// without a test.
 pub fn first_tested(pats: &[Pat]) -> Option<usize>
     ensures { result ≡ first_test pats.now }
 {
@@ -66,7 +68,7 @@ pub fn first_tested(pats: &[Pat]) -> Option<usize>
     None
 }
 
-// Adds copies of columns at the end.
+// Adds copies of the columns `more` at the end.
 fn push_columns(alloc: Global, columns: &mut Seq<Column>, more: &[Column]) -> Result<(), AllocError>
     ensures { OnOk result (columns.new ≡ columns.old ++ more.now) }
 {
@@ -76,7 +78,7 @@ fn push_columns(alloc: Global, columns: &mut Seq<Column>, more: &[Column]) -> Re
     Ok(())
 }
 
-// Adds copies of patterns at the end.
+// Adds copies of the patterns `more` at the end.
 fn push_patterns(alloc: Global, pats: &mut Seq<Pat>, more: &[Pat]) -> Result<(), AllocError>
     ensures { OnOk result (pats.new ≡ pats.old ++ more.now) }
 {
@@ -127,7 +129,7 @@ fn patterns_to_front(alloc: Global, i: usize, pats: &[Pat]) -> Result<Seq<Pat>, 
 }
 
 /// The rows, each with its pattern `i` at the front, so that they stand under the columns that
-/// `columns_to_front` gives.
+/// `columns_to_front` gives; a row without a pattern `i` is as it is.
 ///
 /// # Errors
 ///

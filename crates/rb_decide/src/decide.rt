@@ -1,4 +1,9 @@
 //! The tree of a match.
+//!
+//! The types of the program are `types`, and `rows` are the patterns of the match's clauses, in
+//! order, on a value of type `ty`, the scrutinee. A position is a list of field numbers from its
+//! root. A way goes from the root of the tree to a clause, by the tests on it. A pattern has a head
+//! where it is a number or a constructor.
 
 ghost use Rattle.std.specs.Prelude.{◌≡◌, [], IfOk};
 ghost use Rattle.rb_core.specs.Matching.{IsExhaustive};

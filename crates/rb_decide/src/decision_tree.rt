@@ -1,4 +1,7 @@
 //! Decision trees.
+//!
+//! The scrutinee is the value that is matched. A head is what a value begins with: a number or a
+//! constructor. An arm is the branch of a test for one head.
 
 use rb_core::boxed::Boxed;
 use rb_core::seq::Seq;

@@ -1,9 +1,14 @@
 //! The graph of one pattern: its tests in pre-order, without a tree.
 //!
-//! Beside one pattern and `_` the decision tree is a chain: each number and constructor of the pattern
-//! is tested where it stands, the one arm leads to the next test, and all other values are left to
-//! clause 1. So the nodes are made from the last test to the first, each once, in the time of the
-//! pattern's positions. There is recursion only into the nesting of the pattern.
+//! Beside one pattern and `_` the decision tree is a chain: each number and constructor of the
+//! pattern is tested where it stands, the one arm leads to the next test, and all other values are
+//! left to clause 1. So the nodes are made from the last test to the first, each once, in the time
+//! of the pattern's positions. There is recursion only into the nesting of the pattern.
+//!
+//! A position is a list of field numbers from the root of the value that is matched. A head is what
+//! a pattern or a value begins with: a number or a constructor. What stands at `position` has type
+//! `ty`, the types of the program are `types`, and `nodes` are the nodes so far, to which tests are
+//! added.
 
 ghost use Rattle.std.specs.Prelude.{◌≡◌, ◌∷◌, ◌+◌, ◌<◌, ◌≤◌, ◌++◌, [], IfOk, Some, length};
 ghost use Rattle.rb_core.specs.declared.pattern.Pat.{Wild};
@@ -140,8 +145,8 @@ fn add_fields(
     Ok(first)
 }
 
-/// The graph of the match of a pattern and `_`, which has clause 0 and 1, and a test for each number and
-/// constructor of the pattern. It takes stack to the nesting of the pattern.
+/// The graph of the match of a pattern and `_`, which has clause 0 and 1, and a test for each
+/// number and constructor of the pattern. It takes stack to the nesting of the pattern.
 ///
 /// # Errors
 ///
@@ -157,7 +162,8 @@ pub fn pattern_graph(
     ensures lower { IfOk result (λ g. LinksAreLower g.nodes) }
     ensures few { IfOk result (λ g. length g.nodes ≤ 2 + head_count pat.now) }
 
-    // That tree takes clause 0 of a value of the type that the pattern matches, and clause 1 of all others.
+    // That tree takes clause 0 of a value of the type that the pattern matches, and clause 1 of all
+    // others.
     ensures takes { IfOk result (λ g. OnUnfolded g (TakesChosen types.now ty (pat.now ∷ Wild 0 ∷ []))) }
 
     // It tests no position twice on a way, and only those at which the pattern has a head.

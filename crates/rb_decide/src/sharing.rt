@@ -1,5 +1,5 @@
 //! The nodes of a graph with their numbers by key. A node's key is a list of numbers that tells it
-//! from all other nodes.
+//! from all other nodes. A link of a node is the number of a node to which it leads.
 
 ghost use Rattle.std.specs.Prelude.{◌≡◌, ◌++◌, ◌∷◌, [], IfOk, OnOk, length};
 ghost use Rattle.std.specs.List.{AllByRecursion};

@@ -1,4 +1,7 @@
 //! Whether heads are a complete signature: all that values of a type can begin with.
+//!
+//! A head is a number or a constructor. `heads` are those that are known, and `types` are the types
+//! of the program.
 
 ghost use Rattle.std.specs.Prelude.{◌≡◌, ◌+◌, ◌^◌, [], IfOk, slice_get};
 ghost use Rattle.rb_core.specs.declared.value.Value.TheOpen as Layers;
@@ -11,7 +14,8 @@ use rb_matrix::heads::is_known;
 use rb_matrix::matrix::Head;
 use std::alloc::AllocError;
 
-// The greatest number of an integer type, which has at most 64 bits.
+// The greatest number of an integer type of so many bits. There is no type of more than 64 bits;
+// for one it gives want of memory.
 fn greatest(bits: u8) -> Result<u64, AllocError>
     ensures { IfOk result (λ n. n + 1 ≡ 2 ^ bits) }
 {
@@ -63,8 +67,8 @@ fn has_constructors(heads: &[Head], ty: u32, count: u32) -> bool
     true
 }
 
-/// Whether the heads are all constructors of the type, or all numbers of its width. A type of over 64
-/// bits or of 2^32 constructors, of which there is none, meets want of memory.
+/// Whether the heads are all constructors of the type, or all numbers of its width. A type of over
+/// 64 bits or of 2^32 constructors, of which there is none, meets want of memory.
 ///
 /// # Errors
 ///

@@ -2,7 +2,15 @@
 //!
 //! Each reader takes the tokens that are left, `placed`, and gives what it read with those behind
 //! it. Of the file there are `total` tokens in all, so that a token's number follows from how many
-//! are left. A node's first token has number `at`. How many levels are left, `levels` says.
+//! are left. A node's first token has number `at`.
+//!
+//! A node is an expression or a pattern. It takes one level of those that are left, `levels`, and
+//! the nodes in it have one fewer. A reader is `Stuck` at the first token that may not stand where
+//! it does, or behind the last token where the tokens end too early. At a node for which no level
+//! is left it stops with `Deep`.
+//!
+//! A reserved word tells the form of the expression that it begins: an operation on two numbers, a
+//! conversion to another width, a `let` or a match.
 
 ghost use Rattle.std.specs.Prelude.{◌≡◌, ◌<◌, ◌^◌};
 ghost use Rattle.rb_syntax.specs.declared.token.Symbol.TheVariants as symbols;
@@ -25,7 +33,7 @@ use rb_syntax::token::{Placed, Symbol, Token, Word};
 use rb_syntax::tree::{ClauseTree, ExprTree, Name, NameTree, Op};
 use std::alloc::Global;
 
-// Whether the first token begins an expression.
+// Whether the first token begins an expression; not where there is no token.
 fn begins_expression(placed: &[Placed]) -> bool
     ensures { result ≡ combining.at_front (λ t. reading.begins_expression t) (tokens placed.now) }
 {
@@ -116,7 +124,8 @@ fn read_expression_node<'a>(
     }
 }
 
-// A variable or a call of a function, behind its name.
+// A variable or a call of a function, behind its `name`: a call where a parenthesis stands there,
+// else a variable. Arguments have so many levels left.
 #[cycle(expressions)]
 #[tactic(auto, unfolding(crate::specs::inner::Reading::arguments, crate::specs::inner::Combining::optional, crate::specs::inner::Combining::pair, crate::specs::inner::Combining::into))]
 fn read_called<'a>(
@@ -143,7 +152,8 @@ fn read_called<'a>(
     Ok((ExprTree::Var(at, name), placed))
 }
 
-// Any number of expressions with commas between, and the parenthesis behind them.
+// The arguments of a call behind its opening parenthesis: any number of expressions with commas
+// between, and the parenthesis that closes them.
 #[cycle(expressions)]
 fn read_arguments<'a>(
     alloc: Global,
@@ -166,7 +176,8 @@ fn read_arguments<'a>(
     )
 }
 
-// A constructor with its fields, behind its name.
+// A constructor with its fields, behind its `name`. It has none where no parenthesis stands there.
+// Fields have so many levels left.
 #[cycle(expressions)]
 #[tactic(auto, unfolding(crate::specs::inner::Combining::into))]
 fn read_built<'a>(
@@ -187,7 +198,7 @@ fn read_built<'a>(
     Ok((ExprTree::Build(at, NameTree { at, text }, fields), rest))
 }
 
-// A constructor's fields in parentheses, or nothing.
+// A constructor's fields in parentheses, one or more, or nothing, which is no field.
 #[cycle(expressions)]
 fn read_fields<'a>(
     alloc: Global,
@@ -209,7 +220,8 @@ fn read_fields<'a>(
     )
 }
 
-// An expression behind the reserved word that it begins with, by the form of that word.
+// An expression behind the reserved word that it begins with, by the `form` that this word tells.
+// It is stuck at the word itself where the form is `Other`.
 #[cycle(expressions)]
 #[tactic(auto, unfolding(crate::specs::inner::Reading::from_form))]
 fn read_form<'a>(

@@ -1,4 +1,8 @@
 //! Why tokens are no file that is read.
+//!
+//! Tokens are numbered from 0 on. A node is a part of the tree that may hold others of its kind: an
+//! expression, a pattern, a layout's tree or a pointer part. Its level is how deep it is nested in
+//! such parts of its item, from 1 on. The shape of a layout lists the widths of its words.
 
 ghost use Rattle.std.specs.Prelude.{◌≡◌};
 ghost use Rattle.rb_read.specs.declared.fault.ReadFault.TheVariants.{Memory};
@@ -35,7 +39,7 @@ pub enum ReadFault {
     /// file.
     #[error("syntax at token {0}")]
     Syntax(u32),
-    /// The first count that is over its limit.
+    /// The first count that is over its limit: what is counted, and how many there are.
     #[error("a count of {1} is over its limit")]
     Limit(Quantity, u64),
     /// Want of memory.

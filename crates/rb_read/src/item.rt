@@ -2,7 +2,15 @@
 //!
 //! Each reader takes the tokens that are left, `placed`, and gives what it read with those behind
 //! it. Of the file there are `total` tokens in all, so that a token's number follows from how many
-//! are left. How many levels are left, `levels` says.
+//! are left.
+//!
+//! A node is an expression, a pattern, a layout's tree or a pointer part. It takes one level of
+//! those that are left, `levels`, and the nodes in it have one fewer. A reader is `Stuck` at the
+//! first token that may not stand where it does, or behind the last token where the tokens end too
+//! early. At a node for which no level is left it stops with `Deep`.
+//!
+//! An item is what a file lists: a type, a layout or a function. The shape of a layout lists the
+//! widths of its words. A derived layout is made from its type, as its word says.
 
 ghost use Rattle.std.specs.Prelude.{◌≡◌, ◌<◌, ◌^◌};
 ghost use Rattle.rb_core.specs.Limits.{most_levels};
@@ -32,11 +40,13 @@ use std::alloc::Global;
 /// A layout behind its type's name: its shape and tree, or the word of a derived one.
 #[derive(Drop)]
 pub enum LayoutRest {
+    /// The widths of the shape's words, and the tree.
     LaidOut(Seq<u64>, SplitTree),
+    /// How the layout is derived.
     Derived(Auto),
 }
 
-// The widths of the words of a layout's shape, and the `>` that closes it.
+// The widths of the words of a layout's shape, one or more, and the `>` that closes it.
 fn read_shape(alloc: Global, placed: &[Placed]) -> Result<(Seq<u64>, &[Placed]), Stop>
     ensures { Gives (λ x. (x.0, tokens x.1.now)) result
         (combining.some_closed number symbol.Comma symbol.Greater (tokens placed.now)) }
@@ -44,7 +54,7 @@ fn read_shape(alloc: Global, placed: &[Placed]) -> Result<(Seq<u64>, &[Placed]),
     read_some_closed(alloc, read_number, Symbol::Comma, Symbol::Greater, placed)
 }
 
-// A type's constructors with bars between, and the semicolon behind them.
+// A type's constructors, one or more, with bars between, and the semicolon behind them.
 fn read_constructors(
     alloc: Global,
     total: usize,
@@ -238,7 +248,7 @@ fn read_item(alloc: Global, total: usize, placed: &[Placed]) -> Result<(ItemTree
     }
 }
 
-// Whether the first token begins an item of a file.
+// Whether the first token begins an item of a file; not where there is no token.
 fn begins_item(placed: &[Placed]) -> bool
     ensures { result ≡ combining.at_front (λ t. reading.begins_item t) (tokens placed.now) }
 {

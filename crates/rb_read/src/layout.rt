@@ -2,7 +2,16 @@
 //!
 //! Each reader takes the tokens that are left, `placed`, and gives what it read with those behind
 //! it. Of the file there are `total` tokens in all, so that a token's number follows from how many
-//! are left. How many levels are left, `levels` says.
+//! are left.
+//!
+//! A tree is a split or a leaf. A split goes by the bits at a location: it has arms, each for one
+//! number that these bits may be, and an `else` for the others. A leaf has a provenance, which is
+//! the pattern of the values that are laid out there, and items, which say what its words hold.
+//!
+//! A tree, a pattern and a pointer part are nodes. Each takes one level of those that are left,
+//! `levels`, and the nodes in it have one fewer. A reader is `Stuck` at the first token that may
+//! not stand where it does, or behind the last token where the tokens end too early. At a node for
+//! which no level is left it stops with `Deep`.
 
 ghost use Rattle.std.specs.Prelude.{◌≡◌, ◌-◌, ◌<◌, ◌^◌, length};
 ghost use Rattle.rb_syntax.specs.declared.token.Word.TheVariants as word;
@@ -25,7 +34,7 @@ use rb_syntax::token::{Placed, Symbol, Token, Word};
 use rb_syntax::tree::{ArmTree, SplitTree};
 use std::alloc::Global;
 
-// Whether the first token begins a layout's tree.
+// Whether the first token begins a layout's tree; not where there is no token.
 fn begins_tree(placed: &[Placed]) -> bool
     ensures { result ≡ combining.at_front (λ t. reading.begins_tree t) (tokens placed.now) }
 {
@@ -39,7 +48,7 @@ fn begins_tree(placed: &[Placed]) -> bool
     }
 }
 
-// Whether the first token begins an arm of a split.
+// Whether the first token begins an arm of a split, as a number does.
 fn begins_arm(placed: &[Placed]) -> bool
     ensures { result ≡ combining.at_front starting.is_number (tokens placed.now) }
 {
@@ -129,7 +138,7 @@ fn read_arms<'a>(
     )
 }
 
-// The `else` of a split, `else => ...`, or nothing.
+// The `else` of a split, `else => ...`; None where the first token is not the word `else`.
 #[cycle(splits)]
 #[tactic(auto, unfolding(crate::specs::inner::Combining::optional, crate::specs::inner::Reading::else_tree, crate::specs::inner::Combining::pair, crate::specs::inner::Combining::into))]
 fn read_else<'a>(

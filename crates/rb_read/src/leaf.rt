@@ -2,7 +2,17 @@
 //! are left.
 //!
 //! Each reader takes the tokens that are left, `placed`, and gives what it read with those behind
-//! it. How many levels are left, `levels` says.
+//! it.
+//!
+//! A leaf has the words of a value, and a block has the words to which a pointer leads. Either
+//! lists items: a word of some width with its parts, or all words of a field. A part is a range of
+//! a word's bits with what it holds: a constant, a field, some bits or one word of it, or a pointer
+//! to a block. A path leads to a field: the number of a field, of a field in that one, and so on.
+//!
+//! A pointer part takes one level of those that are left, `levels`, and the pointer parts in its
+//! block have one fewer. A reader is `Stuck` at the first token that may not stand where it does,
+//! or behind the last token where the tokens end too early. At a pointer part for which no level is
+//! left it stops with `Deep`.
 
 ghost use Rattle.std.specs.Prelude.{◌≡◌};
 ghost use Rattle.rb_syntax.specs.declared.token.Symbol.TheVariants as symbol;
@@ -23,14 +33,15 @@ use rb_syntax::token::{Placed, Symbol, Token, Word};
 use rb_syntax::tree::{LayItem, PartDecl, PartKind};
 use std::alloc::Global;
 
-/// What stands behind a path in a part: the bits of a slice, or a word's number.
+/// What stands behind a path in a part: the first bit and the length of a slice, or a word's
+/// number.
 #[derive(Clone, Copy)]
 pub enum PathEnd {
     Sliced(u64, u64),
     Numbered(u64),
 }
 
-// `[0:8]` or `word 1` behind a path, or nothing.
+// `[0:8]` or `word 1` behind a path; None where neither begins there.
 #[tactic(auto, unfolding(crate::specs::inner::Combining::optional, crate::specs::inner::Reading::path_end, crate::specs::inner::Reading::path_end_from, crate::specs::inner::Combining::into))]
 fn read_path_end(placed: &[Placed]) -> Result<(Option<PathEnd>, &[Placed]), Stop>
     ensures { Gives (λ x. (seen_end x.0, tokens x.1.now)) result
@@ -78,8 +89,8 @@ fn read_held(alloc: Global, placed: &[Placed]) -> Result<(PartKind, &[Placed]), 
     Ok((kind, rest))
 }
 
-// A pointer part behind its arrow: `8 { inline .1 }`. Where no level is left, the arrow, which was
-// taken already, begins a node too deep.
+// A pointer part behind its arrow, its alignment and its block: `8 { inline .1 }`. Where no level
+// is left, the arrow, which was taken already, begins a node too deep.
 #[cycle(leaf)]
 #[tactic(auto, unfolding(crate::specs::inner::Reading::pointed, crate::specs::inner::Reading::no_pointer, crate::specs::inner::Reading::pointer, crate::specs::inner::Combining::pair, crate::specs::inner::Combining::into))]
 fn read_pointed<'a>(

@@ -1,4 +1,8 @@
 //! The counts of a file that have a limit.
+//!
+//! An item of a file is a type, a layout or a function. A layout's shape lists the widths of its
+//! words; a derived layout has none. Where a first count over its limit is asked for, None says
+//! that there is no such count.
 
 ghost use Rattle.std.specs.Prelude.{◌≡◌, ◌∷◌, ◌≤◌, [], map, length, find};
 ghost use Rattle.std.specs.List.{flat_map};

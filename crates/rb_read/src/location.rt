@@ -1,7 +1,13 @@
 //! Ranges, paths and locations.
 //!
 //! Each reader takes the tokens that are left, `placed`, and gives what it read with those behind
-//! it.
+//! it. A reader is `Stuck` at the first token that may not stand where it does, or behind the last
+//! token where the tokens end too early.
+//!
+//! A range is the first bit and the length of some bits. A path leads to a field: the number of a
+//! field, of a field in that one, and so on. A location leads to bits of a value's words: a range
+//! in one of the words, and steps, each of which follows the pointer that was reached, to bits of a
+//! word behind it.
 
 ghost use Rattle.std.specs.Prelude.{◌≡◌, ◌∷◌, IfOk};
 ghost use Rattle.rb_syntax.specs.declared.token.Symbol.TheVariants as symbol;

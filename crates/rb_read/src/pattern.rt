@@ -2,7 +2,12 @@
 //!
 //! Each reader takes the tokens that are left, `placed`, and gives what it read with those behind
 //! it. Of the file there are `total` tokens in all, so that a token's number follows from how many
-//! are left. A node's first token has number `at`. How many levels are left, `levels` says.
+//! are left. A node's first token has number `at`.
+//!
+//! A node is a pattern. It takes one level of those that are left, `levels`, and its subpatterns
+//! have one fewer. A reader is `Stuck` at the first token that may not stand where it does, or
+//! behind the last token where the tokens end too early. At a node for which no level is left it
+//! stops with `Deep`.
 
 ghost use Rattle.std.specs.Prelude.{◌≡◌, ◌<◌, ◌^◌};
 ghost use Rattle.rb_syntax.specs.declared.tree.PatTree.TheVariants as pats;
@@ -20,7 +25,7 @@ use rb_syntax::token::{Placed, Symbol, Token};
 use rb_syntax::tree::{Name, NameTree, PatTree};
 use std::alloc::Global;
 
-// Whether the first token begins a pattern.
+// Whether the first token begins a pattern; not where there is no token.
 fn begins_pattern(placed: &[Placed]) -> bool
     ensures { result ≡ combining.at_front (λ t. reading.begins_pattern t) (tokens placed.now) }
 {
@@ -88,7 +93,8 @@ fn read_pattern_node<'a>(
     }
 }
 
-// A constructor's pattern, behind its name: its subpatterns have so many levels left.
+// A constructor's pattern, behind its `name`: its subpatterns have so many levels left. It has none
+// where no parenthesis stands there.
 #[cycle(patterns)]
 #[tactic(auto, unfolding(crate::specs::inner::Combining::into))]
 fn read_constructed<'a>(
@@ -109,7 +115,7 @@ fn read_constructed<'a>(
     Ok((PatTree::Con(at, NameTree { at, text }, parts), rest))
 }
 
-// A constructor's subpatterns in parentheses, or nothing.
+// A constructor's subpatterns in parentheses, one or more, or nothing, which is no subpattern.
 #[cycle(patterns)]
 fn read_subpatterns<'a>(
     alloc: Global,

@@ -3,9 +3,10 @@
 //!
 //! Each reader takes the tokens that are left, `placed`, and gives what it read with those behind
 //! it. Of the file there are `total` tokens in all, so that a token's number follows from how many
-//! are left. A node's first token has number `at`. How many levels are left, `levels` says. A
-//! reader is `Stuck` at the first token that may not stand where it does, or at the end of the
-//! tokens, and at a node for which no level is left it stops with `Deep`.
+//! are left. A node's first token has number `at`. A node is a constructor or `_`. It takes one
+//! level of those that are left, `levels`, and the nodes below it have one fewer. A reader is
+//! `Stuck` at the first token that may not stand where it does, or at the end of the tokens, and at
+//! a node for which no level is left it stops with `Deep`.
 
 ghost use Rattle.std.specs.Prelude.{◌≡◌, ◌<◌, ◌^◌};
 ghost use Rattle.rb_syntax.specs.declared.tree.PatTree.TheVariants as pats;
@@ -23,7 +24,7 @@ use rb_syntax::token::{Placed, Symbol, Token};
 use rb_syntax::tree::{Name, NameTree, PatTree};
 use std::alloc::Global;
 
-// Whether the first token begins a provenance.
+// Whether the first token begins a provenance; not where there is no token.
 fn begins_provenance(placed: &[Placed]) -> bool
     ensures { result ≡ combining.at_front (λ t. reading.is_upper t) (tokens placed.now) }
 {
@@ -162,7 +163,7 @@ fn read_constructed<'a>(
     Ok((PatTree::Con(at, NameTree { at, text }, parts), rest))
 }
 
-// A constructor's parts in parentheses, or nothing.
+// A constructor's parts in parentheses, one or more, or nothing, which is no part.
 #[cycle(below)]
 fn read_parts<'a>(
     alloc: Global,

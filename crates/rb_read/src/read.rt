@@ -1,4 +1,9 @@
 //! Reads a file.
+//!
+//! The tokens of the file are `placed`, each with its place in the text, and are numbered from 0
+//! on. A node is a part of the tree that may hold others of its kind, as an expression; each takes
+//! one level of those that are allowed. Reading stops with how many tokens are left, from the one
+//! at fault on.
 
 ghost use Rattle.std.specs.Prelude.{◌≡◌, ◌⊎◌, ◌-◌, ◌<◌, ◌^◌, List, length, Result, Err};
 ghost use Rattle.rb_core.specs.Limits.{most_levels};
@@ -21,7 +26,7 @@ use rb_syntax::token::Placed;
 use rb_syntax::tree::{FileTree, ItemTree};
 use std::alloc::Global;
 
-// The file of the items that were read; it is stuck where a token is left behind them.
+// The file of the items that were read; it is stuck where tokens, `placed`, are left behind them.
 #[tactic(auto, unfolding(crate::specs::inner::Ending::ended))]
 fn ended(items: Seq<ItemTree>, placed: &[Placed]) -> Result<FileTree, Stop>
     ensures { Gives (λ file. file) result (ending.ended items (tokens placed.now)) }

@@ -8,10 +8,15 @@ use rb_syntax::token::Word;
 
 /// A form of expression that a reserved word begins.
 pub enum Form {
+    /// This operation on two numbers.
     Operation(Op),
+    /// A conversion to another width, which `to` begins.
     Conversion,
+    /// A variable with its value, which `let` begins.
     Binding,
+    /// A match, which `match` begins.
     Matching,
+    /// No expression begins with the word.
     Other,
 }
 

@@ -1,11 +1,16 @@
 //! Why reading stops.
+//!
+//! A node is a part of the tree that may hold others of its kind: an expression, a pattern, a
+//! layout's tree or a pointer part. It takes one level of those that are left, and the nodes in it
+//! have one fewer.
 
 ghost use Rattle.std.specs.Prelude.{◌≡◌};
 ghost use Rattle.rb_read.specs.declared.stop.Stop.TheVariants.{Memory};
 
 use std::alloc::{AllocError, AllocFailed};
 
-/// Why reading stops, with the number of the tokens from the one at fault on.
+/// Why reading stops, with the number of the tokens from the one at fault on; 0 where the tokens
+/// end too early.
 #[derive(Drop)]
 pub enum Stop {
     /// Nothing goes on with this token.

@@ -1,6 +1,7 @@
-//! Reads one token. Each function takes the tokens that are left and gives what it read with those
-//! behind it. Of the file there are `total` tokens in all, so that a token's number follows from how
-//! many are left.
+//! Reads one token. Each reader takes the tokens that are left, `placed`, and gives what it read
+//! with those behind it; it is `Stuck` where the first is no such token, or where there is none. Of
+//! the file there are `total` tokens in all, so that a token's number follows from how many are
+//! left.
 
 ghost use Rattle.std.specs.Prelude.{◌≡◌, ◌-◌, ◌<◌, ◌^◌, length};
 ghost use Rattle.rb_syntax.specs.Tokens.{tokens};

@@ -2,7 +2,8 @@
 //!
 //! Each reader takes the tokens that are left, `placed`, and gives what it read with those behind
 //! it. Of the file there are `total` tokens in all, so that a token's number follows from how many
-//! are left.
+//! are left. A reader is `Stuck` at the first token that may not stand where it does, or behind the
+//! last token where the tokens end too early.
 
 ghost use Rattle.std.specs.Prelude.{◌<◌, ◌^◌};
 ghost use Rattle.rb_syntax.specs.Tokens.{tokens};
@@ -18,7 +19,7 @@ use rb_syntax::token::{Placed, Symbol, Token};
 use rb_syntax::tree::{ConTree, NameTree, ParamTree, TyTree};
 use std::alloc::Global;
 
-/// A type, `u8` or `T`.
+/// A type: integers of 1 to 64 bits, `u8`, or a name, `T`.
 ///
 /// # Errors
 ///
@@ -46,7 +47,7 @@ pub fn read_type(
     }
 }
 
-// The types of a constructor's fields in parentheses, or nothing.
+// The types of a constructor's fields in parentheses, one or more, or nothing, which is no field.
 fn read_fields(
     alloc: Global,
     total: usize,

@@ -1,4 +1,6 @@
--- What the steps of building a tree give, where `old` nodes may be built before a step and `new` ones after it.
+-- What the steps of building a tree give, where `old` nodes may be built before a step and `new` ones after it. The
+-- tree is that of a matrix: its rows are patterns with their clauses, over columns, and a head is the number or the
+-- constructor with which a pattern begins.
 use Rattle.std.specs.Prelude.{◌≡◌, ◌+◌, ◌<◌, ◌≤◌, ℕ, suc, List, map, sum, Option, Some, None}
 use Rattle.rb_matrix.specs.declared.matrix.Head.{Head}
 use Rattle.rb_decide.specs.declared.clause_matrix.Column.{Column}

@@ -1,4 +1,6 @@
--- Chains: the tests of one pattern in pre-order, each with one arm, and clause 1 for all other values.
+-- Chains: the tests of one pattern in pre-order, each with one arm, and clause 1 for all other values. A head is the
+-- number or the constructor with which a pattern begins. A column is a position, a list of field numbers from the
+-- root of the value that is matched, with the type of what stands there. `types` are the types of the program.
 use Rattle.std.specs.Prelude.{◌≡◌, ℕ, ◌+◌, ◌<◌, ◌≤◌, ◌==◌, List, [], ◌∷◌, length, map, if◌then◌else◌, Some, None, slice_get}
 use Rattle.rb_core.specs.declared.types.Ty.{Ty}
 use Rattle.rb_core.specs.declared.types.DataDecl.{DataDecl}
