@@ -1,4 +1,7 @@
--- Files that are accepted, and why others are refused.
+-- Files that are accepted, and why others are refused. What is due to a file is the answer that the program owes to
+-- it: a status with a line, where it is refused. `placed` are the tokens of a file with their bytes, `size` is how
+-- many bytes it has, `t` is the number of a token or of a type, and `ts` are the types of the program. A derived
+-- layout is one that is left to the compiler.
 use Rattle.std.specs.Prelude.{◌≡◌, ◌≢◌, ℕ, List, length, codes, Option, Some, None, Ok, Err}
 use Rattle.rb_auto.specs.declared.fault.AutoFault.{AutoFault}
 use Rattle.rb_auto.specs.declared.fault.AutoFault.TheVariants as auto

@@ -1,4 +1,6 @@
--- What the VALUEs of a command line come to at the types of the parameters of `main`.
+-- What the VALUEs of a command line come to at the types of the parameters of `main`. The words are those VALUEs.
+-- What is due to a command is the answer that the program owes to it. The nodes of a value are its numbers and
+-- constructors, inner ones among them.
 use Rattle.std.specs.Prelude.{◌≡◌, ◌≢◌, ℕ, ◌+◌, List, [], ◌∷◌, length, take, Some, slice_get, Ok, Err}
 use Rattle.rb_core.specs.Typing.{param_types}
 use Rattle.rb_core.specs.declared.program.Program.{Program}
@@ -49,8 +51,8 @@ pub record IsFirstRefused (types : List DataDecl) (tys : List Ty) (words : List 
   pub read : AreRead types (take place tys) (take place words) before
   pub refused : IsRefusedAt types (place + 1) ty word due
 
--- The words spell no arguments of `main`: there are more or fewer than parameters; or there are as many, and the first
--- that spells no value of its type is shown.
+-- The words spell no arguments of `main`: there are more or fewer than parameters; or there are as many, and the
+-- first that spells no value of its type is shown.
 pub data IsMisfit (p : Program) (words : List (List ℕ)) (due : Due) : Type 0 where
   miscounted : length words ≢ length (param_types p.funs p.main)
       → due ≡ refusal Argument (count_line (length (param_types p.funs p.main)) (length words)) → IsMisfit p words due

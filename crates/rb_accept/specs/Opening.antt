@@ -1,4 +1,6 @@
--- Images of a file: IMAGE is read after FILE was accepted.
+-- Images of a file: IMAGE is read after FILE was accepted. What is due to a command is the answer that the program
+-- owes to it: a text, or a status with a line. An image is the root words of a value and the blocks to which their
+-- pointers lead. A reading is what a source of files handed out of one file.
 use Rattle.std.specs.Prelude.{◌≡◌, ◌≢◌, ◌≤◌, ℕ, List, [], ◌∷◌, length}
 use Rattle.rb_core.specs.declared.program.Program.{Program}
 use Rattle.rb_edge.specs.History.{Reading}

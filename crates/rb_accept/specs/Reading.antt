@@ -1,4 +1,6 @@
--- Reading a file with its limit: a step of an answer, with what follows it.
+-- Reading a file with its limit: a step of an answer, with what follows it. What is due to a command is the answer
+-- that the program owes to it. A source has files by their names. A reading is what it handed out of one file: the
+-- name, the bytes, and whether their end was told or a read failed.
 use Rattle.std.specs.Prelude.{◌≡◌, ◌≤◌, ◌+◌, ℕ, List, [], ◌∷◌, ◌++◌, ◌⊎◌, length, drop, Bool, IsTrue, Option, Some, None}
 use Rattle.rb_core.specs.Limits.{most_file_bytes}
 use Rattle.rb_edge.specs.Faults.{Rose}

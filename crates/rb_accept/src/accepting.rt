@@ -1,6 +1,11 @@
-//! Accepting files: their tokens, their tree, their program, the layouts that they leave to the compiler,
-//! the program's types, its matches, and its layouts, one after the other. The first step that refuses a
-//! file gives the answer; only a layout that cannot be derived waits until types and matches were checked.
+//! Accepting files: their tokens, their tree, their program, the layouts that they leave to the
+//! compiler, the program's types, its matches, and its layouts, one after the other. The first step
+//! that refuses a file gives the answer; only a layout that cannot be derived waits until types and
+//! matches were checked.
+//!
+//! An answer is a status with a line, by which a file is refused. Each step gives it as its error,
+//! or want of memory. `bytes` are those of the file, and `placed` are its tokens with their places.
+//! A flat form of a layout says for each leaf what the bits of its words and blocks hold.
 
 ghost use Rattle.std.specs.Prelude.{◌≡◌, ◌≤◌, length, IfOk, IfErr, OnOk, Ok};
 ghost use Rattle.rb_core.specs.Coverage.{IsCovered};

@@ -1,4 +1,7 @@
 //! The arguments of `main`, from the words of a command line.
+//!
+//! An answer is a status with a line, by which a command is refused. `types` are the types of the
+//! program. A function that reads gives it as its error; the only other error is want of memory.
 
 ghost use Rattle.std.specs.Prelude.{◌≡◌, ◌≢◌, length, map, IfOk, IfErr, Ok};
 ghost use Rattle.rb_core.specs.Typing.{param_types};
@@ -23,7 +26,8 @@ use rb_values::forest::Forest;
 use rb_values::read::read_value;
 use std::alloc::{AllocError, Global};
 
-// The answer to an argument of this number, counted from 1, that is no value of this type.
+// The answer to an argument of this number, counted from 1, that is no value of this type, by the
+// fault that was found. Where that is want of memory, there is no answer, but this error.
 fn refuse_argument(
     alloc: Global,
     types: &[DataDecl],
@@ -85,7 +89,7 @@ fn read_each(
     Ok(args)
 }
 
-// The parameters of `main`.
+// The parameters of `main`; none where there is no such function.
 fn parameters(program: &Program) -> &[Param]
     ensures { map (λ p. p.ty) result.now ≡ param_types program.now.funs program.now.main }
 {
@@ -99,8 +103,8 @@ fn parameters(program: &Program) -> &[Param]
 ///
 /// # Errors
 ///
-/// The answer to their number, or else to the first word that spells no value of its parameter's type; or want of
-/// memory.
+/// The answer to their number, or else to the first word that spells no value of its parameter's
+/// type; or want of memory.
 pub fn read_arguments(
     alloc: Global,
     program: &Program,

@@ -1,4 +1,9 @@
 //! Images of a file: IMAGE is read after FILE was accepted.
+//!
+//! An image is the root words of a value and the blocks of memory to which their pointers lead, as
+//! a text. An answer is a status with a line, by which a command is refused. Files are read from
+//! the source `src`, by their names. A function that reads gives it as its error; the only other
+//! error is want of memory.
 
 ghost use Rattle.std.specs.Prelude.{◌≡◌, ◌≢◌, ◌≤◌, [], ◌∷◌, IfOk, IfErr};
 ghost use Rattle.rb_image_text.specs.Places.{AreInPlace};
@@ -45,11 +50,11 @@ fn status_of(fault: ImageFault) -> Status
     }
 }
 
-/// The answer to an image that is refused.
+/// The answer to an image that is refused, by its fault.
 ///
 /// # Errors
 ///
-/// Want of memory.
+/// Want of memory, also where that is the fault.
 pub fn refuse_image(alloc: Global, fault: ImageFault) -> Result<Refused, AllocError>
     ensures other { IfOk result (λ c. fault ≢ Memory) }
     ensures due { IfOk result (λ c. due_of c ≡ image_due fault) }
@@ -98,8 +103,8 @@ fn read_image_file<S: Source>(alloc: Global, src: &mut S, image: &[u8]) -> Resul
 ///
 /// # Errors
 ///
-/// The answer to a file that is not read or not accepted, or to an image that is not read or spelled; or want
-/// of memory.
+/// The answer to a file that is not read or not accepted, or to an image that is not read or
+/// spelled; or want of memory.
 pub fn open_image<S: Source>(
     alloc: Global,
     src: &mut S,

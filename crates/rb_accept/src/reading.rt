@@ -1,4 +1,7 @@
 //! Reads a file with its limit.
+//!
+//! A source has files by their names. An answer is a status with a line, by which a command is
+//! refused. A function that reads gives it as its error; the only other error is want of memory.
 
 ghost use Rattle.std.specs.Prelude.{◌≡◌, ◌≤◌, ◌<◌, ◌+◌, ◌^◌, [], ◌∷◌, length, IfOk, IfErr};
 ghost use Rattle.rb_edge.specs.Source.{HoldsTheSame};
@@ -28,7 +31,8 @@ pub const CODE_LIMIT: usize = 16_777_216;
 /// The most bytes that an image's text may have.
 pub const IMAGE_LIMIT: usize = 16_777_216;
 
-// The answer where a source gave no file, since its opening or a read of it failed.
+// The answer where a source gave no file, since its opening or a read of it failed. Where the fault
+// is want of memory, there is no answer, but this error.
 fn refuse_reading(alloc: Global, fault: ReadFault) -> Result<Refused, AllocError>
     ensures failed { IfOk result (λ c. fault ≡ Failed) }
     ensures due { IfOk result (λ c. due_of c ≡ refusal Unread read_fault_line) }
@@ -58,8 +62,8 @@ fn refuse_long(alloc: Global, limit: usize) -> Result<Refused, AllocError>
     })
 }
 
-/// The bytes of the file of that name, if there are at most so many. One more than the limit is read, and
-/// no further.
+/// The bytes of the file of that name, if there are at most so many. One more than the limit is
+/// read, and no further.
 ///
 /// # Errors
 ///

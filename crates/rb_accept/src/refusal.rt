@@ -1,4 +1,8 @@
 //! Why a file is refused, as it is answered.
+//!
+//! An answer is a status with a line. It is given for any fault but want of memory, which stays an
+//! error. `placed` are the tokens of the file with the bytes at which they begin, `length` is how
+//! many bytes the file has, and `types` are the types of its program.
 
 ghost use Rattle.std.specs.Prelude.{◌≡◌, ◌≢◌, IfOk};
 ghost use Rattle.rb_core.specs.declared.typing.TypeFault.TheVariants as typing;
@@ -249,8 +253,8 @@ pub fn refuse_derived(
     }
 }
 
-// The flat forms of the layouts, where a refusal by this rule may name their leaves: at the first rule a
-// type may have no layout.
+// The flat forms of the layouts, where a refusal by this rule may name their leaves: at the first
+// rule a type may have no layout.
 fn named_layouts(alloc: Global, covered: &Covered, rule: u8) -> Result<Seq<Layout>, AllocError>
     requires { rule ≢ 1 → HaveLayouts covered.now.program }
     ensures { IfOk result (λ layouts. rule ≢ 1 → layouts ≡ flat_layouts covered.now.program) }

@@ -4,7 +4,7 @@
 //! and a row has a clause's number and a pattern for each column. A head is what a pattern or a
 //! value begins with: a number or a constructor. A test of the first column has a branch for each
 //! of some heads, with the specialised matrix, and may have one for all other values, with the
-//! default matrix. The types of the program are `types`.
+//! default matrix. The types of the program are `types`. Every error is want of memory.
 
 ghost use Rattle.std.specs.Prelude.{◌≡◌, ◌∷◌, ◌++◌, [], IfOk};
 ghost use Rattle.rb_decide.specs.ClauseMatrices.{special_rows, default_rows, field_columns, field_types};

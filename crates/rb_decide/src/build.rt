@@ -2,7 +2,7 @@
 //! that is matched, and a row has a clause's number and a pattern for each column. A head is what a
 //! pattern or a value begins with: a number or a constructor. The types of the program are `types`.
 //! `left` is how many nodes may still be built; where None is given, what is left of it says
-//! nothing.
+//! nothing. Every error is want of memory.
 
 ghost use Rattle.std.specs.Prelude.{◌≡◌, ◌<◌, IfOk, is_some};
 ghost use Rattle.rb_matrix.specs.Heads.{first_head};

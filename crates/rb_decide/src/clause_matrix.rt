@@ -1,5 +1,6 @@
 //! Clause matrices: rows of patterns with their clauses, over columns with their positions. The
-//! scrutinee is the value that is matched; clauses are numbered from 0 on.
+//! scrutinee is the value that is matched; clauses are numbered from 0 on. Every error is want of
+//! memory.
 
 ghost use Rattle.std.specs.Prelude.{◌≡◌, ◌∷◌, ◌++◌, [], IfOk, OnOk, map, is_some};
 ghost use Rattle.rb_matrix.specs.Heads.{layer_head};

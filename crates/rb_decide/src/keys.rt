@@ -3,7 +3,7 @@
 //! A node of a decision graph is a clause, or a test of what stands at a position, a list of field
 //! numbers. A test has an arm for each of some heads, which are numbers or constructors, and may
 //! have a branch for all other values. Each function that adds numbers adds them at the end of
-//! `key`.
+//! `key`. Every error is want of memory.
 
 ghost use Rattle.std.specs.Prelude.{◌≡◌, ◌++◌, IfOk, OnOk};
 ghost use Rattle.std.specs.List.{flat_map};

@@ -8,7 +8,7 @@
 //! A position is a list of field numbers from the root of the value that is matched. A head is what
 //! a pattern or a value begins with: a number or a constructor. What stands at `position` has type
 //! `ty`, the types of the program are `types`, and `nodes` are the nodes so far, to which tests are
-//! added.
+//! added. Every error is want of memory.
 
 ghost use Rattle.std.specs.Prelude.{◌≡◌, ◌∷◌, ◌+◌, ◌<◌, ◌≤◌, ◌++◌, [], IfOk, Some, length};
 ghost use Rattle.rb_core.specs.declared.pattern.Pat.{Wild};

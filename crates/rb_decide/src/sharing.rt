@@ -1,5 +1,6 @@
 //! The nodes of a graph with their numbers by key. A node's key is a list of numbers that tells it
-//! from all other nodes. A link of a node is the number of a node to which it leads.
+//! from all other nodes. A link of a node is the number of a node to which it leads. Every error is
+//! want of memory.
 
 ghost use Rattle.std.specs.Prelude.{◌≡◌, ◌++◌, ◌∷◌, [], IfOk, OnOk, length};
 ghost use Rattle.std.specs.List.{AllByRecursion};

@@ -1,7 +1,7 @@
 //! Whether heads are a complete signature: all that values of a type can begin with.
 //!
 //! A head is a number or a constructor. `heads` are those that are known, and `types` are the types
-//! of the program.
+//! of the program. Every error is want of memory.
 
 ghost use Rattle.std.specs.Prelude.{◌≡◌, ◌+◌, ◌^◌, [], IfOk, slice_get};
 ghost use Rattle.rb_core.specs.declared.value.Value.TheOpen as Layers;

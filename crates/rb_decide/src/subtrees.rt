@@ -3,7 +3,7 @@
 //! A tree's node is a clause, or a test with a tree under each of its arms and perhaps one for the
 //! values that no arm takes. A graph's node has the numbers of nodes in place of these trees.
 //! `sharing` has the nodes so far with their numbers; an equal node is found there, not added
-//! again.
+//! again. Every error is want of memory.
 
 ghost use Rattle.std.specs.Prelude.{◌≡◌, IfOk, Some};
 ghost use Rattle.rb_decide.specs.Graphs.{unfolding_of, LinksAreLower, NodesDiffer, NodesAreReached};

@@ -1,4 +1,5 @@
--- What is due to the words of a command line.
+-- What is due to the words of a command line: the answer that the program owes to them. Texts and lines are lists of
+-- bytes.
 use Rattle.std.specs.Prelude.{ℕ, List}
 use Rattle.rb_lines.specs.declared.status.Status.{Status}
 use Rattle.rb_lines.specs.Numbers.{status_number}

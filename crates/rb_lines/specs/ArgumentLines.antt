@@ -1,4 +1,5 @@
--- The lines of arguments that are refused. Arguments are counted from 1.
+-- The lines of arguments that are refused. Arguments are counted from 1. The nodes of a value are its numbers and
+-- constructors, inner ones among them. Bytes are counted from 0 in the argument.
 use Rattle.std.specs.Prelude.{ℕ, List, ◌++◌, codes}
 use Rattle.std.specs.Fmt.{decimal}
 use Rattle.rb_core.specs.declared.types.DataDecl.{DataDecl}

@@ -1,4 +1,8 @@
--- How what is due is delivered to the output and the error output.
+-- How what is due is delivered to the output and the error output. What is due is a text for the output, or a status
+-- with a line for the error output. Each of the two is a sink: it takes bytes, and a write to it may fail. What it
+-- said, its account, is which bytes it took, and how many those were at each write that failed; a sink may also tell
+-- what it really took.
+-- Its count of faults rises with each write that fails, unless it is the greatest number already.
 use Rattle.std.specs.Prelude.{◌≡◌, ℕ, List, [], ◌++◌, ◌⊎◌, IsTrue, Bool}
 use Rattle.rb_edge.specs.Faults.{Rose}
 use Rattle.rb_edge.specs.History.{Account, after_take}

@@ -1,4 +1,5 @@
--- The lines of files that are refused, and the notes on clauses that no value reaches.
+-- The lines of files that are refused, and the notes on clauses that no value reaches. A line is a list of bytes, and
+-- bytes of a file are counted from 0. `types` are the types of the program, by which types are named.
 use Rattle.std.specs.Prelude.{ℕ, List, ◌++◌, codes, slice_get}
 use Rattle.std.specs.Fmt.{decimal}
 use Rattle.rb_core.specs.declared.types.Ty.{Ty}
@@ -94,7 +95,7 @@ missing_line types p at =
 
 -- Notes -------------------------------------------------------------------------------------
 
--- the line of a clause that is never reached, in a match at a byte
+-- the line of a clause that is never reached, by its number from 0 on, in a match at a byte
 abbrev pub note_line : ℕ → ℕ → List ℕ
 note_line clause at =
     codes "note: clause " ++ decimal clause ++ codes " of the match at byte " ++ decimal at

@@ -1,4 +1,5 @@
--- The lines of images that are refused.
+-- The lines of images that are refused. An image is the root words of a value and the blocks of memory to which their
+-- pointers lead. Blocks are counted from 0, and a block's base is the address at which it begins.
 use Rattle.std.specs.Prelude.{ℕ, List, ◌++◌, codes}
 use Rattle.std.specs.Fmt.{decimal}
 use Rattle.rb_image_text.specs.declared.fault.ImageFault.{ImageFault}

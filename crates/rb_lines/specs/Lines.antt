@@ -1,4 +1,6 @@
--- The lines that the program writes. Each begins with the program's name and ends with byte 10.
+-- The lines that the program writes. Each ends with byte 10, and each but that of words begins with the program's
+-- name. A region is the part of memory in which a run makes its blocks. A trap ends a run: by an access that no block
+-- holds, by the reading of a byte that was not written, or by a word that a switch has no arm for.
 use Rattle.std.specs.Prelude.{ℕ, List, [], ◌∷◌, ◌++◌, codes}
 use Rattle.std.specs.Fmt.{decimal}
 use Rattle.rb_bytes.specs.declared.fault.Full.{Full}
@@ -50,7 +52,8 @@ count_line wanted found =
 abbrev pub no_function_line : List ℕ → List ℕ
 no_function_line name = ended (begun (codes "no function ") ++ name)
 
--- the line of a block that doesn't fit into the region
+-- the line of a block that doesn't fit into the region: the address from which on it would be placed, its size and
+-- alignment, and the address at which the region ends
 abbrev pub full_line : Full → List ℕ
 full_line f = ended (begun (codes "region full: next ") ++ decimal f.next ++ codes ", size " ++ decimal f.size
     ++ codes ", align " ++ decimal f.align ++ codes ", limit " ++ decimal f.limit)

@@ -1,4 +1,5 @@
--- What `check` prints of an accepted file: a line for each clause that no value reaches, and then `ok`.
+-- What `check` prints of an accepted file: a line for each clause that no value reaches, and then `ok`. A
+-- note is such a clause: its number in its match, and the number of the token at which the match begins.
 use Rattle.std.specs.Prelude.{ℕ, List, ◌++◌, codes}
 use Rattle.std.specs.List.{flat_map}
 use Rattle.rb_core.specs.declared.program.Note.{Note}

@@ -1,4 +1,7 @@
--- The numbers that the program answers by: its statuses, and the faults in its lines.
+-- The numbers that the program answers by: its statuses, and the faults in its lines. Codes that are refused have 20
+-- to 23, traps 30 to 32, and images that are refused 40 to 44 and 46. A slot of a function holds a word while it
+-- runs, and a target is the instruction at which a function goes on. The root words of an image are those of a value
+-- itself, and its blocks are what pointers lead to.
 use Rattle.std.specs.Prelude.{ℕ}
 use Rattle.rb_bytes.specs.declared.fault.Trap.{Trap}
 use Rattle.rb_bytes.specs.declared.fault.Trap.TheVariants.{Astray, Unwritten, Unmatched}

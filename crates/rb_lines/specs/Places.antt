@@ -1,4 +1,4 @@
--- Places in a file.
+-- Places in a file: bytes of it, found by the numbers of tokens. Both are counted from 0.
 use Rattle.std.specs.Prelude.{ℕ, List, Option, Some, None, slice_get}
 use Rattle.rb_syntax.specs.declared.token.Placed.{Placed}
 

@@ -1,4 +1,5 @@
--- Refusals, and texts or refusals, as demands on what is due see them.
+-- Refusals, and texts or refusals, as demands on what is due see them. What is due to a command is the text that it
+-- prints, or the status and the line by which it is refused, with how many instructions it began, the steps.
 use Rattle.std.specs.Prelude.{◌≡◌, ℕ, ◌+◌, Result, Ok, Err}
 use Rattle.std.specs.declared.vec.Vec.{Vec}
 use Rattle.std.specs.declared.alloc.Global.{Global}

@@ -1,4 +1,7 @@
-//! The lines of arguments that are refused. Arguments are counted from 1.
+//! The lines of arguments that are refused. Arguments are counted from 1, and `number` is that of
+//! the argument at fault. The nodes of a value are its numbers and constructors, inner ones among
+//! them. Bytes, `at`, are counted from 0 in the argument. `types` are the types of the program.
+//! Every error is want of memory.
 
 ghost use Rattle.std.specs.Prelude.{◌≡◌, IfOk};
 ghost use Rattle.rb_lines.specs.ArgumentLines as spec;
@@ -53,7 +56,8 @@ fn misfit(
     end(text)
 }
 
-/// The line of an argument of this number that is no value of this type.
+/// The line of an argument of this number that is no value of type `ty`, by the fault that was
+/// found; the line of want of memory where that is the fault.
 ///
 /// # Errors
 ///

@@ -1,4 +1,7 @@
 //! Delivery: a text goes to the output, or a line to the error output.
+//!
+//! A sink is one of the two: it takes bytes, and a write to it may fail. `out` is the output, `err`
+//! the error output. The status is the exit status of the program.
 
 ghost use Rattle.rb_lines.specs.Delivery.{Prints, Refuses, Tried, change};
 ghost use Rattle.rb_lines.specs.Numbers.{status_number};
@@ -22,8 +25,8 @@ fn try_write<K: Sink>(sink: &mut K, text: &[u8])
     }
 }
 
-/// Writes the text to the output, and gives status 0. Where the output fails, the line of a write fault is
-/// tried on the error output, and the status is 8.
+/// Writes the text to the output, and gives status 0. Where the output fails, the line of a write
+/// fault is tried on the error output, and the status is 8.
 pub fn print<O: Sink, E: Sink>(text: &[u8], out: &mut O, err: &mut E) -> u8
     ensures { Prints text.now
         (change O.tells O.taken O.account O.faults out.old out.new)
@@ -38,8 +41,8 @@ pub fn print<O: Sink, E: Sink>(text: &[u8], out: &mut O, err: &mut E) -> u8
     }
 }
 
-/// Writes the line to the error output, and gives the status, which is 8 where that fails. The output takes
-/// nothing.
+/// Writes the line to the error output, and gives the status, which is 8 where that fails. The
+/// output takes nothing.
 pub fn refuse<O: Sink, E: Sink>(status: Status, line: &[u8], out: &mut O, err: &mut E) -> u8
     ensures { Refuses (status_number status) line.now
         (change O.tells O.taken O.account O.faults out.old out.new)

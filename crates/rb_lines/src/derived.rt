@@ -1,4 +1,8 @@
 //! The lines of derived layouts that are refused.
+//!
+//! A derived layout is made from its type by the compiler; `packed` puts each value into at most 64
+//! bits. `types` are the types of the program, and `ty` is the number of the one at fault. Every
+//! error is want of memory.
 
 ghost use Rattle.std.specs.Prelude.{◌≡◌, IfOk};
 ghost use Rattle.rb_lines.specs.FileLines as line;

@@ -1,4 +1,5 @@
-//! The lines of faults of texts, limits and names.
+//! The lines of faults of texts, limits and names. Where a fault stands, `at`, is a byte of the
+//! file, counted from 0. Every error is want of memory.
 
 ghost use Rattle.std.specs.Prelude.{◌≡◌, IfOk};
 ghost use Rattle.rb_lines.specs.FileLines as line;
@@ -34,7 +35,7 @@ fn quantity(quantity: Quantity) -> &'static str
     }
 }
 
-/// The line of a count over its limit.
+/// The line of a count over its limit: what is counted, how many there are, and the limit.
 ///
 /// # Errors
 ///

@@ -1,4 +1,8 @@
 //! The lines of images that are refused.
+//!
+//! An image is the root words of a value and the blocks of memory to which their pointers lead.
+//! Blocks are counted from 0, and a block's base is the address at which it begins. Every error is
+//! want of memory.
 
 ghost use Rattle.std.specs.Prelude.{◌≡◌, IfOk};
 ghost use Rattle.rb_lines.specs.ImageLines as line;

@@ -1,4 +1,8 @@
 //! Images: root words, and the blocks of a memory, as text.
+//!
+//! The root words are those of a value itself, and the blocks are what its pointers lead to. Sizes
+//! and addresses are in bytes. Where a function adds something to `text`, it stands at its end.
+//! Every error is want of memory.
 
 ghost use Rattle.std.specs.Prelude.{◌≡◌, ◌<◌, ◌+◌, ◌++◌, ◌^◌, IfOk, OnOk};
 ghost use Rattle.rb_bytes.specs.Memory.{IsGood};
@@ -56,7 +60,8 @@ fn push_byte(text: &mut Vec<u8>, byte: u8) -> Result<(), AllocError>
     push(text, &[digit(byte / 16), digit(byte % 16)])
 }
 
-// The text with so many bytes of the memory behind it, from an address on.
+// The text with so many bytes of the memory behind it, from an address on; a byte that was never
+// written, or is not there, stands as 0.
 fn push_bytes(
     text: &mut Vec<u8>,
     memory: &CheckedMemory,

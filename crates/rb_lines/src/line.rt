@@ -1,4 +1,9 @@
 //! Texts that grow at their end, and lines of no subject of their own.
+//!
+//! A region is the part of memory in which a run makes its blocks. A trap ends a run: by an access
+//! that no block holds, by the reading of a byte that was not written, or by a word that a switch
+//! has no arm for. The nodes of a value are its numbers and constructors, inner ones among them.
+//! Every error is want of memory.
 
 ghost use Rattle.std.specs.Prelude.{◌≡◌, ◌∷◌, ◌++◌, OnOk, IfOk};
 ghost use Rattle.std.specs.Fmt.{decimal};
@@ -89,7 +94,7 @@ pub fn file_bytes(alloc: Global, count: u64, limit: u64) -> Result<Vec<u8>, Allo
     Ok(format!(in alloc; "ribbit: limit file bytes: {count} over {limit}\n")?.into_bytes())
 }
 
-/// The line of a run that would make more than so many calls.
+/// The line of a run that would make more than `calls` calls.
 ///
 /// # Errors
 ///
@@ -111,7 +116,7 @@ pub fn count(alloc: Global, wanted: u64, found: u64) -> Result<Vec<u8>, AllocErr
     Ok(format!(in alloc; "ribbit: wanted {wanted} arguments, found {found}\n")?.into_bytes())
 }
 
-/// The line of a value with more nodes than this.
+/// The line of a value with more nodes than `limit`.
 ///
 /// # Errors
 ///

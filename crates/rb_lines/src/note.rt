@@ -1,4 +1,8 @@
 //! Notes on clauses that no value reaches.
+//!
+//! A note has the number of a clause in its match, and the number of the token at which the match
+//! begins. `placed` are the tokens of the file, each with the byte at which it begins, and `length`
+//! is how many bytes the file has. Every error is want of memory.
 
 ghost use Rattle.std.specs.Prelude.{◌≡◌, ◌++◌, IfOk, OnOk};
 ghost use Rattle.std.specs.List.{flat_map};
@@ -11,7 +15,8 @@ use rb_core::program::Note;
 use rb_syntax::token::Placed;
 use std::alloc::{AllocError, Global};
 
-// The line of a clause that no value reaches. Clauses are counted from 0.
+// The line of a clause that no value reaches, in the match at byte `at`. Clauses are counted from
+// 0.
 fn note(alloc: Global, clause: u64, at: u64) -> Result<Vec<u8>, AllocError>
     ensures { IfOk result (λ text. text.items ≡ line.note_line clause at) }
 {

@@ -1,4 +1,8 @@
 //! The numbers of faults in the lines.
+//!
+//! A slot of a function holds a word while it runs, and a target is the instruction at which a
+//! function goes on. The root words of an image are those of a value itself, and its blocks are
+//! what pointers lead to.
 
 // The number of the fault of bytes that are no code text. Codes that are refused have 20 to 23.
 pub(crate) const CODE_SYNTAX: u64 = 20;

@@ -9,7 +9,8 @@ use rb_core::types::DataDecl;
 use rb_show::pattern::push_pattern;
 use std::alloc::{AllocError, Global};
 
-/// The line of a match that misses the values of a pattern.
+/// The line of the match at byte `at` of the file, which misses the values of a pattern; `types`
+/// are the types of the program, by which constructors are named.
 ///
 /// # Errors
 ///

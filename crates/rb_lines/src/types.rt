@@ -1,4 +1,5 @@
-//! The lines of faults of types.
+//! The lines of faults of types. `types` are the types of the program, by which types are named,
+//! and `at` is a byte of the file, counted from 0. Every error is want of memory.
 
 ghost use Rattle.std.specs.Prelude.{◌≡◌, ◌++◌, IfOk, OnOk};
 ghost use Rattle.rb_lines.specs.FileLines as line;

@@ -7,7 +7,7 @@
 //! A node is an expression or a pattern. It takes one level of those that are left, `levels`, and
 //! the nodes in it have one fewer. A reader is `Stuck` at the first token that may not stand where
 //! it does, or behind the last token where the tokens end too early. At a node for which no level
-//! is left it stops with `Deep`.
+//! is left it stops with `Deep`. Want of memory stops it, too.
 //!
 //! A reserved word tells the form of the expression that it begins: an operation on two numbers, a
 //! conversion to another width, a `let` or a match.

@@ -7,7 +7,7 @@
 //! A node is an expression, a pattern, a layout's tree or a pointer part. It takes one level of
 //! those that are left, `levels`, and the nodes in it have one fewer. A reader is `Stuck` at the
 //! first token that may not stand where it does, or behind the last token where the tokens end too
-//! early. At a node for which no level is left it stops with `Deep`.
+//! early. At a node for which no level is left it stops with `Deep`. Want of memory stops it, too.
 //!
 //! An item is what a file lists: a type, a layout or a function. The shape of a layout lists the
 //! widths of its words. A derived layout is made from its type, as its word says.

@@ -11,7 +11,7 @@
 //! A tree, a pattern and a pointer part are nodes. Each takes one level of those that are left,
 //! `levels`, and the nodes in it have one fewer. A reader is `Stuck` at the first token that may
 //! not stand where it does, or behind the last token where the tokens end too early. At a node for
-//! which no level is left it stops with `Deep`.
+//! which no level is left it stops with `Deep`. Want of memory stops it, too.
 
 ghost use Rattle.std.specs.Prelude.{◌≡◌, ◌-◌, ◌<◌, ◌^◌, length};
 ghost use Rattle.rb_syntax.specs.declared.token.Word.TheVariants as word;

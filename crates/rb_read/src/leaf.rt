@@ -12,7 +12,7 @@
 //! A pointer part takes one level of those that are left, `levels`, and the pointer parts in its
 //! block have one fewer. A reader is `Stuck` at the first token that may not stand where it does,
 //! or behind the last token where the tokens end too early. At a pointer part for which no level is
-//! left it stops with `Deep`.
+//! left it stops with `Deep`. Want of memory stops it, too.
 
 ghost use Rattle.std.specs.Prelude.{◌≡◌};
 ghost use Rattle.rb_syntax.specs.declared.token.Symbol.TheVariants as symbol;

@@ -7,7 +7,7 @@
 //! A node is a pattern. It takes one level of those that are left, `levels`, and its subpatterns
 //! have one fewer. A reader is `Stuck` at the first token that may not stand where it does, or
 //! behind the last token where the tokens end too early. At a node for which no level is left it
-//! stops with `Deep`.
+//! stops with `Deep`. Want of memory stops it, too.
 
 ghost use Rattle.std.specs.Prelude.{◌≡◌, ◌<◌, ◌^◌};
 ghost use Rattle.rb_syntax.specs.declared.tree.PatTree.TheVariants as pats;

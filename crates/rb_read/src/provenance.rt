@@ -6,7 +6,7 @@
 //! are left. A node's first token has number `at`. A node is a constructor or `_`. It takes one
 //! level of those that are left, `levels`, and the nodes below it have one fewer. A reader is
 //! `Stuck` at the first token that may not stand where it does, or at the end of the tokens, and at
-//! a node for which no level is left it stops with `Deep`.
+//! a node for which no level is left it stops with `Deep`. Want of memory stops it, too.
 
 ghost use Rattle.std.specs.Prelude.{◌≡◌, ◌<◌, ◌^◌};
 ghost use Rattle.rb_syntax.specs.declared.tree.PatTree.TheVariants as pats;

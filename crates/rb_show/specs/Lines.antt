@@ -1,4 +1,7 @@
--- The text of layouts, line by line. A piece of a word is one of its parts, or a range of bits that no part holds.
+-- The text of layouts, line by line. A piece of a word is one of its parts, or a range of bits that no part holds. A
+-- leaf of a layout has the root words of the values of one pattern, its provenance, and the blocks to which their
+-- pointers lead. A split goes by the bits at a location: each of its arms is for a literal, a number that they may
+-- be.
 use Rattle.std.specs.Prelude.{ℕ, ◌+◌, List, [], ◌∷◌, ◌++◌, codes, Option, Some, None, slice_get}
 use Rattle.std.specs.Fmt.{decimal}
 use Rattle.std.specs.List.{flat_map}

@@ -1,4 +1,4 @@
--- Patterns as they are shown.
+-- Patterns as they are shown. Texts are lists of bytes, and `types` are the types of the program.
 use Rattle.std.specs.Prelude.{ℕ, List, [], ◌∷◌, ◌++◌, codes, ◌==◌, if◌then◌else◌, Option, Some, None, slice_get}
 use Rattle.std.specs.Fmt.{decimal}
 use Rattle.std.specs.List.{flat_map}

@@ -1,5 +1,7 @@
 -- The text of a refusal of layouts: the type, the rule, and what fails there. A leaf is named by its provenance, the
--- pattern of the values that it holds.
+-- pattern of the values that it holds. A path leads to a field: the number of a field, of a field in that one, and so
+-- on. A split goes by the bits at a location, and its arms are for literals, numbers that these bits may be. `types`
+-- are the types of the program.
 use Rattle.std.specs.Prelude.{ℕ, List, [], ◌∷◌, ◌++◌, Bool, codes, if◌then◌else◌, nat_eq, Option, Some, None, slice_get}
 use Rattle.std.specs.Fmt.{decimal}
 use Rattle.std.specs.List.{flat_map, list_any}

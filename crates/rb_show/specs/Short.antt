@@ -1,4 +1,5 @@
--- Blocks whose words are few and short, so that their bytes can be counted.
+-- Blocks whose words are few and short, so that their bytes can be counted. A block is what a pointer of a leaf leads
+-- to.
 use Rattle.std.specs.Prelude.{◌≡◌, ℕ, List, Some, slice_get}
 use Rattle.rb_layout.specs.declared.layout.Leaf.{Leaf}
 use Rattle.rb_layout.specs.declared.layout.Block.{Block}

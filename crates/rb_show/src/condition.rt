@@ -1,4 +1,8 @@
 //! The lines of the conditions that splits put on the leaves below them.
+//!
+//! A split goes by the bits at a location: each of its arms is for a literal, a number that these
+//! bits may be, and its `else` is for the others. Lines are added at the end of `text`. Every error
+//! is want of memory.
 
 ghost use Rattle.std.specs.Prelude.{◌≡◌, ◌++◌, OnOk};
 ghost use Rattle.std.specs.List.{flat_map};

@@ -1,4 +1,10 @@
-//! What fails at a place, as it is said.
+//! What fails at a place of a layout, as it is said at the end of `text`.
+//!
+//! A leaf holds the values of one pattern, its provenance, and is named by that. An item is one of
+//! its words, or the words of a field in it. A path leads to a field: the number of a field, of a
+//! field in that one, and so on. A split goes by the bits at a location, and its arms are for
+//! literals, numbers that these bits may be. `types` are the types of the program, and `leaves`
+//! those of the layout. Every error is want of memory.
 
 ghost use Rattle.std.specs.Prelude.{◌≡◌, ◌++◌, OnOk, slice_get};
 ghost use Rattle.std.specs.Fmt.{decimal};
@@ -245,7 +251,8 @@ fn push_holding(text: &mut Vec<u8>, types: &[DataDecl], tys: &[u32]) -> Result<(
     push_names(text, types, tys)
 }
 
-/// Adds what fails at a place to a text; `leaf` is the leaf where it fails at a leaf.
+/// Adds what fails at a place to a text; `leaf` is the number of the leaf, where it fails at a
+/// leaf.
 ///
 /// # Errors
 ///

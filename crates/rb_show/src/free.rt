@@ -1,4 +1,6 @@
-//! The bits of a word that no part holds.
+//! The bits of a word that no part holds, which are free.
+//!
+//! A part holds `l` bits of its word from bit `o` on. Bits are counted from 0.
 
 ghost use Rattle.std.specs.Prelude.{◌≡◌, ◌-◌, ◌<◌};
 ghost use Rattle.std.specs.List.{list_any};
@@ -38,7 +40,8 @@ pub(crate) fn begins_free(word: &FlatWord, bit: u64) -> bool
     bit == 0 || !is_free(word, bit - 1)
 }
 
-// How many bits from this one on are free, up to the first that isn't.
+// How many bits from this one on are free, up to the first that isn't; 0 where this one
+// isn't.
 pub(crate) fn free_bits(word: &FlatWord, bit: u64) -> u64
     requires { bit < word.now.width }
     ensures { result ≡ free_bits word.now bit (word.now.width - bit) }

@@ -1,4 +1,7 @@
 //! What the lines of a layout are, as functions that carry the laws.
+//!
+//! A part of a word holds some of its bits, and a free range is some bits that no part holds. A
+//! leaf of a layout has the words of the values of one pattern.
 
 ghost use Rattle.rb_show.specs.Laws.{EachPartIsShown, FreeAreApart, FreeAreMaximal, LeavesAreShown, PiecesAscend};
 

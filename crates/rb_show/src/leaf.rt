@@ -1,5 +1,7 @@
 //! The lines of leaves. A way leads to a leaf from the root of the splits: it has the leaf's
-//! number, and the lines of the conditions of the splits above it.
+//! number, and the lines of the conditions of the splits above it. A leaf holds the values of one
+//! pattern, its provenance, in its root words and in the blocks to which their pointers lead. Lines
+//! are added at the end of `text`. Every error is want of memory.
 
 ghost use Rattle.std.specs.Prelude.{◌≡◌, ◌++◌, OnOk};
 ghost use Rattle.rb_show.specs.Lines.{leaf_lines};

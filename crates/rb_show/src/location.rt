@@ -1,4 +1,7 @@
-//! Locations as they are shown.
+//! Locations as they are shown, at the end of `text`.
+//!
+//! A location leads to bits of a value: a range of bits of a root word, and steps, each through the
+//! pointer that was reached to bits of a word of its block. Every error is want of memory.
 
 ghost use Rattle.std.specs.Prelude.{◌≡◌, ◌++◌, OnOk};
 ghost use Rattle.std.specs.List.{flat_map};
@@ -40,8 +43,8 @@ fn push_steps(text: &mut Vec<u8>, steps: &[Step]) -> Result<(), AllocError>
     Ok(())
 }
 
-/// Adds a location to a text, such as `0[0:32] -> 4 @0:8[0:8]`: the bits of a root word, and for each
-/// pointer its alignment, the byte and the width of a word of its block, and bits of that.
+/// Adds a location to a text, such as `0[0:32] -> 4 @0:8[0:8]`: the bits of a root word, and for
+/// each pointer its alignment, the byte and the width of a word of its block, and bits of that.
 ///
 /// # Errors
 ///

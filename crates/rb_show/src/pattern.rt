@@ -1,4 +1,5 @@
-//! Patterns as they are shown.
+//! Patterns as they are shown, at the end of `text`. `types` are the types of the program. Every
+//! error is want of memory.
 
 ghost use Rattle.std.specs.Prelude.{◌≡◌, ◌++◌, ℕ, List, OnOk, map};
 ghost use Rattle.rb_core.specs.declared.pattern.Pat.{Pat as Pattern};
@@ -39,8 +40,8 @@ fn push_closing(text: &mut Vec<u8>, fields: &[Pat]) -> Result<(), AllocError>
     }
 }
 
-/// Adds a pattern to a text: a number, or a constructor's name with its fields in parentheses, `_` for
-/// what matches every value.
+/// Adds a pattern to a text: a number, or a constructor's name with its fields in parentheses, `_`
+/// for what matches every value.
 ///
 /// # Errors
 ///

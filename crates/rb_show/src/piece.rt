@@ -1,4 +1,9 @@
-//! The lines of the pieces of a word: its parts, and the ranges of its bits that no part holds.
+//! The lines of the pieces of a word: its parts, and the ranges of its bits that no part holds,
+//! which are free.
+//!
+//! A part holds `l` bits of its word from bit `o` on. A path leads to a field: the number of a
+//! field, of a field in that one, and so on. Lines are added at the end of `text`. Every error is
+//! want of memory.
 
 ghost use Rattle.std.specs.Prelude.{◌≡◌, ◌++◌, ◌<◌, OnOk};
 ghost use Rattle.std.specs.List.{flat_map};

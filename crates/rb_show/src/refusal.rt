@@ -1,4 +1,8 @@
 //! The text of a refusal of layouts: the type, the rule, and what fails there.
+//!
+//! A leaf of a layout holds the values of one pattern, its provenance. The ten rules of layouts
+//! have the numbers 1 to 10, and stand in the text as A1 to A10. `types` are the types of the
+//! program. Every error is want of memory.
 
 ghost use Rattle.std.specs.Prelude.{◌≡◌, ◌++◌, ℕ, IfOk, OnOk, Option, slice_get};
 ghost use Rattle.std.specs.List.{list_any};
@@ -55,8 +59,8 @@ fn push_place(
     Ok(())
 }
 
-/// The text of a refusal, such as `layout of T: A4: leaf C(_): alignment 3`. Leaves are named by their
-/// provenances, fields by their paths.
+/// The text of a refusal, such as `layout of T: A4: leaf C(_): alignment 3`. Leaves are named by
+/// their provenances, fields by their paths.
 ///
 /// # Errors
 ///

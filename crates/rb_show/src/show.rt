@@ -1,4 +1,8 @@
 //! The text of layouts.
+//!
+//! A leaf of a layout holds the values of one pattern, its provenance. A way leads to a leaf
+//! through the splits: it has the leaf's number and the lines of their conditions. `types` are the
+//! types of the program. Every error is want of memory.
 
 ghost use Rattle.std.specs.Prelude.{◌≡◌, ◌++◌, IfOk, OnOk, slice_get};
 ghost use Rattle.std.specs.List.{flat_map};
@@ -55,8 +59,8 @@ fn push_leaves(
     Ok(())
 }
 
-/// Adds the text of one layout to a text, where the words of its blocks are few and short, as those of
-/// layouts that agree with their types are.
+/// Adds the text of one layout to a text, where the words of its blocks are few and short, as those
+/// of layouts that agree with their types are.
 ///
 /// # Errors
 ///
@@ -76,9 +80,9 @@ pub fn push_layout(
     Ok(())
 }
 
-/// The text of the layouts of a program, in the order of its types: for each leaf its provenance, the
-/// conditions of the splits above it from the outside, and its words and blocks with their parts and
-/// their free bits.
+/// The text of the layouts of a program, in the order of its types: for each leaf its provenance,
+/// the conditions of the splits above it from the outside, and its words and blocks with their
+/// parts and their free bits.
 ///
 /// # Errors
 ///

@@ -1,4 +1,4 @@
-//! Texts that grow at their end.
+//! Texts that grow at their end. Every error is want of memory.
 
 ghost use Rattle.std.specs.Prelude.{◌≡◌, ◌++◌, OnOk};
 ghost use Rattle.std.specs.Fmt.{decimal};

@@ -1,4 +1,9 @@
 //! The ways through a tree of splits to its leaves.
+//!
+//! A split goes by the bits at a location: each of its arms is for a literal, a number that these
+//! bits may be, and its `else`, if it has one, for the others. The condition of a split is which of
+//! these a leaf stands under. `above` has the lines of the conditions of the splits gone through so
+//! far. Every error is want of memory.
 
 ghost use Rattle.std.specs.Prelude.{◌≡◌, ◌++◌, ◌∷◌, [], IfOk, OnOk};
 ghost use Rattle.rb_layout.specs.Splits.{routes_of};

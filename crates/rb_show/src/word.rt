@@ -1,4 +1,8 @@
 //! The lines of words and of blocks.
+//!
+//! A root has the words of a value itself, and a block those to which a pointer leads. The pieces
+//! of a word are its parts, and the ranges of bits that no part holds. Lines are added at the end
+//! of `text`. Every error is want of memory.
 
 ghost use Rattle.std.specs.Prelude.{◌≡◌, ◌++◌, OnOk};
 ghost use Rattle.rb_layout.specs.Readable.{AreShort};

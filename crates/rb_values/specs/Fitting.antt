@@ -1,4 +1,6 @@
--- Where a term does not fit a type, and the value that it names where it does.
+-- Where a term does not fit a type, and the value that it names where it does. A term is what a text says before
+-- types are looked at: a number, or a name with its fields. Its nodes are its numbers and names, each with the byte
+-- at which it begins. `types` are the types of the program, and names are lists of bytes.
 use Rattle.std.specs.Prelude.{ℕ, List, [], ◌∷◌, ◌++◌, length, if◌then◌else◌, ◌==◌, Option, Some, None, slice_get}
 use Rattle.std.specs.List.{position}
 use Rattle.std.specs.Option.{option_map}

@@ -1,4 +1,5 @@
--- Laws of reading.
+-- Laws of reading. A limit is the most nodes that a value may have: its numbers and constructors, inner ones among
+-- them.
 use Rattle.std.specs.Prelude.{◌≡◌, ◌≢◌, ℕ, ◌≤◌, List, true, Result, Ok, Err}
 use Rattle.std.specs.List.{list_all, flat_map}
 use Rattle.std.specs.Str.{bytes_eq}

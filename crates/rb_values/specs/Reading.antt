@@ -1,4 +1,6 @@
--- What is read from a text at a type.
+-- What is read from a text at a type. A sign is what a token of the text is to a value, and a term is what the text
+-- says before types are looked at: a number, or a name with its fields. Its nodes are its numbers and names. Places
+-- are bytes of the text.
 use Rattle.std.specs.Prelude.{◌≡◌, ℕ, ◌<◌, ◌≤◌, List, [], ◌∷◌, ◌++◌, length, Some, None, Result, Ok, Err}
 use Rattle.rb_core.specs.declared.value.Value.{Value}
 use Rattle.rb_core.specs.declared.types.Ty.{Ty}

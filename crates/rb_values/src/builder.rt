@@ -1,4 +1,8 @@
 //! A stack of finished values over one list of nodes.
+//!
+//! A node is a number, or a construction: a constructor with the nodes of its subvalues, which
+//! stand before it. In post-order the subvalues of a value stand before it, from left to right. A
+//! contract sees the stack as the list of its values, the top last. Every error is want of memory.
 
 ghost use Rattle.std.specs.Prelude.{◌≡◌, ◌-◌, ◌≤◌, ◌∷◌, ◌++◌, [], length, map, take, drop, OnOk, sum};
 ghost use Rattle.rb_core.specs.declared.value.Value.{Num, Con};

@@ -1,4 +1,7 @@
 //! Why a text is no value of a type within a limit.
+//!
+//! A node of a value is a number, or a constructor with its fields, which are nodes of their own.
+//! The limit is the most nodes that the value may have.
 
 ghost use Rattle.std.specs.Prelude.{◌≡◌};
 ghost use Rattle.rb_values.specs.declared.fault.ValueFault.TheVariants.{Memory};
@@ -9,8 +12,8 @@ use thiserror::Error;
 /// Why a text is no value of a type within a limit. Places are bytes of the text.
 #[derive(Debug, Drop, Error)]
 pub enum ValueFault {
-    /// The text spells no value: the least of the byte at which it has no tokens, and the first token
-    /// before that at which no value goes on; the text's length where a value only begins.
+    /// The text spells no value: the least of the byte at which it has no tokens, and the first
+    /// token before that at which no value goes on; the text's length where a value only begins.
     #[error("syntax at byte {0}")]
     ValueSyntax(usize),
     /// The value has more nodes than the limit.

@@ -1,4 +1,6 @@
 //! One value, kept as nodes that are linked by index.
+//!
+//! A node is a number, or a construction: a constructor with the nodes of its fields.
 
 ghost use Rattle.std.specs.Prelude.{◌≡◌};
 ghost use Rattle.rb_core.specs.Values.{node_count};

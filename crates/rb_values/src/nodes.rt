@@ -1,4 +1,8 @@
 //! Values as nodes in one list, each of which names its subvalues by lower numbers.
+//!
+//! The links of all nodes stand in a list of their own: each is the number of a subvalue's node,
+//! and those of one node stand side by side. Nodes are numbered from 0 on. Every error is want of
+//! memory.
 
 ghost use Rattle.std.specs.Prelude.{◌≡◌, ◌<◌, ◌∷◌, ◌++◌, [], length, map, OnOk, OnErr, All};
 ghost use Rattle.rb_core.specs.declared.value.Value.{Num, Con};
@@ -11,14 +15,18 @@ use std::marker::Model;
 /// A number, or a construction: its constructor's number, its first link and how many links it has.
 #[derive(Clone, Copy)]
 pub enum Node {
+    /// This number.
     Number(u64),
+    /// The constructor's number, the place of the first link, and the number of links.
     Build(u32, usize, usize),
 }
 
 /// One level of a value: a number, or a constructor's number and how many subvalues there are.
 #[derive(Clone, Copy)]
 pub enum Layer {
+    /// This number.
     Num(u64),
+    /// The constructor's number, and the number of subvalues.
     Con(u32, usize),
 }
 
@@ -94,7 +102,7 @@ impl Nodes {
         Ok(())
     }
 
-    /// The outermost level of node `i`.
+    /// The outermost level of the value of node `i`.
     pub fn layer(&self, i: usize) -> Layer
         requires { i < length self.now }
         ensures { IsLayer (at self.now i) result }
@@ -105,7 +113,7 @@ impl Nodes {
         }
     }
 
-    /// How many subvalues node `i` has.
+    /// How many subvalues node `i` has; a number has none.
     pub fn arity(&self, i: usize) -> usize
         requires { i < length self.now }
         ensures { result ≡ length (subs (at self.now i)) }

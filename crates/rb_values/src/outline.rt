@@ -1,4 +1,7 @@
 //! How far a value's text is read, types aside: it takes no memory, however long the text is.
+//!
+//! A sign is what a token is to a value. A name is open from the parenthesis behind it to the one
+//! that closes its fields. A node is a number or a name of the text.
 
 ghost use Rattle.std.specs.Prelude.{◌≡◌, ◌-◌, ◌<◌, ◌≤◌, ◌^◌, []};
 ghost use Rattle.rb_values.specs.inner.States.{expecting, outline_of, outline_begin, outline_on, outline_step, mode_whole};
@@ -16,7 +19,8 @@ pub enum Mode {
     Whole,
 }
 
-/// Where reading stands: how many names have fields that are open, and how many nodes have begun.
+/// Where reading stands: what may stand next, how many names are open, and how many nodes have
+/// begun.
 #[derive(Clone, Copy)]
 pub struct Outline {
     pub mode: Mode,
@@ -100,7 +104,7 @@ impl Outline {
         }
     }
 
-    /// Whether what was read is a whole value.
+    /// Whether what was read is a whole value: no name is open, and the last sign ends a value.
     pub fn is_whole(self) -> bool
         ensures { result ≡ mode_whole self.mode self.depth }
     {

@@ -1,4 +1,10 @@
 //! The text of a value, by frames in place of recursion.
+//!
+//! A construction is a constructor with its fields. Its frame says how far it is written, and
+//! frames wait on a stack, the innermost on top. The head of a value is what is written of it
+//! first: a number, or the name of a constructor. Text is added at the end of `out`, and `types`
+//! are the types of the program, by which names and the types of fields are found. Every error is
+//! want of memory.
 
 ghost use Rattle.std.specs.Prelude.{◌≡◌, ◌<◌, ◌++◌, length, IfOk, OnOk};
 ghost use Rattle.std.specs.Fmt.{decimal};
@@ -13,8 +19,8 @@ use rb_core::decimal::digits;
 use rb_core::types::{Con, DataDecl, Ty};
 use std::alloc::{AllocError, Global};
 
-/// A construction whose fields from `next` on are still to be written: its node, its constructor's and
-/// its type's number.
+/// A construction whose fields from `next` on are still to be written: its node, its constructor's
+/// and its type's number.
 #[derive(Clone, Copy)]
 pub struct Frame {
     pub node: usize,

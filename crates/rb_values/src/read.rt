@@ -1,4 +1,9 @@
 //! Reading a value: one pass over the text, token by token.
+//!
+//! A sign is what a token is to a value. The outline says what may stand next, and how many nodes,
+//! the numbers and names of the text, have begun. The typing is how the nodes fit their types so
+//! far, with the values that are built; None where there are more nodes than the limit. `types` are
+//! the types of the program.
 
 ghost use Rattle.std.specs.Prelude.{◌≡◌, ◌≤◌, true, IfOk, Some};
 ghost use Rattle.rb_core.specs.Values.{is_of_type, node_count};
@@ -70,13 +75,14 @@ fn finish(
     }
 }
 
-/// The value of this type that the text spells, of at most `limit` nodes. It keeps at most a node, a
-/// link and a name that is open for each node up to the limit, however long the text is.
+/// The value of this type that the text spells, of at most `limit` nodes. It keeps at most a node,
+/// a link and a name that is open for each node up to the limit, however long the text is.
 ///
 /// # Errors
 ///
-/// `ValueSyntax` where the text spells no value, `ValueTooLarge` where it has more nodes than `limit`,
-/// `ValueType` at the first node that does not fit its type, in this order; or want of memory.
+/// `ValueSyntax` where the text spells no value, `ValueTooLarge` where it has more nodes than
+/// `limit`, `ValueType` at the first node that does not fit its type, in this order; or want of
+/// memory.
 pub fn read_value(
     alloc: Global,
     types: &[DataDecl],

@@ -13,8 +13,11 @@ pub enum Sign {
     Number(usize, u64),
     /// The byte, and a name that begins with a capital.
     Name(usize, Name),
+    /// An opening parenthesis.
     Open,
+    /// A closing parenthesis.
     Close,
+    /// A comma.
     Comma,
     /// A token that stands in no value.
     Other,

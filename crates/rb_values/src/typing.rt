@@ -1,4 +1,10 @@
 //! Fitting a value to its type while it is read, and building it as long as it fits.
+//!
+//! A sign is what a token is to a value, and a node is a number or a name of the text. A name is
+//! open from the parenthesis behind it to the one that closes its fields; it stands last while it
+//! is not known whether it has fields. A node that does not fit its type is noted by its byte.
+//! `types` are the types of the program, and `root` is the type of the whole value. Every error but
+//! that of `finish` is want of memory.
 
 ghost use Rattle.std.specs.Prelude.{◌≡◌, List, ◌∷◌, [], ℕ, ◌≤◌, IfOk, OnOk, Some, None};
 ghost use Rattle.std.specs.Option.{option_copied};
@@ -19,8 +25,8 @@ use crate::sign::Sign;
 use rb_core::types::{Con, ConRef, DataDecl, Ty};
 use std::alloc::{AllocError, Global};
 
-/// A name whose fields are read: its byte, its constructor where its type has one, how many fields are
-/// whole, and whether all nodes before it fit.
+/// A name whose fields are read: its byte, its constructor where its type has one, how many fields
+/// are whole, and whether all nodes before it fit.
 #[derive(Clone, Copy)]
 pub struct Frame {
     pub at: usize,
@@ -29,8 +35,8 @@ pub struct Frame {
     pub clean: bool,
 }
 
-/// The names that are open, the name that stands last while its fields have not begun, the byte of the
-/// first node that does not fit, and the values so far, which are built while all fit.
+/// The names that are open, the name that stands last while its fields have not begun, the byte of
+/// the first node that does not fit, and the values so far, which are built while all fit.
 #[derive(Drop)]
 pub struct Typing {
     pub frames: Vec<Frame>,
@@ -49,14 +55,15 @@ fn holds(ty: Ty, n: u64) -> bool
     }
 }
 
-// The number of the first constructor of this name.
+// The number of the first constructor of this name; None where there is none.
 fn con_index(cons: &[Con], name: &[u8]) -> Option<usize>
     ensures { result ≡ fit.con_index cons.now name.now }
 {
     cons.iter().position(|con| con.name.as_slice() == name)
 }
 
-// The constructor of a data type that has this name; a type of integers has none.
+// The constructor of a data type that has this name; None where there is no such type or
+// constructor, as in a type of integers.
 fn con_named(types: &[DataDecl], ty: Ty, name: &[u8]) -> Result<Option<ConRef>, ValueFault>
     ensures { IfOk result (λ con. con ≡ fit.con_named types.now ty name.now) }
 {
@@ -86,7 +93,7 @@ fn con_at(types: &[DataDecl], ty: Option<Ty>, name: &[u8]) -> Result<Option<ConR
     }
 }
 
-// The types of a constructor's fields, where there is such a constructor.
+// The types of a constructor's fields; None where there is no such constructor.
 fn con_fields(types: &[DataDecl], con: Option<ConRef>) -> Option<&[Ty]>
     ensures { option_copied result ≡ fit.con_fields types.now con }
 {
@@ -136,7 +143,7 @@ fn is_clean(fault: Option<usize>) -> bool
     }
 }
 
-// The first of two bounds, unless the second is less.
+// The lesser of two numbers.
 fn least(a: usize, b: usize) -> usize
     ensures below { result ≤ b }
     ensures same { a ≤ b → result ≡ a }
@@ -351,8 +358,8 @@ impl Typing {
     ///
     /// # Errors
     ///
-    /// `ValueType` at the first node, outer before inner and left to right, that does not fit its type; or
-    /// want of memory.
+    /// `ValueType` at the first node, outer before inner and left to right, that does not fit its
+    /// type; or want of memory.
     pub fn finish(self) -> Result<Forest, ValueFault>
         ensures { (types : List Decl) (root : Type_) (t : Term) → keep.IsTyped types root (complete t []) self
             → IsSettled types root t result }

@@ -1,4 +1,6 @@
 -- Ways to leaves: a way is the number of a leaf, with the lines of the conditions that the splits above it put on it.
+-- A split goes by the bits at a location: each of its arms is for a literal, a number that they may be. A route is
+-- the number of a leaf with these conditions themselves, the outermost first.
 use Rattle.std.specs.Prelude.{ℕ, List, ◌++◌, map, slice_get}
 use Rattle.std.specs.List.{flat_map}
 use Rattle.rb_core.specs.declared.types.DataDecl.{DataDecl}

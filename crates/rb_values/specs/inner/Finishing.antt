@@ -1,4 +1,6 @@
--- What is kept of a value while it is read, and what is answered at its end.
+-- What is kept of a value while it is read, and what is answered at its end. A state is where reading stands: which
+-- names have fields that are not yet whole, and what may come next. Nodes are the numbers and names of a value's
+-- text; one that does not fit its type is told by its byte. Want of memory says nothing of the text.
 use Rattle.std.specs.Prelude.{◌≡◌, ℕ, ◌<◌, ◌≤◌, List, [], Option, Some, None, Result, Ok, Err}
 use Rattle.rb_core.specs.declared.value.Value.{Value}
 use Rattle.rb_core.specs.declared.types.Ty.{Ty}

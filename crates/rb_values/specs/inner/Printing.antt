@@ -1,5 +1,6 @@
 -- What the frames of the printer have still to write. A frame is a construction whose fields from `next` on are not
--- yet written; `vs` has the values of all nodes.
+-- yet written; `vs` has the values of all nodes. The head of a value is what is written of it first: a number, or the
+-- name of a constructor. `out` is the text before a step, and `written` that after it.
 use Rattle.std.specs.Prelude.{◌≡◌, ℕ, ◌+◌, ◌*◌, ◌<◌, ◌≤◌, List, [], ◌∷◌, ◌++◌, length, map, sum, drop}
 use Rattle.rb_core.specs.declared.value.Value.{Value}
 use Rattle.rb_core.specs.declared.types.Ty.{Ty}

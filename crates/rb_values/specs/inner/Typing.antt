@@ -1,5 +1,7 @@
 -- Fitting a term to a type while it is read. A name waits once its fields have begun, until the parenthesis behind
--- the last; `os` are the names that wait, the innermost first.
+-- the last; `os` are the names that wait, the innermost first. The frame of a name is what is kept of it: its byte,
+-- its constructor where its type has one, how many fields are whole, and whether all nodes before it fit. A state is
+-- where reading stands.
 use Rattle.std.specs.Prelude.{◌≡◌, ℕ, List, [], ◌∷◌, ◌++◌, Bool, true, false, Option, Some, None, slice_get}
 use Rattle.rb_core.specs.declared.value.Value.{Value}
 use Rattle.rb_core.specs.declared.types.Ty.{Ty}
