@@ -1,4 +1,10 @@
 //! The words of a leaf that hold what stands at a path, and those whose pointers lead to them.
+//!
+//! A path is a list of field numbers from the leaf's root. A part is a range of one of the leaf's
+//! words: a constant, bits or a word of a field, or a pointer to a block. A spot is a part with the
+//! word that it is of, a root word or one of a block of the leaf. `words` are the leaf's words, as
+//! they were read. A word is found where its part holds what stands at the path or below it, or is
+//! a pointer to a block with such a part.
 
 ghost use Rattle.std.specs.Prelude.{◌≡◌, ◌++◌, IfOk, OnOk};
 ghost use Rattle.rb_layout.specs.Readable.{IsReadable};
@@ -28,7 +34,8 @@ pub(crate) fn is_there(words: &LeafWords, spot: &Spot) -> bool
     }
 }
 
-// Whether a part that was read holds what stands at a path or below it, or is a pointer on the way there.
+// Whether a part holds what stands at a path or below it, or is a pointer on the way there; not if
+// its word was not read.
 fn leads_there(
     alloc: Global,
     leaf: &Leaf,
@@ -70,8 +77,8 @@ fn add_word(
     Ok(())
 }
 
-/// Adds the words of a leaf that hold what stands at a path or below it, and those whose pointers lead to them. Nothing
-/// is read.
+/// Adds the words of a leaf that hold what stands at a path or below it, and those whose pointers
+/// lead to them; none of a block whose address is not known. Nothing is read.
 pub(crate) fn add_below(
     alloc: Global,
     image: &Image,

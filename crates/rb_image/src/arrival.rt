@@ -1,4 +1,11 @@
 //! Positions to which one comes on the way down through values that leaves have taken apart.
+//!
+//! A position is what a leaf's provenance, its pattern, has at a path: a list of field numbers from
+//! the leaf's root. It is open where the pattern lets any value stand there; elsewhere the leaf has
+//! taken the value apart: its fields stand in parts of the leaf. An arrival is a position to which
+//! one came, and a view borrows one. `agreed` has the program's types and their layouts. `image` is
+//! that from which the first leaf's words were read; nothing is read of it here. `Memory` as a
+//! fault is want of memory, or stands for what does not occur where types and layouts agree.
 
 ghost use Rattle.std.specs.Prelude.{◌≡◌, IfOk, List};
 ghost use Rattle.rb_layout.specs.Readable.{IsReadable};
@@ -66,7 +73,8 @@ impl<'a> Arrival<'a> {
     }
 }
 
-// A value of a data type at the root of its leaf.
+// The arrival at the root of a leaf, where a value of the data type `ty` stands whose words are
+// `root`. No block of the leaf is read.
 fn at_root<'a>(
     alloc: Global,
     leaf: &'a Leaf,
@@ -88,8 +96,9 @@ fn at_root<'a>(
     })
 }
 
-/// A value without pointers at these words, from the root of its leaf on. Its type has a layout, as each that is
-/// declared.
+/// The arrival at the root of its own leaf of a value without pointers, of the data type `ty`, at
+/// these words. An error is the first fault of its splits or of its leaf's parts, or `Memory`, also
+/// for a type without a layout, which no declared type is.
 pub(crate) fn take_apart<'a>(
     alloc: Global,
     agreed: &'a Agreed,
@@ -113,8 +122,8 @@ pub(crate) fn take_apart<'a>(
     Ok(root)
 }
 
-// From an open position of a data type on to the root of the value's own leaf; at other positions
-// nothing is done.
+// From an open position of a data type on to the root of the value's own leaf, with the errors of
+// `take_apart`; an arrival at another position is given as it is.
 fn settle<'a>(
     alloc: Global,
     agreed: &'a Agreed,
@@ -137,8 +146,9 @@ fn settle<'a>(
     }
 }
 
-// To a field of the value here. It is there where a provenance that matches the value leads to it;
-// where it is not, `Memory` is given.
+// To a field of the value at an arrival, in its own leaf if the position is open. It is there where
+// a provenance that matches the value leads to it; where it is not, the error is `Memory`. Else an
+// error is that of `settle`.
 fn step_down<'a>(
     alloc: Global,
     agreed: &'a Agreed,
@@ -172,7 +182,8 @@ fn step_down<'a>(
     })
 }
 
-/// Where a path of field numbers leads from a position on.
+/// Where a path of field numbers leads from the position `from` on: there itself for an empty path.
+/// A value to which the last step leads is not entered. An error is the first of a step.
 pub(crate) fn along<'a>(
     alloc: Global,
     agreed: &'a Agreed,

@@ -1,4 +1,10 @@
 //! The words that the splits of a layout ask for.
+//!
+//! A split is a node of a layout's tree: its location says which bits decide on the arm to take. A
+//! location is a range of a root word, and steps from there, each over a pointer to a range of a
+//! word in a block. `words` are those of the value, `memory` has the image's blocks, and `found` is
+//! the list to which is added. A pointer is refused where it leads to no word, or, from within a
+//! block, not below that block.
 
 ghost use Rattle.std.specs.Prelude.{◌≡◌, ◌++◌, IfOk, OnOk};
 ghost use Rattle.rb_image.specs.Asked.{asked_by, ranges_at};
@@ -15,7 +21,7 @@ use rb_layout::layout::FlatTree;
 use std::alloc::AllocError;
 
 // Adds the bits that are read for a location, and gives those at the location, which are the last;
-// none where a pointer on the way is refused.
+// `None` where a pointer on the way is refused: then the bits up to that pointer are added.
 fn add_ranges(
     memory: &[ImageBlock],
     words: &[Kept],
@@ -40,8 +46,9 @@ fn add_ranges(
     Ok(Some(range))
 }
 
-/// Adds the bits that the splits of a tree read on the way to a leaf, with where they are kept: for each split those of
-/// the pointers that its location passes, and then those at the location.
+/// Adds the bits that the splits of a tree read on the way to a leaf, with where they are kept: for
+/// each split those of the pointers that its location passes, and then those at the location. It
+/// ends at a leaf, at a pointer that is refused, or at a split that no arm takes.
 pub(crate) fn add_asked(
     memory: &[ImageBlock],
     words: &[Kept],

@@ -1,4 +1,10 @@
 //! The places below a place: the subvalues of data types at its leaf's open positions.
+//!
+//! A place is a type's number and the words at which a value of it is to stand. A position is what
+//! a leaf's provenance, its pattern, has at a path, a list of field numbers from the leaf's root;
+//! it is open where any value may stand there. A spot is a part of the leaf with the word that it
+//! is of. In all that follows `path` is a path in the leaf, and `places` the list to which is
+//! added.
 
 ghost use Rattle.std.specs.Prelude.{◌≡◌, ◌<◌, ◌++◌, ◌∷◌, [], map, IfOk, OnOk};
 ghost use Rattle.rb_core.specs.Values.{fields_of};
@@ -34,7 +40,7 @@ pub struct Examined<'a> {
     pub addresses: &'a [u64],
 }
 
-/// Whether a part holds a word of the field at a path.
+/// Whether a part of this kind holds word `number` of the field at a path.
 pub(crate) fn holds(kind: &Kind, path: &[u32], number: u64) -> bool
     ensures { result ≡ spec.holds kind.now path.now number }
 {
@@ -47,7 +53,8 @@ pub(crate) fn holds(kind: &Kind, path: &[u32], number: u64) -> bool
 }
 
 impl<'a> Examined<'a> {
-    // A word of the field at a path: the bits of the part that holds it.
+    // Word `number` of the field at a path: the bits of the first part that holds it; the number 0
+    // where none does.
     fn word(&self, path: &[u32], number: u64) -> Kept
         requires placed { AreInPlace self.now.memory.now }
         ensures { result ≡ word_of self.now path.now number }
@@ -88,7 +95,7 @@ pub(crate) fn longer(alloc: Global, path: &[u32], field: usize) -> Result<Seq<u3
     Ok(found)
 }
 
-// Adds the place at an open position, where that is of a data type.
+// Adds the place at an open position of the type `ty`, if that is a data type; none for an integer.
 fn add_place(
     alloc: Global,
     examined: &Examined,
@@ -114,7 +121,8 @@ fn add_place(
     }
 }
 
-/// Adds the places at the open positions of a provenance, from left to right. The call nests as deep as the provenance.
+/// Adds the places at the open positions of a pattern within the provenance, which stands at `path`
+/// and is of the type `ty`, from left to right. The call nests as deep as the pattern.
 #[cycle(opening)]
 pub(crate) fn add_places(
     alloc: Global,
@@ -140,8 +148,8 @@ pub(crate) fn add_places(
     }
 }
 
-// Adds the places at the open positions of the patterns of a constructor's fields, from left to
-// right. The path is that of the constructor.
+// Adds the places at the open positions of the patterns of a constructor's fields, of these types,
+// from left to right; patterns beyond the last type add none. The path is that of the constructor.
 #[cycle(opening)]
 fn add_fields(
     alloc: Global,

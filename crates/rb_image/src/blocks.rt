@@ -1,4 +1,7 @@
 //! The blocks of an image: which block begins at an address, and the words in it.
+//!
+//! A block is a range of the image's memory, given by the address at which it begins, and its
+//! bytes. The blocks ascend by address without overlap, so one is found by halves.
 
 ghost use Rattle.std.specs.Prelude.{◌≡◌, ◌+◌, nat_le};
 ghost use Rattle.std.specs.Option.{option_copied};
@@ -9,7 +12,8 @@ ghost use Rattle.rb_image_text.specs.Places.{AreInPlace};
 use rb_bits::little_endian::load_le;
 use rb_image_text::image::ImageBlock;
 
-// The number of the first block that begins at an address or above, found by halves.
+// The number of the first block that begins at an address or above, found by halves; where none
+// does, how many blocks there are.
 fn first_from(blocks: &[ImageBlock], address: u64) -> usize
     requires placed { AreInPlace blocks.now }
     ensures { IsFirstFrom blocks.now address result }
@@ -60,15 +64,15 @@ fn is_width(width: u64) -> bool
     width == 8 || width == 16 || width == 32 || width == 64
 }
 
-// Whether so many bytes from one on lie in a block of this size.
+// Whether `count` bytes from `byte` on lie in a block of this size in bytes.
 fn lies_within(byte: u64, count: u64, size: u64) -> bool
     ensures { result ≡ nat_le (byte + count) size }
 {
     byte <= size && count <= size - byte
 }
 
-// The word of so many bits from a byte of a block on; none where no word has this width, or it does
-// not lie in the block.
+// The word of `width` bits from a byte of a block on, the lowest byte first; none where no word has
+// this width, or it does not lie in the block.
 fn word_from(block: &ImageBlock, byte: u64, width: u64) -> Option<u64>
     ensures { result ≡ word_from block.now byte width }
 {
@@ -84,7 +88,8 @@ fn word_from(block: &ImageBlock, byte: u64, width: u64) -> Option<u64>
     Some(load_le(&bytes[from..to]))
 }
 
-/// The word of 8, 16, 32 or 64 bits from a byte on of the block that begins at an address, where it lies in it.
+/// The word of `width` bits, 8, 16, 32 or 64, from a byte on of the block that begins at an
+/// address; none where no block does, for another width, or where it does not lie in the block.
 pub(crate) fn word_in(blocks: &[ImageBlock], address: u64, byte: u64, width: u64) -> Option<u64>
     requires placed { AreInPlace blocks.now }
     ensures { result ≡ word_in blocks.now address byte width }

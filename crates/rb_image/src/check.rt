@@ -1,4 +1,12 @@
 //! The check of the words on a path.
+//!
+//! A path is a list of field numbers from the root. A walk goes along it through subvalues of data
+//! types; one that it passed has its leaf, the leaf's words, and `at`, the path inside the leaf
+//! along which the walk goes on. A part is a range of a leaf's word: a constant, bits or a word of
+//! a field, or a pointer; a spot is a part with the word that it is of. A pointer is refused where
+//! it leads to no block of the leaf's size, or, from within a block, not below that block. `agreed`
+//! has the program's layouts; `path` of the type `PathWords` has the words on the path, and `found`
+//! is the list to which words are added.
 
 ghost use Rattle.std.specs.Prelude.{◌≡◌, ◌++◌, IfOk, OnOk};
 ghost use Rattle.std.specs.Option.{option_copied};
@@ -29,7 +37,8 @@ use rb_layout::agreed::Agreed;
 use rb_layout::layout::{Kind, Layout, Leaf};
 use std::alloc::{AllocError, Global};
 
-// Adds the words of the leaf of a subvalue that hold what comes next on the path, and those whose pointers lead there.
+// Adds the words of the leaf of a subvalue that hold what comes next on the path, and those whose
+// pointers lead there; none where the path ends at the root of the leaf.
 fn add_ahead(
     alloc: Global,
     image: &Image,
@@ -48,7 +57,7 @@ fn add_ahead(
     }
 }
 
-// The layout of the data type with this number, which has one if it is declared.
+// The layout of the data type with this number, which has one if it is declared; else none.
 fn layout_of(layouts: &[Layout], ty: u32) -> Option<&Layout>
     ensures { option_copied result ≡ layout_of layouts.now ty }
 {
@@ -112,7 +121,8 @@ pub(crate) fn words_of(
     PathWords::of(alloc, found.as_slice())
 }
 
-// The fault of a part: a constant that differs, or a pointer that is refused.
+// The fault of a part of this kind with these bits: a constant that differs, or a pointer that is
+// refused; none for other parts.
 fn part_fault(memory: &[ImageBlock], leaf: &Leaf, bits: Kept, kind: &Kind) -> Option<ImageFault>
     requires placed { AreInPlace memory.now }
     requires readable { IsReadable leaf.now }
@@ -130,7 +140,7 @@ fn part_fault(memory: &[ImageBlock], leaf: &Leaf, bits: Kept, kind: &Kind) -> Op
     }
 }
 
-// The fault of a part, if the word that it is of is on the path.
+// The fault of a part, if the word that it is of was read and is on the path; else none.
 fn fault_at(
     image: &Image,
     path: &PathWords,
@@ -155,8 +165,9 @@ fn fault_at(
     part_fault(image.blocks.as_slice(), leaf, bits, &spot.part.kind)
 }
 
-/// The first fault of a leaf's parts in words on the path, where the leaf's words were read: a constant that differs,
-/// or a pointer that is refused. Nothing is read.
+/// The first fault of a leaf's parts in words on the path, where the leaf's words were read: a
+/// constant that differs, or a pointer that is refused; none where there is no such part. Nothing
+/// is read.
 pub(crate) fn fault_among(
     alloc: Global,
     image: &Image,
@@ -180,7 +191,7 @@ pub(crate) fn fault_among(
     Ok(None)
 }
 
-// The first fault of the leaf of a subvalue in words on the path.
+// The first fault of the leaf of a subvalue in words on the path; none where it has none.
 fn fault_seen(
     alloc: Global,
     image: &Image,
@@ -195,7 +206,8 @@ fn fault_seen(
     fault_among(alloc, image, path, visited.leaf, &visited.words)
 }
 
-/// The first fault of the leaves of the subvalues on the path of a walk in words on the path.
+/// The first fault of the leaves of the subvalues on the path of a walk in words on the path, outer
+/// subvalues first; none where they have none.
 pub(crate) fn fault_of(
     alloc: Global,
     image: &Image,

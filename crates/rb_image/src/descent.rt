@@ -1,4 +1,9 @@
 //! The descent over all places that one comes to from a place.
+//!
+//! A place is a type's number and the words at which a value of it is to stand. Its own fault is
+//! what `look` says of it; below it are the places of its leaf's open positions. It is sound if it
+//! has no fault and all places below it are sound. `agreed` has the program's types and layouts,
+//! and `memory` the image's blocks.
 
 ghost use Rattle.std.specs.Prelude.{◌≡◌, ◌++◌, OnOk, length};
 ghost use Rattle.rb_image.specs.Parts.{at_of, look};
@@ -43,8 +48,9 @@ pub(crate) fn descents_end(agreed: &Agreed)
     let _ = agreed.layouts();
 }
 
-/// Looks at a place and at all that one comes to from it: outer places before inner ones, from left to right. A place
-/// that was found sound is not looked at again. The last of the things to do is done first, so nothing recurs.
+/// Looks at a place and at all that one comes to from it: outer places before inner ones, from left
+/// to right. A place that was found sound is not looked at again. The last of the things to do is
+/// done first, so nothing recurs. An error is the first fault that a look finds, or want of memory.
 pub(crate) fn descend(
     alloc: Global,
     agreed: &Agreed,

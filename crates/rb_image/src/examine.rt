@@ -1,4 +1,7 @@
 //! Whole images.
+//!
+//! A place is a type's number and the words at which a value of it is to stand; the first is that
+//! of the root words. `agreed` has the program's types and their layouts.
 
 ghost use Rattle.std.specs.Prelude.{◌≡◌, ◌⊎◌, IfErr, OnOk};
 ghost use Rattle.rb_image_text.specs.Places.{AreInPlace};

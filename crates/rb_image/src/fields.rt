@@ -1,4 +1,10 @@
 //! The sites at which the words of a leaf's field stand.
+//!
+//! A site says where bits stand, which are read only where they are wanted: a range of a root word,
+//! or of a word of a block. A spot is a part of a leaf with the word that it is of. A field is the
+//! subvalue at a path, a list of field numbers from the leaf's root. `sites` are those of the
+//! leaf's root words, `addresses` those of its blocks by number, 0 where one is not known, and
+//! `order` has the leaf's spots in the order in which they are examined.
 
 ghost use Rattle.std.specs.Prelude.{◌≡◌, IfOk, length, slice_get};
 ghost use Rattle.rb_layout.specs.Readable.{IsReadable};
@@ -20,7 +26,7 @@ fn lesser(a: u64, b: u64) -> u64
     if a < b { a } else { b }
 }
 
-// No bits, which stand nowhere.
+// The site of what stands nowhere: it has no bits. `place` is noted in it.
 fn nowhere(place: u64) -> Site
     ensures { result ≡ spec.nowhere place }
 {
@@ -33,7 +39,7 @@ fn nowhere(place: u64) -> Site
     }
 }
 
-// A range of the bits at a site: no more than there are.
+// `l` bits from bit `o` on of those at a site, as far as it has so many.
 fn range_in(site: Site, o: u64, l: u64) -> Site
     requires narrow { IsNarrow site }
     ensures { result ≡ spec.range_in site o l }
@@ -88,8 +94,8 @@ fn part_site(sites: &[Site], addresses: &[u64], spot: &Spot) -> Site
     }
 }
 
-// Where a word of the field at a path stands: where the first part does that holds it, or nowhere if
-// none does.
+// Where word `number` of the field at a path stands: where the first part does that holds it, or
+// nowhere if none does.
 fn field_site(sites: &[Site], addresses: &[u64], order: &[Spot], path: &[u32], number: u64) -> Site
     requires narrow { AreNarrow sites.now }
     ensures { result ≡ spec.field_site sites.now addresses.now (spots_of order.now) path.now number }
@@ -102,7 +108,7 @@ fn field_site(sites: &[Site], addresses: &[u64], order: &[Spot], path: &[u32], n
     nowhere(0)
 }
 
-// Where the first words of the field at a path stand, so many of them.
+// Where the first `count` words of the field at a path stand.
 fn sites_of(
     alloc: Global,
     sites: &[Site],

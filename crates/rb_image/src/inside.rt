@@ -1,4 +1,7 @@
 //! Positions inside a leaf.
+//!
+//! A position is what a leaf's provenance, its pattern of values, has at a path of field numbers
+//! from its root. `types` are the declared types of the program.
 
 ghost use Rattle.std.specs.Prelude.{◌≡◌, slice_get};
 ghost use Rattle.std.specs.Option.{option_copied};
@@ -38,7 +41,8 @@ fn paired<'a>(pat: Option<&'a Pat>, ty: Option<Ty>) -> Option<Inside<'a>>
     }
 }
 
-/// A field of a position: none where no constructor stands there, or one that has no such field.
+/// The position of a field below a position whose pattern is `pat`: none where no constructor
+/// stands there, or one that has no such field.
 pub fn field_of<'a>(types: &[DataDecl], pat: &'a Pat, field: u32) -> Option<Inside<'a>>
     ensures { position_or_none result ≡ field_of types.now pat.now field }
 {

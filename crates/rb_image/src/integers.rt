@@ -1,4 +1,9 @@
 //! Integers at the open positions of a leaf.
+//!
+//! A position is what a leaf's provenance, its pattern, has at a path, a list of field numbers from
+//! the leaf's root. It is open where any value may stand. A part is a range of one of the leaf's
+//! words; several may hold one integer, each a range of its bits. A spot is a part with the word
+//! that it is of. Bit 0 is the lowest. `image` has the blocks from which the words were read.
 
 ghost use Rattle.std.specs.Prelude.{◌≡◌, ℕ, ◌-◌, ◌≤◌, IfOk};
 ghost use Rattle.rb_core.specs.declared.types.Ty.TheVariants.{Int};
@@ -35,7 +40,7 @@ fn less(a: u64, b: u64) -> u64
     if b <= a { a - b } else { 0 }
 }
 
-// Whether a part of `l` bits holds a bit of the integer at a path.
+// Whether a part of this kind with `l` bits holds bit `i` of the integer at a path.
 fn holds_bit(kind: &Kind, path: &[u32], i: u64, l: u64) -> bool
     ensures { (bits : ℕ) → result ≡ holds_unit (Int bits) path.now i l kind.now }
 {
@@ -47,7 +52,8 @@ fn holds_bit(kind: &Kind, path: &[u32], i: u64, l: u64) -> bool
     }
 }
 
-// Bit `i` of an integer, where `number` has the bits of a part that holds it.
+// Bit `i` of an integer, where `number` has the bits of a part of this kind that holds it; 0 for a
+// part that holds no integer.
 fn bit_in(number: u64, i: u64, kind: &Kind) -> u64
     ensures { result ≡ spec.bit_in number i kind.now }
 {
@@ -60,7 +66,7 @@ fn bit_in(number: u64, i: u64, kind: &Kind) -> u64
 }
 
 impl<'a> Gathered<'a> {
-    // A bit of the integer at a path, as the first part has it that holds the bit; 0 where none
+    // Bit `i` of the integer at a path, as the first part has it that holds the bit; 0 where none
     // does.
     fn bit(&self, path: &[u32], i: u64) -> u64
         requires placed { AreInPlace self.now.image.now.blocks }

@@ -1,4 +1,7 @@
 //! Words of values, and where an image keeps them.
+//!
+//! `number` is the word itself, or the bits of it; it is carried along with where the image keeps
+//! it, so that a fault can name that.
 
 /// A word of a value, or bits of one, with where the word is kept: in the block that begins at `base`, from byte
 /// `place` on, or, where the base is 0, in the root word with the number `place`.

@@ -1,4 +1,8 @@
 //! Places that were found sound.
+//!
+//! A place is a type's number and the words at which a value of it is to stand. It is sound if
+//! neither it nor any place below it has a fault. Two places are the same where type, words, and
+//! where the words are kept, are.
 
 ghost use Rattle.std.specs.Prelude.{◌≡◌, [], OnOk};
 ghost use Rattle.rb_image.specs.Parts.{at_of};

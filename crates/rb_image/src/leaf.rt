@@ -1,4 +1,10 @@
 //! The leaf to which the splits of a layout lead, where each word is read when a split asks for it.
+//!
+//! A site says where bits stand: a range of a root word, at base 0, or of a word of the block that
+//! begins at its base. A location of a split is a range of a word of the value, and steps from
+//! there, each over a pointer to a range of a word in a block. `sites` are those of the value's
+//! words, and `steps` counts the words that are read. A pointer is refused where it leads to no
+//! word, or, from within a block, not below that block.
 
 ghost use Rattle.std.specs.Prelude.{◌≡◌, ◌+◌, ◌≤◌, length, map};
 ghost use Rattle.rb_image.specs.Blocks.{word_in};
@@ -53,8 +59,9 @@ fn read_number<L: Ledger>(image: &Image, sites: &[Site], number: u64, steps: &mu
     }
 }
 
-/// The word of `width` bits from a byte on of the block that begins at `base`, where it lies in it.
-/// No block begins at 0, where root words would be read.
+/// The word of `width` bits from a byte on of the block that begins at `base`; none where it does
+/// not lie in one. No block begins at 0, where root words would be read, so there is none at base
+/// 0, and no step is taken.
 pub(crate) fn read_block<L: Ledger>(
     image: &Image,
     base: u64,
@@ -73,8 +80,8 @@ pub(crate) fn read_block<L: Ledger>(
     read_word(image, base, byte, width, steps)
 }
 
-// The word to which a step leads from the pointer in a range, or `BadPointer` where it leads to
-// none.
+// The word to which a step of a location leads from the pointer in a range: `BadPointer` where it
+// leads to none, or, from within a block, not below that block.
 fn read_step<L: Ledger>(
     image: &Image,
     range: Kept,

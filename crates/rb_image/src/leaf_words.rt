@@ -1,4 +1,9 @@
 //! The words of a leaf, each read once.
+//!
+//! A leaf has root words, and blocks to which its pointers lead. A part is a range of one of these
+//! words; a spot is a part with the word that it is of. A site says where bits stand: a range of a
+//! root word of the image, or of a word of a block. `image` has the words that are read, and
+//! `steps` counts them.
 
 ghost use Rattle.std.specs.Prelude.{◌≡◌, ◌+◌, ◌<◌, ◌≤◌, ℕ, List, [], length, map, replicate};
 ghost use Rattle.std.specs.Prelude.{IfOk, OnOk, slice_get, slice_index, slice_set};
@@ -204,7 +209,8 @@ impl LeafWords {
         }
     }
 
-    /// The words of a leaf of which those of the root alone are known.
+    /// The words of a leaf of which those of the root alone are known: no address, and no word of a
+    /// block.
     pub(crate) fn of_root(alloc: Global, leaf: &Leaf, root: Vec<Kept>) -> Result<Self, AllocError>
         ensures root { IfOk result (λ found. found.root ≡ root) }
         ensures addresses { IfOk result (λ found. found.addresses.items ≡ replicate (length leaf.now.blocks) 0) }

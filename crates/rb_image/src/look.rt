@@ -1,4 +1,8 @@
 //! One place, looked at by itself.
+//!
+//! A place is a type's number and the words at which a value of it is to stand. A leaf leaves a
+//! position open where its provenance, its pattern, lets any value stand. `agreed` has the
+//! program's types and their layouts.
 
 ghost use Rattle.rb_image.specs.Given.{IsGiven};
 ghost use Rattle.rb_image.specs.Parts.{at_of, ats_of, look};

@@ -1,4 +1,11 @@
 //! The leaf in whose layout a value is rebuilt: the one whose provenance matches it.
+//!
+//! A provenance is the pattern of a leaf's values. A position is what a leaf's provenance has at a
+//! path, a list of field numbers from its root. It is open where any value may stand there: then
+//! the leaf of that value has to be found before a constructor is known. A view is a position with
+//! the leaf and its words. `agreed` has the program's types and their layouts. An error is the
+//! fault of looking for such a leaf, or `Memory`: want of memory, or what does not occur where
+//! types and layouts agree.
 
 ghost use Rattle.std.specs.Prelude.{◌≡◌, ◌↔◌, IsTrue, map};
 ghost use Rattle.rb_core.specs.declared.pattern.Pat.{out-Pat};
@@ -28,7 +35,9 @@ fn same_con(con: ConRef, other: ConRef) -> bool
     con.ty == other.ty && con.con == other.con
 }
 
-// Whether a provenance matches what stands at a position. The call nests as deep as the provenance.
+// Whether a provenance matches what stands at a position: a wildcard or a variable always does, a
+// number never, and a constructor if that stands there with fields that its patterns match. The
+// call nests as deep as the provenance.
 #[cycle(matching)]
 fn matches(
     alloc: Global,
@@ -141,8 +150,9 @@ fn first_of(before: Option<ImageFault>, fault: ImageFault) -> Option<ImageFault>
     }
 }
 
-/// The first of some leaves whose provenance is known to match what stands at a position. A fault that keeps one from
-/// being known is given only where none is known to match.
+/// The first of some leaves whose provenance is known to match what stands at a position. The first
+/// fault that keeps one from being known is given only where none is known to match, and want of
+/// memory at once; `Memory` where no leaf matches and none has a fault.
 pub(crate) fn choose<'a>(
     alloc: Global,
     agreed: &Agreed,

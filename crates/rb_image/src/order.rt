@@ -1,4 +1,9 @@
 //! The order in which the parts of a leaf are examined.
+//!
+//! A part is a range of a word of a leaf: a constant, bits or a word of a field, or a pointer to a
+//! block of the leaf. The offset of a part is its first bit. In all that follows `block` is the
+//! number of a block of the leaf, or `None` for the root's words; `order` is the list to which is
+//! added; and `depth` is how many blocks deep pointers are still followed: at 0 none.
 
 ghost use Rattle.std.specs.Prelude.{◌≡◌, ◌++◌, ◌∷◌, length, IfOk, OnOk};
 ghost use Rattle.rb_layout.specs.Readable.{AreShort, IsReadable};
@@ -158,7 +163,8 @@ pub(crate) fn order_of<'a>(alloc: Global, leaf: &'a Leaf) -> Result<Vec<Spot<'a>
     Ok(order)
 }
 
-/// The parts of the leaf's block with this number, and of those to which it leads.
+/// The parts of the leaf's block with this number by word and offset, those of a pointer's block
+/// right behind the pointer; none where there is no such block.
 pub(crate) fn block_order<'a>(
     alloc: Global,
     leaf: &'a Leaf,

@@ -1,4 +1,7 @@
 //! Words of a leaf without pointers, made from the words of its fields.
+//!
+//! A field is the subvalue at a path, a list of field numbers from the leaf's root. A part is a
+//! range of a word: `l` bits from bit `o` on.
 
 ghost use Rattle.std.specs.Prelude.{◌≡◌, IfOk, map};
 ghost use Rattle.rb_coding.specs.Packing.{made_of, word_made};
@@ -47,7 +50,7 @@ fn number_of(part: &Part, fields: &[FieldWords]) -> u64
     }
 }
 
-// A word: its parts in their places, and 0 elsewhere.
+// The word with these parts: each in its place with what the fields make it hold, and 0 elsewhere.
 fn pack(parts: &[Part], fields: &[FieldWords]) -> u64
     ensures { result ≡ made_of (words_in fields.now) (λ b. 0) parts.now }
 {
@@ -59,7 +62,8 @@ fn pack(parts: &[Part], fields: &[FieldWords]) -> u64
     word
 }
 
-/// The words that the fields make in a leaf whose root has these flat words.
+/// The words that the fields make in a leaf whose root has these flat words, one for each. A field
+/// that is not among `fields` counts as 0.
 pub(crate) fn pack_all(
     alloc: Global,
     words: &[FlatWord],

@@ -1,4 +1,9 @@
 //! The parts of a leaf, examined on words of an image.
+//!
+//! A part is a range of a word of the leaf: a constant, bits or a word of a field, or a pointer to
+//! one of the leaf's blocks. A spot is a part with the word that it is of. `memory` has the blocks
+//! of the image, `words` are those of the place, so of the leaf's root, and `addresses` those of
+//! the leaf's blocks by number, 0 for one that is not known.
 
 ghost use Rattle.std.specs.Prelude.{◌≡◌, slice_get, slice_index};
 ghost use Rattle.rb_layout.specs.Readable.{IsReadable};
@@ -124,7 +129,9 @@ fn examine_part(
     }
 }
 
-/// Examines parts in their order: the addresses of the leaf's blocks by number, or the first fault.
+/// Examines parts in their order: gives the addresses of the leaf's blocks by number, 0 for one to
+/// which no pointer leads, or the first fault of a part: `BadBits` for a constant that differs,
+/// `BadPointer` for a pointer that leads to no block as the leaf has it.
 pub(crate) fn examine(
     alloc: Global,
     memory: &[ImageBlock],

@@ -1,4 +1,8 @@
 //! Paths of field numbers from the root of an image, on which no word is at fault.
+//!
+//! A path is a list of field numbers from the root. A walk goes along it, through the leaves of the
+//! subvalues of data types on it. `agreed` has the program's types and their layouts, and `steps`
+//! counts the words that are read.
 
 ghost use Rattle.std.specs.Prelude.{◌+◌, ◌<◌, ◌≤◌, IfErr, IfOk, OnOk, length};
 ghost use Rattle.rb_core.specs.TypedPrograms.{IsTyped};

@@ -1,4 +1,7 @@
 //! Words of an image, by where they are kept.
+//!
+//! A word of a block is known by the block's address, its base, and its byte there; a root word, at
+//! base 0, by its number.
 
 ghost use Rattle.std.specs.Prelude.{◌≡◌, ℕ, IfOk, OnOk};
 ghost use Rattle.rb_image.specs.inner.Checking.{has_word, is_kept_at, with_word};

@@ -1,4 +1,10 @@
 //! What stands at a path of an image.
+//!
+//! A path is a list of field numbers from the root of the value. A walk along it comes to the
+//! leaves of the subvalues of data types on it. It ends at the root of such a leaf, where the
+//! subvalue has words of its own, or inside a leaf, at an integer or at a constructor that the leaf
+//! has taken apart. `agreed` has the program's types and their layouts, and `steps` counts the
+//! words that are read.
 
 ghost use Rattle.std.specs.Prelude.{◌≡◌, ◌⊎◌, ◌+◌, ◌<◌, ◌≤◌, ℕ, List, IfErr, IfOk, length};
 ghost use Rattle.rb_core.specs.declared.types.DataDecl.{DataDecl};
@@ -44,8 +50,8 @@ fn tell_short(agreed: &Agreed)
     let _ = agreed.layouts();
 }
 
-// The words of what stands at the end of a walk: as they are held, or, inside a leaf, of an integer
-// or rebuilt.
+// The words of what stands at the end of a walk: those of the subvalue at the root of a leaf, as
+// they are held; or those that `rebuild` gives of what stands inside a leaf, with its errors.
 fn words_there(
     alloc: Global,
     agreed: &Agreed,
@@ -83,7 +89,8 @@ fn peek_integer(alloc: Global, bits: u8, image: &Image, path: &[u32]) -> Result<
     })
 }
 
-// What stands at a path from a value of a data type.
+// What stands at a path from the value of the data type `ty` at the root words, with the errors of
+// `follow_path`, and of `rebuild` where the path ends inside a leaf.
 fn peek_data<L: Ledger>(
     alloc: Global,
     agreed: &Agreed,

@@ -1,4 +1,11 @@
 //! Values that a leaf has taken apart, rebuilt in the layout of their own type.
+//!
+//! A position is what a leaf's provenance, its pattern, has at a path, a list of field numbers from
+//! the leaf's root. It is open where any value may stand there, which has words of its own; where
+//! the pattern has a constructor, the leaf has taken the value apart: its fields stand in parts of
+//! the leaf. A view is a position with the leaf and its words. `agreed` has the program's types and
+//! their layouts. An error of a private function is the fault of a value whose leaf has to be
+//! known, or `Memory`: want of memory, or what does not occur where types and layouts agree.
 
 ghost use Rattle.std.specs.Prelude.{◌≡◌, ◌∷◌, [], IfOk, Ok};
 ghost use Rattle.rb_image.specs.Given.{IsGiven};
@@ -36,7 +43,8 @@ pub(crate) fn numbers_of(alloc: Global, words: &[Kept]) -> Result<Seq<u64>, Allo
     Ok(numbers)
 }
 
-// The one word of an integer. No integer has more than 64 bits.
+// The one word of the integer of so many bits at a position. No integer has more than 64 bits; for
+// more the error is `Memory`.
 fn integer_word(alloc: Global, image: &Image, bits: u8, view: &View) -> Result<Seq<u64>, ImageFault>
     requires placed { AreInPlace image.now.blocks }
     requires shown { IsShown image.now.blocks view.now }
@@ -100,7 +108,7 @@ fn rebuild_within<'a>(
 }
 
 // The paths and words of what stands at these positions below the view, which are those that a leaf
-// leaves open.
+// leaves open, where values may be rebuilt `depth` levels deep.
 #[cycle(rebuilding)]
 fn fields_at<'a>(
     alloc: Global,
@@ -126,7 +134,8 @@ fn fields_at<'a>(
     Ok(fields)
 }
 
-// The words of what stands at the end of a path of field numbers from a position on.
+// The words of what stands at the end of a path of field numbers from a position on, where values
+// may be rebuilt `depth` levels deep.
 #[cycle(rebuilding)]
 fn words_along<'a>(
     alloc: Global,
@@ -148,7 +157,7 @@ fn words_along<'a>(
 }
 
 // The words of what stands at a position: of an integer, of a value that stands open there, or of
-// one that is rebuilt, as are all that the leaf has taken apart.
+// one that is rebuilt, as are all that the leaf has taken apart, `depth` levels deep at most.
 #[cycle(rebuilding)]
 fn words_at<'a>(
     alloc: Global,

@@ -1,4 +1,10 @@
 //! The leaf to which the splits of a layout lead, read on words of an image.
+//!
+//! A split is a node of a layout's tree: the bits at its location decide on the arm to take. A
+//! location is a range of a word of the value, and steps from there, each over a pointer to a range
+//! of a word in a block. A range is bits of a word with where the word is kept: in the block that
+//! begins at `base`, or, at base 0, among the root words. `memory` has the image's blocks and
+//! `words` are those of the value.
 
 ghost use Rattle.std.specs.Prelude.{◌≡◌};
 ghost use Rattle.rb_image.specs.Splits.{leaf_at, pointed_from, range_at, range_of, step_over, word_at};
@@ -13,8 +19,8 @@ use rb_image_text::fault::ImageFault;
 use rb_image_text::image::ImageBlock;
 use rb_layout::layout::FlatTree;
 
-/// The address to which a pointer may lead that is kept in the block at `base`, 0 for a root word: any from a root
-/// word, a lower one from a block.
+/// The address to which a pointer may lead that is kept in the block at `base`, 0 for a root word:
+/// any of 64 bits from a root word, a lower one from a block; none for any other.
 pub(crate) fn pointed_from(base: u64, address: u128) -> Option<u64>
     ensures { result ≡ pointed_from base address }
 {
@@ -29,8 +35,8 @@ pub(crate) fn pointed_from(base: u64, address: u128) -> Option<u64>
     }
 }
 
-/// The word to which a step leads from the pointer in a range, or `BadPointer` where it leads to
-/// none.
+/// The word to which a step of a location leads from the pointer in a range: `BadPointer` where it
+/// leads to none, or, from within a block, not below that block.
 pub(crate) fn step_over(memory: &[ImageBlock], range: Kept, step: Step) -> Result<Kept, ImageFault>
     requires placed { AreInPlace memory.now }
     ensures { result ≡ step_over memory.now range step }
@@ -88,7 +94,8 @@ fn range_at(memory: &[ImageBlock], words: &[Kept], loc: &Loc) -> Result<Kept, Im
     Ok(range)
 }
 
-/// The number of the leaf to which a tree of splits leads, or the first fault on the way.
+/// The number of the leaf to which a tree of splits leads, or the first fault on the way: `BadBits`
+/// where no arm of a split takes its bits, or `BadPointer` of a location.
 pub(crate) fn leaf_at(
     memory: &[ImageBlock],
     words: &[Kept],

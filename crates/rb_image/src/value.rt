@@ -1,4 +1,10 @@
 //! The values of images.
+//!
+//! An image is root words and blocks of a memory. It is sound for a type if the root words fit the
+//! type, and neither the value that is to stand there nor any subvalue below has a fault; it holds
+//! a value if the root words represent one, and pointers in blocks lead to lower addresses only.
+//! `agreed` has the program's types and their layouts. A node of a value is a constructor or an
+//! integer in it.
 
 ghost use Rattle.std.specs.Prelude.{◌≤◌, IfErr, IfOk};
 ghost use Rattle.rb_coding.specs.Decoding.{AreOf};
@@ -48,7 +54,7 @@ fn images_descend(agreed: &Agreed)
 }
 
 // The value of an image that is sound, decoded in a memory in which its blocks stand, if it has at
-// most `limit` nodes.
+// most `limit` nodes; else the error is `ImageTooLarge`, or want of memory.
 fn value_of(
     alloc: Global,
     agreed: &Agreed,

@@ -1,4 +1,9 @@
 //! Positions in leaves, the words of which were read.
+//!
+//! A position is what a leaf's provenance, its pattern, has at a path, a list of field numbers from
+//! the leaf's root. A part is a range of one of the leaf's words, and a spot is a part with the
+//! word that it is of. `image` has the blocks from which the words were read; `layouts` are those
+//! of the program's types, by number.
 
 ghost use Rattle.std.specs.Prelude.{◌≡◌, ◌++◌, ◌∷◌, [], ◌≤◌, IfOk, IfSome};
 ghost use Rattle.rb_image.specs.Parts.{field_word, field_words};
@@ -31,8 +36,8 @@ pub struct View<'a> {
 }
 
 impl<'a> View<'a> {
-    // A word of the field that stands here: the bits of the first part that holds it, or the number
-    // 0 where none does.
+    // Word `number` of the field that stands here: the bits of the first of the spots in `order`
+    // that holds it, or the number 0 where none does.
     fn word(&self, image: &Image, order: &[Spot], number: u64) -> Kept
         requires placed { AreInPlace image.now.blocks }
         requires shown { IsShown image.now.blocks self.now }
@@ -52,7 +57,8 @@ impl<'a> View<'a> {
         }
     }
 
-    /// The words of the value of a data type that stands here.
+    /// The words of the value of the data type `ty` that stands open here, as many as its layout
+    /// says.
     pub(crate) fn words_here(
         &self,
         alloc: Global,
@@ -89,7 +95,8 @@ impl<'a> View<'a> {
         integer_at(alloc, image, self.leaf, self.words, self.at, bits)
     }
 
-    /// The position of a field of the constructor here, where there is one: `at` is its path.
+    /// The position of a field of the constructor here, whose path is `at`; none where no
+    /// constructor stands here, or it has no such field.
     pub(crate) fn down<'b>(
         &'b self,
         image: &Image,

@@ -1,4 +1,8 @@
 //! One subvalue of an image's value: its leaf, and the words of it.
+//!
+//! A site says where bits stand: a range of a root word of the image, or of a word of a block. The
+//! sites of a subvalue are those of its words, which are the root words of its leaf. `steps` counts
+//! the words that are read.
 
 ghost use Rattle.std.specs.Prelude.{◌≡◌, ◌⊎◌, ◌+◌, ◌≤◌, Err, IfErr, IfOk, None, OnOk, Some, length, map};
 ghost use Rattle.rb_layout.specs.Readable.{IsReadable};

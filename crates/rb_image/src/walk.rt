@@ -1,4 +1,10 @@
 //! The walk along a path, from a subvalue of an image's value to one of its parts.
+//!
+//! A path is a list of field numbers. A site says where bits stand, in a root word or in a block. A
+//! position is what a leaf's provenance, its pattern, has at a path from its root: open, where any
+//! value may stand, or a constructor with fields in the same leaf, or an integer. In all that
+//! follows `agreed` has the program's types and their layouts, `walk` is how far one has come, and
+//! `steps` counts the words that are read.
 
 ghost use Rattle.std.specs.Prelude.{◌≡◌, ◌<◌, ◌+◌, ◌≤◌, IfOk, Some, length, map};
 ghost use Rattle.rb_core.specs.declared.types.Ty.TheVariants.{Named};
@@ -62,7 +68,8 @@ fn data_of(ty: Ty) -> Option<u32>
     }
 }
 
-/// The data type of a position at which any value of it may stand.
+/// The data type of a position at which any value of it may stand; none for an integer, or where
+/// the pattern has a number or a constructor.
 pub(crate) fn open_data(here: Inside) -> Option<u32>
     ensures { result ≡ spec.open_data (position_of here.entry) }
 {
@@ -74,7 +81,8 @@ pub(crate) fn open_data(here: Inside) -> Option<u32>
     }
 }
 
-// The subvalue of a data type that stands at these sites: its leaf is found and read.
+// The subvalue of the data type `ty` that stands at these sites: its leaf is found and read. An
+// error is that of `visit`.
 fn see<'a, L: Ledger>(
     alloc: Global,
     agreed: &'a Agreed,
@@ -121,7 +129,8 @@ fn arrive<'a>(before: Vec<Passed<'a>>, last: Passed<'a>) -> Walk<'a>
 }
 
 // From a position at which any value of the data type `ty` may stand on to the root of that value's
-// own leaf.
+// own leaf. An error is `BadPointer` for a refused pointer on the way to its words, or that of
+// `visit`.
 fn settle<'a, L: Ledger>(
     alloc: Global,
     agreed: &'a Agreed,
@@ -155,7 +164,9 @@ fn settle<'a, L: Ledger>(
     Ok(arrive(before, next))
 }
 
-// To a field of the constructor that was found. A step that names none has this number in the path.
+// To a field of the constructor that was found, and into the value there if it stands open. The
+// step has this number in the path; where it names no field, the error is `NoSuchPart` with it,
+// else that of `settle`.
 fn step<'a, L: Ledger>(
     alloc: Global,
     agreed: &'a Agreed,

@@ -1,4 +1,11 @@
 //! Pointers on the way to what stands at a path of a leaf.
+//!
+//! A path is a list of field numbers from the leaf's root. A part is a range of one of the leaf's
+//! words, of a kind: a constant, bits or a word of a field, or a pointer to one of the leaf's
+//! blocks. A spot is a part with the word that it is of. A pointer is on the way to what stands at
+//! a path where a part behind it holds a field at the path or below; it is refused where it leads
+//! to no block of the leaf's size, or, from within a block, not below that block. `memory` has the
+//! image's blocks.
 
 ghost use Rattle.std.specs.Prelude.{◌≡◌, IfOk};
 ghost use Rattle.std.specs.List.{list_any};
@@ -19,7 +26,7 @@ use rb_image_text::image::{Image, ImageBlock};
 use rb_layout::layout::{Kind, Leaf};
 use std::alloc::{AllocError, Global};
 
-// Whether a part holds a word or bits of a field whose path begins with this one.
+// Whether a part of this kind holds a word or bits of a field whose path begins with this one.
 fn is_below(path: &[u32], kind: &Kind) -> bool
     ensures { result ≡ spec.is_below path.now kind.now }
 {
@@ -43,7 +50,8 @@ fn any_below(path: &[u32], order: &[Spot]) -> bool
     false
 }
 
-/// Whether a part holds a word or bits of a field whose path begins with this one, or one of those behind it does.
+/// Whether a part of this kind holds a word or bits of a field whose path begins with this one, or
+/// is a pointer and one of the parts behind it does.
 pub(crate) fn leads_below(
     alloc: Global,
     leaf: &Leaf,
@@ -64,7 +72,8 @@ pub(crate) fn leads_below(
     }
 }
 
-/// The fault of a part with these bits, if it is a pointer that is refused; none for other parts.
+/// The fault of a part of this kind with these bits, if it is a pointer that is refused:
+/// `BadPointer`; none for other parts.
 pub(crate) fn refusal_of(
     memory: &[ImageBlock],
     leaf: &Leaf,
@@ -86,7 +95,8 @@ pub(crate) fn refusal_of(
     }
 }
 
-// The fault of a part, if it is a pointer on the way to what stands at a path or below it.
+// The fault of a part, if it is a pointer on the way to what stands at a path or below it and is
+// refused; else none.
 fn refused_at(
     alloc: Global,
     image: &Image,

@@ -1,4 +1,7 @@
 //! Words of an image, read one at a time.
+//!
+//! A base is the address at which a block begins, or 0 for the root words. `steps` counts the words
+//! that are read.
 
 ghost use Rattle.std.specs.Prelude.{◌≡◌, ◌+◌};
 ghost use Rattle.rb_image.specs.WordReads.{read_of};
