@@ -1,4 +1,7 @@
--- The words that the splits of a layout ask for on the way to a leaf.
+-- The words that the splits of a layout ask for on the way to a leaf. A split is a node of a layout's tree: the bits
+-- at its location decide on the arm to take. A location is a range of a word of the value, and steps from there,
+-- each over a pointer to a range of a word in a block. A range is bits of a word, with where the word is kept. m has
+-- the blocks of an image, and ws are the words of the value.
 use Rattle.std.specs.Prelude.{nat_eq, List, [], ◌∷◌, ◌++◌, Option, Some, None, Result, Ok, Err, if◌then◌else◌}
 use Rattle.rb_core.specs.declared.layout_decl.Loc.{Loc}
 use Rattle.rb_core.specs.declared.layout_decl.Step.{Step}
@@ -18,7 +21,7 @@ abbrev pub if_found : {A B : Type 0} → Result A ImageFault → (A → List B) 
 if_found (Err fault) go = []
 if_found (Ok x) go = go x
 
--- the bits to which the steps of a location lead from a range, as far as one comes
+-- the bits to which the steps of a location lead from a range, up to the first pointer that is refused
 abbrev pub ranges_after : List ImageBlock → Kept → List Step → List Kept
 ranges_after m range [] = []
 ranges_after m range (s ∷ ss) =
@@ -56,7 +59,8 @@ asked_step (T.Leaf n) m ws = []
 abbrev pub asked_arm : FlatArm-F Asking (Under Asking) → Under Asking
 asked_arm arm = record { literal = arm.literal; of = arm.under }
 
--- the bits that the splits read on the way to a leaf, outer splits before inner ones
+-- the bits that the splits of a tree read on the way to a leaf, outer splits before inner ones; up to a pointer that
+-- is refused, or a split that no arm takes
 abbrev pub asked_by : FlatTree → Asking
 asked_by = fold-FlatTree Asking (Under Asking) asked_step asked_arm
 

@@ -1,9 +1,10 @@
--- The block of an image that begins at an address, and the words in it.
+-- The block of an image that begins at an address, and the words in it. The blocks of an image are given in their
+-- order, each by its address and its bytes.
 use Rattle.std.specs.Prelude.{ℕ, ◌+◌, ◌/◌, ◌==◌, ◌||◌, nat_eq, nat_le, List, [], ◌∷◌, length, Bool, Option, Some, None, slice_range, if◌then◌else◌}
 use Rattle.rb_bits.specs.LittleEndian.{from_le_bytes}
 use Rattle.rb_image_text.specs.declared.image.ImageBlock.{ImageBlock}
 
--- the first of the blocks that begins at an address
+-- the first of the blocks that begins at an address, none where no block does
 abbrev pub block_at : List ImageBlock → ℕ → Option ImageBlock
 block_at [] address = None
 block_at (b ∷ bs) address = if nat_eq b.at address then Some b else block_at bs address
@@ -21,7 +22,7 @@ size_at blocks address = size_in (block_at blocks address)
 abbrev pub is_width : ℕ → Bool
 is_width width = (width == 8) || ((width == 16) || ((width == 32) || (width == 64)))
 
--- the number in so many bytes from one on, the lowest byte first, where there are so many
+-- the number in `count` of these bytes from number `byte` on, the lowest byte first; none where there are fewer
 abbrev pub number_in_block : List ℕ → ℕ → ℕ → Option ℕ
 number_in_block bytes byte count =
     if nat_le (byte + count) (length bytes) then Some (from_le_bytes (slice_range bytes byte (byte + count))) else None

@@ -1,5 +1,7 @@
 -- Words that represent a value from which all pointers fall, and that the images of such words are sound. A pointer
--- falls where it leads to a lower address than that of the block in which it is kept, or is kept in no block.
+-- falls where it leads to a lower address than that of the block in which it is kept, or is kept in no block. A word
+-- of a leaf is one of its root, or one of a block, which is given by the block's number. `from j` is the address of
+-- the block in which root word j is kept, 0 for none, and `ats b` that of the leaf's block b.
 use Rattle.std.specs.Prelude.{◌≡◌, ◌⊎◌, ℕ, ◌^◌, ◌<◌, List, [], ◌∷◌, false, Option, Some, None, slice_get}
 use Rattle.rb_core.specs.declared.program.Program.{Program}
 use Rattle.rb_core.specs.declared.types.DataDecl.{DataDecl}

@@ -1,5 +1,7 @@
 -- The sites at which the words of a leaf's field stand. A site says where in an image bits are: a range of a root
--- word, or of a word of a block.
+-- word, or of a word of a block. A field is the subvalue at a path, a list of field numbers from the leaf's root. A
+-- part is a range of a word of the leaf. `ats` has the addresses of the leaf's blocks by number, 0 for one that is
+-- not known.
 use Rattle.std.specs.Prelude.{◌≡◌, ℕ, ◌+◌, ◌^◌, ◌<◌, ◌≤◌, List, length, map, Some, slice_get}
 use Rattle.rb_core.specs.declared.program.Program.{Program}
 use Rattle.rb_core.specs.TypedPrograms.{IsTyped}

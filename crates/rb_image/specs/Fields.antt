@@ -1,4 +1,6 @@
--- The fields of a position inside a leaf's provenance.
+-- The fields of a position inside a leaf's provenance. A position is what a leaf's provenance, its pattern of
+-- values, has somewhere below its root, and the type of the subvalue there. `types` are the declared types; fields
+-- are counted from 0.
 use Rattle.std.specs.Prelude.{ℕ, List, Option, Some, None, slice_get}
 use Rattle.rb_core.specs.declared.pattern.Pat.{Pat, out-Pat}
 use Rattle.rb_core.specs.declared.pattern.Pat.TheOpen as P

@@ -1,4 +1,5 @@
--- That the words which are given of a part of a value represent it.
+-- That the words which are given of a part of a value represent it. A path is a list of field numbers from the value
+-- at the root words.
 use Rattle.rb_core.specs.declared.program.Program.{Program}
 use Rattle.rb_core.specs.declared.types.Ty.{Ty}
 use Rattle.rb_core.specs.declared.value.Value.{Value}

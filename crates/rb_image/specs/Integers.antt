@@ -1,4 +1,7 @@
--- The integers of a leaf, bit by bit.
+-- The integers of a leaf, bit by bit. A part is a range of a word of the leaf: a constant, bits or a word of a
+-- field, or a pointer to one of the leaf's blocks. Several parts may hold one integer, each a range of its bits:
+-- `Bits path a` holds those from bit a on. A path is a list of field numbers from the leaf's root. m has the blocks
+-- of an image.
 use Rattle.std.specs.Prelude.{ℕ, zero, suc, ◌+◌, ◌-◌, ◌*◌, List, [], ◌∷◌, if◌then◌else◌}
 use Rattle.std.specs.Int.{bit_at}
 use Rattle.rb_core.specs.declared.types.Ty.{Ty}
@@ -17,14 +20,16 @@ abbrev pub numbered : ℕ → (ℕ → ℕ) → ℕ
 numbered zero f = 0
 numbered (suc n) f = f 0 + 2 * numbered n (λ i. f (suc i))
 
--- bit i of an integer, where v is the number in the bits of a part that holds it
+-- bit i of an integer, where v is the number in the bits of a part of this kind that holds it; 0 for a part that
+-- holds none of an integer
 abbrev pub bit_in : ℕ → ℕ → Kind → ℕ
 bit_in v i (Const c) = 0
 bit_in v i (Bits path a) = bit_at v (i - a)
 bit_in v i (Word path j) = 0
 bit_in v i (Pointer align b) = 0
 
--- bit i of the integer at a path: that of the first part which holds it, where parts have these numbers
+-- bit i of the integer at a path, of this type: that of the first of these parts which holds it, where `value` gives
+-- the number in the bits of each; 0 where none does
 abbrev pub field_bit : (PartAt → ℕ) → Ty → List PartAt → List ℕ → ℕ → ℕ
 field_bit value ty [] path i = 0
 field_bit value ty (s ∷ ss) path i =
@@ -34,6 +39,6 @@ field_bit value ty (s ∷ ss) path i =
 abbrev pub value_in : List ImageBlock → LeafWords → PartAt → ℕ
 value_in m words s = (bits_at m words.root.items words.addresses.items s).number
 
--- the integer of so many bits at a path of a leaf, the words of which were read
+-- the integer of so many bits at a path of a leaf, the words of which were read; a bit that no part holds is 0
 abbrev pub integer_at : List ImageBlock → Leaf → LeafWords → List ℕ → ℕ → ℕ
 integer_at m leaf words path bits = numbered bits (field_bit (value_in m words) (Int bits) (order_of leaf) path)

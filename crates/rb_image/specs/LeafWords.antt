@@ -1,4 +1,8 @@
--- What is read of a leaf: its root words, the addresses of the blocks to which its pointers lead, and the words there.
+-- What is read of a leaf: its root words, the addresses of the blocks to which its pointers lead, and the words
+-- there. A part is a range of a word of the leaf: a constant, bits or a word of a field, or a pointer to one of the
+-- leaf's blocks. A pointer is refused where it leads to no block of the size that the leaf's block has, or, from
+-- within a block, not below that block. m has the blocks of an image, ws are the words of the leaf's root, and ats
+-- the addresses of its blocks by number, 0 for one that is not known.
 use Rattle.std.specs.Prelude.{◌≡◌, ℕ, ◌+◌, ◌/◌, ◌==◌, List, [], ◌∷◌, length, replicate, Option, Some, None, Result, Ok, Err, slice_get, slice_index, slice_set, if◌then◌else◌, unwrap_or}
 use Rattle.std.specs.List.{sum_by}
 use Rattle.std.specs.declared.alloc.Global.{Global}
@@ -19,12 +23,13 @@ use Rattle.rb_image.specs.Parts.{bits_at, followed}
 
 -- Addresses ----------------------------------------------------------------------------------
 
--- the addresses of a leaf's blocks, with that of block b if it was found
+-- the addresses of a leaf's blocks, with that of block b if it was found; as they are where it is a fault
 abbrev pub with_found : List ℕ → ℕ → Result ℕ ImageFault → List ℕ
 with_found ats b (Err fault) = ats
 with_found ats b (Ok at) = slice_set ats b at
 
--- a pointer gives the address of its block, unless that is known; other parts give none
+-- the addresses of a leaf's blocks, with that of the block to which a part of this kind with these bits points,
+-- unless it is known or the pointer is refused; as they are for a part that is no pointer
 abbrev pub follow_kind : List ImageBlock → Leaf → List ℕ → Kept → Kind → List ℕ
 follow_kind m leaf ats bits (Const c) = ats
 follow_kind m leaf ats bits (Bits path a) = ats

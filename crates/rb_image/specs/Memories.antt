@@ -1,4 +1,6 @@
--- The memory in which exactly the blocks of an image stand, and memories in which they stand among others.
+-- The memory in which exactly the blocks of an image stand, and memories in which they stand among others. An
+-- image's block has an address and bytes; a memory has the blocks that were placed in it, each with its size, what
+-- is written at each of its addresses, the next free address, and a limit.
 use Rattle.std.specs.Prelude.{◌≡◌, ℕ, ◌+◌, ◌-◌, List, [], ◌∷◌, ◌++◌, length, map, replicate, Option, Some, None, slice_get}
 use Rattle.rb_bytes.specs.Memory.{Memory, byte_at, most_region, size_at}
 use Rattle.rb_image_text.specs.declared.image.ImageBlock.{ImageBlock}

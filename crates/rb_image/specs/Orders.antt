@@ -1,4 +1,6 @@
--- The order in which the parts of a leaf are examined.
+-- The order in which the parts of a leaf are examined. A part is a range of a word of a leaf: a constant, bits or a
+-- word of a field, or a pointer to one of the leaf's blocks. The offset of a part is its first bit, in bits; `byte`
+-- is where a word begins in its block, in bytes. `block` is the number of a leaf's block, or none for the root.
 use Rattle.std.specs.Prelude.{ℕ, zero, suc, ◌+◌, ◌/◌, ◌==◌, List, [], ◌∷◌, ◌++◌, filter, length, Option, Some, None}
 use Rattle.std.specs.List.{flat_map}
 use Rattle.rb_layout.specs.declared.layout.Leaf.{Leaf}
@@ -55,7 +57,8 @@ words_order inner block j byte [] = []
 words_order inner block j byte (f ∷ fs) =
     word_order inner block j byte f ++ words_order inner block (j + 1) (byte + f.width / 8) fs
 
--- the parts of a block, and of those that it leads to through fewer than `depth` pointers more
+-- the parts of the block with a number, and of those that it leads to through fewer than `depth` pointers; none at
+-- depth 0, or where there is no such block
 abbrev pub block_order : Leaf → ℕ → ℕ → List PartAt
 block_order leaf zero b = []
 block_order leaf (suc depth) b = words_order (block_order leaf depth) (Some b) 0 0 (words_in leaf (Some b))

@@ -1,4 +1,7 @@
--- That words which are packed from words of fields represent the value whose fields these are.
+-- That words which are packed from words of fields represent the value whose fields these are. A leaf of a layout
+-- has a provenance, the pattern of its values, and its field at an open position, where any value may stand, is
+-- given by a path of field numbers and the words there. Words represent a value cleanly if the bits that no part
+-- says anything of are 0.
 use Rattle.std.specs.Prelude.{◌≡◌, ℕ, List, [], Bool, Some, slice_get}
 use Rattle.rb_core.specs.declared.program.Program.{Program}
 use Rattle.rb_core.specs.declared.types.Ty.TheVariants.{Named}

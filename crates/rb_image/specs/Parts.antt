@@ -1,4 +1,9 @@
--- The parts of a leaf, examined on words of an image, and the places below it.
+-- The parts of a leaf, examined on words of an image, and the places below it. A part is a range of a word of the
+-- leaf: a constant, bits or a word of a field, or a pointer to one of the leaf's blocks. A position is what a leaf's
+-- provenance, its pattern of values, has at a path, a list of field numbers from its root; it is open where the
+-- pattern is a wildcard or a name, so that any value may stand there. m has the blocks of an image, ws are the words
+-- of the place, so of the leaf's root, and ats the addresses of the leaf's blocks by number, 0 for one that is not
+-- known.
 use Rattle.std.specs.Prelude.{ℕ, zero, suc, ◌+◌, ◌*◌, ◌==◌, ◌&&◌, List, [], ◌∷◌, length, map, replicate, Bool, false, Option, Some, None, Result, Ok, Err, slice_get, slice_index, slice_set, if◌then◌else◌, unwrap_or}
 use Rattle.std.specs.List.{flat_map}
 use Rattle.rb_core.specs.declared.types.Ty.{Ty}
@@ -61,8 +66,9 @@ followed m leaf bits align b =
     let at = bits.number * align in
     or_fault (block_from m (pointed_from bits.base at) (block_size (slice_get leaf.blocks b))) (BadPointer bits.base at)
 
--- the addresses of blocks once a part is examined: a constant is its number, and a pointer leads to a block of the size
--- of the leaf's block
+-- the addresses of a leaf's blocks, `ats` before, once a part of this kind with these bits is examined: a constant
+-- is its number, and a pointer leads to a block of the size of the leaf's block, whose address is noted; or the
+-- fault where it is not so
 abbrev pub examine_kind : List ImageBlock → Leaf → List ℕ → Kept → Kind → Result (List ℕ) ImageFault
 examine_kind m leaf ats bits (Bits path a) = Ok ats
 examine_kind m leaf ats bits (Word path j) = Ok ats

@@ -1,4 +1,7 @@
 -- The words of what stands at the end of a path, and that they are those of a part of the value that an image holds.
+-- A path is a list of field numbers from the root words. A walk along it comes to the leaves of the subvalues on it;
+-- it ends at the root of such a leaf, or inside one at a position: what the leaf's provenance, its pattern, has
+-- there. m has the blocks of an image.
 use Rattle.std.specs.Prelude.{◌≡◌, ◌⊎◌, ℕ, false, List, [], ◌∷◌, map, Some, Result, Ok}
 use Rattle.rb_core.specs.declared.pattern.Pat.{Pat, out-Pat}
 use Rattle.rb_core.specs.declared.pattern.Pat.TheOpen as P

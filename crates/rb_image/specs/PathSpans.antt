@@ -1,5 +1,7 @@
 -- The types of the subvalues on a path, and that the spans of these are enough for a walk along it. The span of a
--- type bounds how many words are read to look at one value of it.
+-- type bounds how many words are read to look at one value of it. A walk goes along a path of field numbers through
+-- the leaves of the subvalues on it, and ends early at a fault. m has the blocks of an image, and ws are the words
+-- of the first subvalue.
 use Rattle.std.specs.Prelude.{ℕ, ◌+◌, ◌≤◌, List, [], ◌∷◌, ◌++◌, Option, Some, None}
 use Rattle.std.specs.List.{sum_by}
 use Rattle.rb_core.specs.declared.program.Program.{Program}

@@ -1,4 +1,11 @@
--- The words of an image that lie on a path of field numbers from its root, and the faults that they have.
+-- The words of an image that lie on a path of field numbers from its root, and the faults that they have. A part is
+-- a range of a word of the leaf: a constant, bits or a word of a field, or a pointer to one of the leaf's blocks. A
+-- word is kept in the block that begins at its base, from byte `place` on, or, at base 0, as the root word with the
+-- number `place`. A subvalue is of a data type, with a leaf of its own; a walk goes from one to the next. What comes
+-- next on the path is what stands in a leaf at the path along which the walk goes on there. A pointer is refused
+-- where it leads to no block of the size that the leaf's block has, or, from within a block, not below that block. m
+-- has the blocks of an image, ws are the words of a leaf's root, and ats the addresses of its blocks by number, 0
+-- for one that is not known.
 use Rattle.std.specs.Prelude.{◌≡◌, ◌⊎◌, ℕ, ◌==◌, ◌&&◌, not, List, [], ◌∷◌, ◌++◌, length, Bool, true, Option, Some, None, Result, Ok, Err, slice_get, slice_index, if◌then◌else◌}
 use Rattle.std.specs.List.{flat_map}
 use Rattle.rb_core.specs.declared.types.DataDecl.{DataDecl}

@@ -1,4 +1,6 @@
--- What stands at a path of an image: its type and its words, or why there is none.
+-- What stands at a path of an image: its type and its words, or why there is none. A path is a list of field numbers
+-- from the value at the root words. A walk along it ends at the root of a leaf, or inside one: at an integer, or at
+-- a constructor, which the leaf has taken apart, and which is rebuilt in the layout of its own type.
 use Rattle.std.specs.Prelude.{◌≡◌, ◌⊎◌, ℕ, List, [], ◌∷◌, Result, Ok, Err}
 use Rattle.rb_core.specs.declared.types.DataDecl.{DataDecl}
 use Rattle.rb_core.specs.declared.types.Ty.{Ty}

@@ -1,4 +1,5 @@
--- What reading the value that an image holds comes to.
+-- What reading the value that an image holds comes to. The nodes of a value are counted, and `limit` is the most
+-- that are taken. A fault is the image's own, or `ImageTooLarge`.
 use Rattle.std.specs.Prelude.{◌≡◌, ◌⊎◌, ◌<◌, ◌≤◌, ℕ, List, Result, Ok, Err}
 use Rattle.rb_core.specs.declared.program.Program.{Program}
 use Rattle.rb_core.specs.declared.types.Ty.{Ty}

@@ -1,4 +1,9 @@
--- Values that a leaf has taken apart, rebuilt in the layout of their own type.
+-- Values that a leaf has taken apart, rebuilt in the layout of their own type. A position is what a leaf's
+-- provenance, its pattern of values, has at a path, a list of field numbers from its root; it is open where the
+-- pattern is a wildcard or a name, so that any value may stand there. Where the pattern has a constructor, the leaf
+-- has taken the value apart: its fields stand in parts of the leaf. Here x is a position with its leaf and the words
+-- of that, m has the blocks of an image, and `Memory` is the fault where there is no leaf, field or level to go on
+-- with.
 use Rattle.std.specs.Prelude.{ℕ, zero, suc, ◌+◌, ◌==◌, ◌&&◌, List, [], ◌∷◌, length, map, Bool, true, false, Option, Some, None, Result, Ok, Err, if◌then◌else◌}
 use Rattle.rb_core.specs.declared.pattern.Pat.{Pat, out-Pat, fold-Pat}
 use Rattle.rb_core.specs.declared.pattern.Pat.TheOpen as P

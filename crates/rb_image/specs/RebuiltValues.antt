@@ -1,4 +1,8 @@
--- That what is rebuilt represents the part of a value that was taken apart.
+-- That what is rebuilt represents the part of a value that was taken apart. A position is what a leaf's provenance,
+-- its pattern of values, has at a path, a list of field numbers from its root; it is open where the pattern is a
+-- wildcard or a name, so that any value may stand there. Where the pattern has a constructor, the leaf has taken the
+-- value apart: its fields stand in parts of the leaf. The words that are rebuilt are those in the layout of its own
+-- type.
 use Rattle.std.specs.Prelude.{◌≡◌, ℕ, ◌++◌, List, Bool, true, false, Some, Result, Ok, Err, slice_get}
 use Rattle.std.specs.List.{list_all}
 use Rattle.rb_core.specs.declared.pattern.Pat.{Pat, fold-Pat}

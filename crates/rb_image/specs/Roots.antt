@@ -1,4 +1,6 @@
--- Root words: whether they fit a type, and what an image comes to that they begin.
+-- Root words: whether they fit a type, and what an image comes to that they begin. A word fits a width if it has at
+-- most so many bits. A place is the number of a data type, and the words at which a value of it is to stand. It is
+-- sound if neither it nor a place that one comes to from it has a fault.
 use Rattle.std.specs.Prelude.{◌≡◌, ◌⊎◌, ℕ, ◌+◌, ◌<◌, ◌^◌, List, [], ◌∷◌, Option, Some, None, slice_get}
 use Rattle.rb_core.specs.declared.types.Ty.{Ty}
 use Rattle.rb_core.specs.declared.types.Ty.TheVariants.{Int, Named}

@@ -1,4 +1,5 @@
 -- What stands at a site of an image. A site says where bits are: a range of a root word, or of a word of a block.
+-- `place` is the number of a root word, at base 0, or a byte in the block that begins at the base.
 use Rattle.std.specs.Prelude.{unwrap_or}
 use Rattle.rb_image_text.specs.declared.image.Image.{Image}
 use Rattle.rb_image.specs.declared.kept.Kept.{Kept}

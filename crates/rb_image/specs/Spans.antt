@@ -1,4 +1,7 @@
--- Spans: the numbers from which bounds are made on how many words of an image are read to look at one value by itself.
+-- Spans: the numbers from which bounds are made on how many words of an image are read to look at one value by
+-- itself. A location of a split has steps, each over a pointer to a block. A leaf has flat words, in its root and
+-- its blocks, and a provenance, the pattern of its values; a constructor below the root of that is flattened into
+-- the leaf.
 use Rattle.std.specs.Prelude.{◌≡◌, ℕ, zero, suc, ◌+◌, List, length, Option, Some, None}
 use Rattle.std.specs.List.{sum_by}
 use Rattle.rb_core.specs.declared.program.Program.{Program}

@@ -1,4 +1,9 @@
--- The leaf to which the splits of a layout lead, read on words of an image, or the first fault on the way.
+-- The leaf to which the splits of a layout lead, read on words of an image, or the first fault on the way. A split
+-- is a node of a layout's tree: the bits at its location decide on the arm to take. A location is a range of a word
+-- of the value, and steps from there, each over a pointer to a range of a word in a block. A range is bits of a
+-- word, with where the word is kept: in the block that begins at the base, or, at base 0, among the root words. A
+-- pointer is refused where it leads to no word, or, from within a block, not below that block. m has the blocks of
+-- an image, and ws are the words of the value.
 use Rattle.std.specs.Prelude.{ℕ, ◌*◌, ◌==◌, ◌&&◌, ◌||◌, nat_eq, nat_lt, List, [], ◌∷◌, Option, Some, None, Result, Ok, Err, slice_index_or, if◌then◌else◌}
 use Rattle.rb_core.specs.declared.layout_decl.Loc.{Loc}
 use Rattle.rb_core.specs.declared.layout_decl.Step.{Step}
@@ -40,7 +45,7 @@ abbrev pub range_of : Kept → ℕ → ℕ → Kept
 range_of w o l = record w { number = take_of w.number o l }
 
 -- the address to which a pointer may lead that is kept in the block at `base`: any address of 64 bits from a root
--- word, at base 0, and a lower one from a block
+-- word, at base 0, and a lower one from a block; none for any other
 abbrev pub pointed_from : ℕ → ℕ → Option ℕ
 pointed_from base at = if nat_lt at 18446744073709551616 && ((base == 0) || nat_lt at base) then Some at else None
 
@@ -57,7 +62,8 @@ abbrev pub kept_in : List ImageBlock → Option ℕ → ℕ → ℕ → Option K
 kept_in m None byte width = None
 kept_in m (Some at) byte width = with_base at byte (word_in m at byte width)
 
--- the word to which a step leads from the pointer in a range, or `BadPointer` where it leads to none
+-- the word to which a step of a location leads from the pointer in a range, or `BadPointer` where it leads to none,
+-- or, from within a block, not below that block
 abbrev pub step_over : List ImageBlock → Kept → Step → Result Kept ImageFault
 step_over m range s =
     let at = range.number * s.align in
@@ -84,7 +90,8 @@ abbrev pub walk_else : Kept → Option Walk → Walk
 walk_else range None m ws = Err (BadBits range.base range.place)
 walk_else range (Some go) m ws = go m ws
 
--- the leaf under the first arm whose literal is the number in `range`, or else under the else arm
+-- the leaf under the first arm whose literal is the number in `range`, or else under the else arm, if there is one;
+-- else the fault of the word in which `range` stands
 abbrev pub walk_arms : Kept → List (Under Walk) → Option Walk → Walk
 walk_arms range [] other m ws = walk_else range other m ws
 walk_arms range (arm ∷ arms) other m ws =
@@ -99,7 +106,8 @@ walk_step (T.Leaf n) m ws = Ok n
 abbrev pub walk_arm : FlatArm-F Walk (Under Walk) → Under Walk
 walk_arm arm = record { literal = arm.literal; of = arm.under }
 
--- the leaf to which the splits lead; a split that no arm takes is the fault of the word in which its bits stand
+-- the number of the leaf to which the splits of a tree lead, or the first fault on the way; a split that no arm
+-- takes is the fault of the word in which its bits stand
 abbrev pub leaf_at : FlatTree → Walk
 leaf_at = fold-FlatTree Walk (Under Walk) walk_step walk_arm
 

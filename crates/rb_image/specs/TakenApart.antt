@@ -1,4 +1,6 @@
--- That a value without pointers is seen in its own leaf.
+-- That a value without pointers is seen in its own leaf. To see words is to find the leaf to which the splits of
+-- their type's layout lead, and its constants in them. A field stands open in the leaf where the leaf's provenance,
+-- its pattern, lets any value stand. A type has pointers if a leaf of its layout has.
 use Rattle.std.specs.Prelude.{◌≡◌, ℕ, List, [], ◌∷◌, false, Some, Ok, slice_get}
 use Rattle.rb_core.specs.declared.program.Program.{Program}
 use Rattle.rb_core.specs.declared.types.Ty.{Ty}

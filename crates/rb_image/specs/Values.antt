@@ -1,4 +1,5 @@
--- That an image that is sound for a type has a value of it.
+-- That an image that is sound for a type has a value of it. A program has declared types and layouts of them, which
+-- agree; an image has root words and blocks.
 use Rattle.std.specs.Prelude.{◌≡◌, ℕ, ◌<◌, List, length, false, Some, Ok}
 use Rattle.rb_core.specs.declared.program.Program.{Program}
 use Rattle.rb_core.specs.declared.types.DataDecl.{DataDecl}

@@ -1,4 +1,8 @@
--- Positions in leaves of which the words are known, and how one goes on from them to the positions below.
+-- Positions in leaves of which the words are known, and how one goes on from them to the positions below. A position
+-- is what a leaf's provenance, its pattern of values, has at a path, a list of field numbers from its root; it is
+-- open where the pattern is a wildcard or a name, so that any value may stand there. A value without pointers that
+-- stands open there has a leaf of its own, to which its splits lead. m has the blocks of an image; x and y are
+-- positions with their leaf and its words, and ws are the words of a value.
 use Rattle.std.specs.Prelude.{ℕ, List, [], ◌∷◌, ◌++◌, length, replicate, Option, Some, None, Result, Ok, slice_get}
 use Rattle.rb_core.specs.declared.types.DataDecl.{DataDecl}
 use Rattle.rb_core.specs.declared.types.Ty.TheVariants.{Int, Named}

@@ -1,4 +1,7 @@
--- A value's leaf in an image, and the words of it.
+-- A value's leaf in an image, and the words of it. A split chooses a leaf by bits of the value's words; a part is a
+-- range of a word of a leaf, narrow if it lies among 64 bits. Words are few and short if the root and each block
+-- have at most 64, each of at most 64 bits. m has the blocks of an image, and ws are the words of the value, so of
+-- the leaf's root.
 use Rattle.std.specs.Prelude.{◌≡◌, ℕ, ◌+◌, length, List, Option, Some, Result, Ok, slice_get}
 use Rattle.std.specs.List.{sum_by}
 use Rattle.rb_core.specs.declared.program.Program.{Program}
@@ -49,7 +52,8 @@ pub record IsVisited (m : List ImageBlock) (layout : Layout) (ws : List Kept) (x
 abbrev pub own_span : Layout → ℕ
 own_span layout = tree_span layout.tree + sum_by word_span layout.leaves
 
--- the first pointer that is refused on the way to what stands at a path of the leaf or below it
+-- the fault of the first pointer that is refused on the way to what stands at a path of the leaf or below it; none
+-- where none is
 abbrev pub first_refused : List ImageBlock → List ℕ → Visited → Option ImageFault
 first_refused m path x =
     refused_below m x.leaf.now x.words.root.items x.words.addresses.items path (order_of x.leaf.now)

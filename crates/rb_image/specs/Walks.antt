@@ -1,4 +1,8 @@
--- The subvalues along a path, from one that stands at known words of an image on.
+-- The subvalues along a path, from one that stands at known words of an image on. A path is a list of field numbers.
+-- A position is what a leaf's provenance, its pattern of values, has at a path, a list of field numbers from its
+-- root; it is open where the pattern is a wildcard or a name, so that any value may stand there. Where a data type
+-- is open, one goes on to the leaf of the value there: it is seen, that is its leaf is found by its splits. m has
+-- the blocks of an image, and ws are words of a value.
 use Rattle.std.specs.Prelude.{◌≡◌, ℕ, ◌+◌, List, [], ◌∷◌, ◌++◌, map, Option, Some, None, Result, Ok, Err, slice_get}
 use Rattle.rb_core.specs.declared.pattern.Pat.{Pat, Wild, out-Pat}
 use Rattle.rb_core.specs.declared.pattern.Pat.TheOpen as P
@@ -97,7 +101,8 @@ abbrev pub layout_at : List Layout → ℕ → Layout
 layout_at layouts t = layout_or_none (layout_of layouts t)
 
 module _ (layouts : List Layout) (m : List ImageBlock) where
-  -- the subvalue of a data type at these words, or the first fault of its splits
+  -- the subvalue of the data type with a number at these words, with no step inside its leaf, or the first fault of
+  -- its splits
   abbrev pub see : ℕ → List Kept → Result Seen ImageFault
   see t ws = let layout = layout_at layouts t in
       and_then (leaf_at layout.tree m ws)

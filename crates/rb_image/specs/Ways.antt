@@ -1,4 +1,9 @@
--- The parts of a leaf that hold what stands at a path or below it, and the pointers on the way to them.
+-- The parts of a leaf that hold what stands at a path or below it, and the pointers on the way to them. A part is a
+-- range of a word of the leaf: a constant, bits or a word of a field, or a pointer to one of the leaf's blocks. A
+-- path is a list of field numbers from the leaf's root. The parts behind a pointer are those of its block. A pointer
+-- is refused where it leads to no block of the size that the leaf's block has, or, from within a block, not below
+-- that block. m has the blocks of an image, ws are the words of the leaf's root, and ats the addresses of its blocks
+-- by number, 0 for one that is not known.
 use Rattle.std.specs.Prelude.{ℕ, nat_eq, ◌||◌, List, [], ◌∷◌, length, Bool, false, Option, Some, None, Result, Ok, Err, if◌then◌else◌}
 use Rattle.std.specs.List.{list_any, starts_with}
 use Rattle.std.specs.Option.{option_or}
@@ -38,12 +43,14 @@ refusal_of m leaf bits (Bits path a) = None
 refusal_of m leaf bits (Word path j) = None
 refusal_of m leaf bits (Pointer align b) = fault_of (followed m leaf bits align b)
 
--- the fault of a part, if it is a pointer on the way to what stands at a path of the leaf or below it
+-- the fault of a part, if it is a pointer on the way to what stands at a path of the leaf or below it, and is
+-- refused; else none
 abbrev pub refused_at : List ImageBlock → Leaf → List Kept → List ℕ → List ℕ → PartAt → Option ImageFault
 refused_at m leaf ws ats path s =
     if leads_below leaf path s.part.kind then refusal_of m leaf (bits_at m ws ats s) s.part.kind else None
 
--- the first fault among these parts of a leaf that are pointers on the way to what stands at a path of it or below
+-- the first fault among these parts of a leaf that are pointers on the way to what stands at a path of it or below;
+-- none where none of them is refused
 abbrev pub refused_below : List ImageBlock → Leaf → List Kept → List ℕ → List ℕ → List PartAt → Option ImageFault
 refused_below m leaf ws ats path [] = None
 refused_below m leaf ws ats path (s ∷ ss) =

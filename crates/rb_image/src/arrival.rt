@@ -5,7 +5,7 @@
 //! taken the value apart: its fields stand in parts of the leaf. An arrival is a position to which
 //! one came, and a view borrows one. `agreed` has the program's types and their layouts. `image` is
 //! that from which the first leaf's words were read; nothing is read of it here. `Memory` as a
-//! fault is want of memory, or stands for what does not occur where types and layouts agree.
+//! fault is want of memory, or is given where there is no layout, leaf or field to go on with.
 
 ghost use Rattle.std.specs.Prelude.{◌≡◌, IfOk, List};
 ghost use Rattle.rb_layout.specs.Readable.{IsReadable};

@@ -4,8 +4,8 @@
 //! path, a list of field numbers from its root. It is open where any value may stand there: then
 //! the leaf of that value has to be found before a constructor is known. A view is a position with
 //! the leaf and its words. `agreed` has the program's types and their layouts. An error is the
-//! fault of looking for such a leaf, or `Memory`: want of memory, or what does not occur where
-//! types and layouts agree.
+//! fault of looking for such a leaf, or `Memory`: want of memory, or that there is no leaf to
+//! choose.
 
 ghost use Rattle.std.specs.Prelude.{◌≡◌, ◌↔◌, IsTrue, map};
 ghost use Rattle.rb_core.specs.declared.pattern.Pat.{out-Pat};

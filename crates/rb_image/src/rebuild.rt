@@ -5,7 +5,8 @@
 //! the pattern has a constructor, the leaf has taken the value apart: its fields stand in parts of
 //! the leaf. A view is a position with the leaf and its words. `agreed` has the program's types and
 //! their layouts. An error of a private function is the fault of a value whose leaf has to be
-//! known, or `Memory`: want of memory, or what does not occur where types and layouts agree.
+//! known, or `Memory`: want of memory, or that there is no layout, leaf, field or level to go on
+//! with.
 
 ghost use Rattle.std.specs.Prelude.{◌≡◌, ◌∷◌, [], IfOk, Ok};
 ghost use Rattle.rb_image.specs.Given.{IsGiven};

@@ -1,4 +1,8 @@
--- The check of the words of a path, as it is done: one list of words, and one leaf after the other.
+-- The check of the words of a path, as it is done: one list of words, and one leaf after the other. A part is a
+-- range of a word of a leaf, of a constant, a field or a pointer. A word is kept in the block that begins at its
+-- base, from byte `place` on, or, at base 0, as the root word with the number `place`. m has the blocks of the
+-- image, ws are the words of the leaf's root, and ats the addresses of its blocks by number, 0 for one that is not
+-- known. `on` says of a base and a place whether the word there is on the path.
 use Rattle.std.specs.Prelude.{◌≡◌, ℕ, nat_eq, ◌&&◌, ◌||◌, List, [], ◌∷◌, ◌++◌, Bool, Option, Some, None, Result, Ok, Err, if◌then◌else◌}
 use Rattle.std.specs.List.{flat_map, list_any}
 use Rattle.std.specs.Option.{option_or}
@@ -70,22 +74,23 @@ IsFoundOn layouts image seen found =
 
 -- Faults -------------------------------------------------------------------------------------
 module _ (on : ℕ → ℕ → Bool) (m : List ImageBlock) where
-  -- the fault of part s of a leaf, if the word that it is of is there, and is one that `on` has; ws are the root
-  -- words
+  -- the fault of part s of a leaf, if the word that it is of is there, and is one that `on` has; else none
   abbrev pub fault_at : Leaf → List Kept → List ℕ → PartAt → Option ImageFault
   fault_at leaf ws ats s = let bits = bits_at m ws ats s in
       if is_there ats s.block && on bits.base bits.place then part_fault m leaf bits s.part.kind else None
 
-  -- the first fault among these parts of a leaf, of those whose words are there and are ones that `on` has
+  -- the first fault among these parts of a leaf, of those whose words are there and are ones that `on` has; none
+  -- where there is none
   abbrev pub fault_among : Leaf → List Kept → List ℕ → List PartAt → Option ImageFault
   fault_among leaf ws ats [] = None
   fault_among leaf ws ats (s ∷ ss) = option_or (fault_at leaf ws ats s) (fault_among leaf ws ats ss)
 
-  -- the first fault of the leaf of a subvalue in words that `on` has
+  -- the first fault of the leaf of a subvalue in words that `on` has, none where there is none
   abbrev pub fault_seen : Seen → Option ImageFault
   fault_seen s = fault_among s.leaf s.words (reached m s.leaf s.words) (order_of s.leaf)
 
-  -- the first fault of the leaves of these subvalues in words that `on` has
+  -- the first fault of the leaves of these subvalues in words that `on` has, those of the first subvalue first; none
+  -- where there is none
   abbrev pub fault_of_seen : List Seen → Option ImageFault
   fault_of_seen [] = None
   fault_of_seen (s ∷ ss) = option_or (fault_seen s) (fault_of_seen ss)

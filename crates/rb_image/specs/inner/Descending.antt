@@ -1,5 +1,7 @@
 -- Steps of a descent, the last of which is done first, and what they say of the place from which it began. A descent
--- looks at a place and at all places below it, and notes each of which all below was found sound.
+-- looks at a place and at all places below it, and notes each of which all below was found sound. A place is the
+-- number of a data type, and the words at which a value of it is to stand. `look` gives the places below one, or its
+-- own fault.
 use Rattle.std.specs.Prelude.{◌⊎◌, List, [], ◌∷◌, ◌++◌}
 use Rattle.std.specs.List.{AllByRecursion}
 use Rattle.rb_image_text.specs.declared.fault.ImageFault.{ImageFault}

@@ -1,5 +1,7 @@
 -- That a descent ends, and how many steps it takes where no place is known before. A descent looks at a place and at
--- all places below it.
+-- all places below it. A place is the number of a data type, and the words at which a value of it is to stand.
+-- `look` gives the places right below one, or its own fault, at which a descent ends. A step is a look at a place,
+-- or a note that one is sound.
 use Rattle.std.specs.Prelude.{◌≡◌, ℕ, zero, suc, ◌+◌, ◌*◌, List, [], ◌∷◌, length, None, Result, Ok, Err}
 use Rattle.std.specs.List.{AllByRecursion}
 use Rattle.rb_core.specs.declared.types.DataDecl.{DataDecl}

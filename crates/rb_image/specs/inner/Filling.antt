@@ -1,4 +1,5 @@
--- A memory into which blocks are put one after the other.
+-- A memory into which blocks are put one after the other. A memory has blocks, a next address at which the next
+-- block is placed, and a limit above which none ends; at each address a byte is written or none.
 use Rattle.std.specs.Prelude.{◌≡◌, ℕ, ◌+◌, ◌<◌, ◌≤◌, max, List, [], ◌∷◌, ◌++◌, length, Some, slice_get}
 use Rattle.rb_bytes.specs.Memory.{Memory, IsGood, byte_at}
 use Rattle.rb_image_text.specs.Places.{end_before}

@@ -1,4 +1,6 @@
--- That the images which are sound for types of a program have values, and are those that hold values.
+-- That the images which are sound for types of a program have values, and are those that hold values. An image is
+-- sound for a type if its root words fit the type, and no place that one comes to from them has a fault. A pointer
+-- falls if it leads to a lower address than that of the block in which it is kept.
 use Rattle.std.specs.Prelude.{List}
 use Rattle.rb_core.specs.declared.program.Program.{Program}
 use Rattle.rb_core.specs.declared.types.Ty.{Ty}

@@ -1,4 +1,6 @@
--- The places below a leaf that was examined.
+-- The places below a leaf that was examined. A place is the number of a data type, and the words at which a value of
+-- it is to stand. There is one at each open position of a leaf, where its pattern lets any value stand, that is of a
+-- data type. A path is a list of field numbers from the leaf's root.
 use Rattle.std.specs.Prelude.{ℕ, ◌++◌, List}
 use Rattle.std.specs.List.{flat_map}
 use Rattle.rb_layout.specs.Positions.{Open}

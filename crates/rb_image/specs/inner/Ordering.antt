@@ -1,4 +1,5 @@
--- What a walk has to know of the types and layouts of a program.
+-- What a walk has to know of the types and layouts of a program. A layout is tidy if its splits lead to its leaves,
+-- and these can be read.
 use Rattle.std.specs.Prelude.{◌≡◌, ℕ, ◌<◌, List, length, Some, slice_get}
 use Rattle.rb_core.specs.declared.types.ConRef.{ConRef}
 use Rattle.rb_core.specs.declared.types.DataDecl.{DataDecl}

@@ -1,4 +1,5 @@
--- Words of a leaf that are not read yet, and those that are.
+-- Words of a leaf that are not read yet, and those that are. A leaf has root words, and blocks with words of their
+-- own. A block's address is known once a pointer was followed to it.
 use Rattle.std.specs.Prelude.{◌≡◌, ℕ, ◌+◌, ◌==◌, List, [], ◌∷◌, length, Option, Some, None, slice_get, slice_index, if◌then◌else◌}
 use Rattle.rb_layout.specs.declared.layout.Block.{Block}
 use Rattle.rb_layout.specs.declared.layout.Leaf.{Leaf}

@@ -1,5 +1,6 @@
 -- The site at which a part of a leaf stands. A site says where in an image bits are: a range of a root word, or of a
--- word of a block.
+-- word of a block. A part is a range of a word of the leaf, given by its first bit o and its length l. A field is
+-- the subvalue at a path, a list of field numbers from the leaf's root.
 use Rattle.std.specs.Prelude.{ℕ, zero, suc, ◌+◌, ◌-◌, ◌==◌, nat_lt, List, [], ◌∷◌, Option, Some, None, slice_get, slice_index, if◌then◌else◌}
 use Rattle.rb_layout.specs.declared.layout.Part.{Part}
 use Rattle.rb_image.specs.declared.site.Site.{Site}
@@ -10,7 +11,7 @@ use Rattle.rb_image.specs.Parts.{holds}
 abbrev pub lesser : ℕ → ℕ → ℕ
 lesser a b = if nat_lt a b then a else b
 
--- the site of what stands nowhere, which has no bits
+-- the site of what stands nowhere, which has no bits; a place is noted in it
 abbrev pub nowhere : ℕ → Site
 nowhere place = record { base = 0; place = place; width = 0; o = 0; l = 0 }
 
