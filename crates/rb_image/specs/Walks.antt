@@ -1,8 +1,8 @@
 -- The subvalues along a path, from one that stands at known words of an image on. A path is a list of field numbers.
 -- A position is what a leaf's provenance, its pattern of values, has at a path, a list of field numbers from its
--- root; it is open where the pattern is a wildcard or a name, so that any value may stand there. Where a data type
--- is open, one goes on to the leaf of the value there: it is seen, that is its leaf is found by its splits. m has
--- the blocks of an image, and ws are words of a value.
+-- root; it is open where the pattern is a wildcard or a name, so that any value may stand there. Where a value of a
+-- data type stands open, one goes on to the leaf of the value there: it is seen, that is its leaf is found by its
+-- splits. m has the blocks of an image, and ws are words of a value.
 use Rattle.std.specs.Prelude.{◌≡◌, ℕ, ◌+◌, List, [], ◌∷◌, ◌++◌, map, Option, Some, None, Result, Ok, Err, slice_get}
 use Rattle.rb_core.specs.declared.pattern.Pat.{Pat, Wild, out-Pat}
 use Rattle.rb_core.specs.declared.pattern.Pat.TheOpen as P

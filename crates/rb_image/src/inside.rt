@@ -1,7 +1,7 @@
 //! Positions inside a leaf.
 //!
 //! A position is what a leaf's provenance, its pattern of values, has at a path of field numbers
-//! from its root. `types` are the declared types of the program.
+//! from its root. In `field_of`, `types` are the declared types of the program.
 
 ghost use Rattle.std.specs.Prelude.{◌≡◌, slice_get};
 ghost use Rattle.std.specs.Option.{option_copied};

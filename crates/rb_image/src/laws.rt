@@ -1,10 +1,11 @@
 //! What images are: each law the contract of a function that does nothing.
 //!
-//! A leaf of a layout has root words and blocks, made of parts; its provenance is the pattern of
-//! its values. A split chooses the leaf by the bits at a location. A place is a type's number and
-//! the words at which a value of it is to stand; an image is sound if no place that one comes to
-//! from its root words has a fault. A site says where bits stand, in a root word or in a block. A
-//! walk goes along a path of field numbers, through the leaves of the subvalues on it.
+//! A leaf of a layout has root words, and blocks of words; these are its flat words, and they are
+//! made of parts; its provenance is the pattern of its values. A split chooses the leaf by the bits
+//! at a location. A place is a type's number and the words at which a value of it is to stand; an
+//! image is sound if no place that one comes to from its root words has a fault. A site says where
+//! bits stand, in a root word or in a block. A walk goes along a path of field numbers, through the
+//! leaves of the subvalues on it.
 
 ghost use Rattle.rb_image.specs.FieldSites.{LeavesAreNarrow};
 ghost use Rattle.rb_image.specs.Falling.{DescendingImagesAreSound, SoundImagesDescend, SoundValuesDescend};

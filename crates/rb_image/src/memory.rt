@@ -1,8 +1,7 @@
 //! The memory in which the blocks of an image stand.
 //!
-//! A region is a memory of checked blocks: it has a next address, at which the next block is
-//! placed, and a limit, above which no block ends. `blocks` are those of an image, which ascend
-//! without overlap.
+//! A region is a memory of blocks: it has a next address, at which the next block is placed, and a
+//! limit, above which no block ends. `blocks` are those of an image, which ascend without overlap.
 
 ghost use Rattle.std.specs.Prelude.{◌≡◌, ◌+◌, ◌≤◌, length, IfOk, Some};
 ghost use Rattle.rb_bytes.specs.Laws.{Extends};

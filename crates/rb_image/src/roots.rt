@@ -1,8 +1,8 @@
 //! The root words of an image.
 //!
 //! A word fits a width if it has at most so many bits. A place is a type's number and the words at
-//! which a value of it is to stand; a word of the root is kept at base 0, and its place is its
-//! number.
+//! which a value of it is to stand; a word of the root is kept at base 0, and its `place` there is
+//! its number.
 
 ghost use Rattle.std.specs.Prelude.{◌≡◌, ◌↔◌, ◌<◌, ◌^◌, IfOk, IsTrue, MatchOption};
 ghost use Rattle.rb_core.specs.declared.types.Ty.TheVariants.{Named};

@@ -1,10 +1,10 @@
 //! The walk along a path, from a subvalue of an image's value to one of its parts.
 //!
 //! A path is a list of field numbers. A site says where bits stand, in a root word or in a block. A
-//! position is what a leaf's provenance, its pattern, has at a path from its root: open, where any
-//! value may stand, or a constructor with fields in the same leaf, or an integer. In all that
-//! follows `agreed` has the program's types and their layouts, `walk` is how far one has come, and
-//! `steps` counts the words that are read.
+//! position is what a leaf's provenance, its pattern, has at a path from its root: it is open where
+//! any value may stand, of a data type or an integer; else a constructor stands there, with fields
+//! in the same leaf. In all that follows `agreed` has the program's types and their layouts, `walk`
+//! is how far one has come, and `steps` counts the words that are read.
 
 ghost use Rattle.std.specs.Prelude.{◌≡◌, ◌<◌, ◌+◌, ◌≤◌, IfOk, Some, length, map};
 ghost use Rattle.rb_core.specs.declared.types.Ty.TheVariants.{Named};

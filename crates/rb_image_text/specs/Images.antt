@@ -1,4 +1,5 @@
--- What an image holds, whatever the places of its blocks.
+-- What an image holds, whatever the places of its blocks. An image is root words, those of a value, and blocks of a
+-- memory, each given by its address in bytes and by its bytes.
 use Rattle.std.specs.Prelude.{ℕ, ◌^◌, ◌<◌, ◌≤◌, List, [], ◌∷◌, length}
 use Rattle.rb_image_text.specs.declared.image.ImageBlock.{ImageBlock}
 use Rattle.rb_image_text.specs.declared.image.Image.{Image}

@@ -1,4 +1,5 @@
--- The image of root words over a memory: every block with its bytes, in the memory's order.
+-- The image of root words over a memory: every block with its bytes, in the memory's order. A memory has blocks, each
+-- with an address and a size in bytes, and at each address a byte that was written, or none.
 use Rattle.std.specs.Prelude.{ℕ, zero, suc, ◌+◌, List, [], ◌∷◌, map, unwrap_or}
 use Rattle.rb_bytes.specs.Memory.{Memory, byte_at}
 use Rattle.rb_image_text.specs.declared.image.ImageBlock.{ImageBlock}

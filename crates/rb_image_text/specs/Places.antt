@@ -1,4 +1,6 @@
--- Blocks that ascend without overlap from 64 on, and the first that doesn't.
+-- Blocks that ascend without overlap from 64 on, and the first that doesn't. A block of an image has an address, at
+-- which it begins, and bytes. The greatest region is the first `most_region` bytes of a memory. Blocks are counted
+-- from 0.
 use Rattle.std.specs.Prelude.{◌≡◌, ℕ, zero, suc, ◌+◌, ◌<◌, ◌≤◌, List, length, Option, Some, None, slice_get}
 use Rattle.rb_bytes.specs.Memory.{most_region}
 use Rattle.rb_image_text.specs.declared.image.ImageBlock.{ImageBlock}

@@ -1,4 +1,6 @@
--- Why bytes are no text of an image whose blocks are in their places, and that nothing else is refused.
+-- Why bytes are no text of an image whose blocks are in their places, and that nothing else is refused. An image is
+-- root words and blocks; a block is in its place if it begins at 64 or later and behind the one before it, and ends
+-- within the greatest region.
 use Rattle.std.specs.Prelude.{◌≡◌, ℕ, List, Result, Ok, Err}
 use Rattle.rb_image_text.specs.Stopping.{IsTextOf, StopsAt}
 use Rattle.rb_image_text.specs.Places.{IsFirstMisplaced}

@@ -1,4 +1,6 @@
--- Whose text bytes are, and the byte at which they stop being one.
+-- Whose text bytes are, and the byte at which they stop being one. An image is root words, those of a value, and
+-- blocks of a memory, each given by its address in bytes and by its bytes. `at` is the number of a byte, counted from
+-- 0.
 use Rattle.std.specs.Prelude.{◌≡◌, ℕ, List}
 use Rattle.rb_core.specs.Stopping.{BeginsSome, StopsAtIn}
 use Rattle.rb_image_text.specs.Images.{IsImage}

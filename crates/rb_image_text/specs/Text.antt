@@ -1,4 +1,5 @@
--- Images as text: a line of root words, and a line a block.
+-- Images as text: a line of root words, and a line a block. An image is root words, those of a value, and blocks of a
+-- memory, each given by its address in bytes and by its bytes. Each byte of a text is the code of a character.
 use Rattle.std.specs.Prelude.{ℕ, ◌/◌, ◌%◌, List, [], ◌∷◌, ◌++◌, length, codes, false}
 use Rattle.std.specs.Fmt.{decimal, digits, digit_glyph}
 use Rattle.std.specs.List.{flat_map}

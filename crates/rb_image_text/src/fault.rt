@@ -1,4 +1,9 @@
 //! Why bytes or an image are refused.
+//!
+//! An image is root words, those of a value, and blocks of a memory, each given by its address in
+//! bytes and by its bytes. A pointer is a word, or bits of one, that leads to a block. A split is a
+//! choice in the layout of a type: the bits of a word decide which of its arms is taken. A path is
+//! a list of field numbers, and a step is one of them, counted from 0.
 
 ghost use Rattle.std.specs.Prelude.{◌≡◌};
 ghost use Rattle.rb_image_text.specs.declared.fault.ImageFault.TheVariants.{Memory};

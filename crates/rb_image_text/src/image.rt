@@ -1,4 +1,7 @@
 //! Images of a part of a memory.
+//!
+//! A root word is one of the words of the value; it is in no block. Pointers in root words or in
+//! blocks lead to blocks by their addresses.
 
 use rb_core::seq::Seq;
 

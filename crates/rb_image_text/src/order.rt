@@ -1,4 +1,8 @@
 //! Whether blocks ascend without overlap.
+//!
+//! A block is a range of memory, given by the address at which it begins, in bytes, and by its
+//! bytes. It is in its place if it begins at 64 or later and behind the block before it, and ends
+//! within the greatest region, the first 16,777,216 bytes.
 
 ghost use Rattle.std.specs.Prelude.{◌≡◌, IsTrue, ◌↔◌, MatchOption};
 ghost use Rattle.rb_image_text.specs.Places.{IsInPlace, AreInPlace, IsFirstMisplaced};

@@ -1,4 +1,8 @@
 //! Reading images.
+//!
+//! A text has a line of root words, and then a line for each block with its address, its size and
+//! its bytes. A reader is what was read of a text so far, and where reading stands. A text goes on
+//! at a byte if the bytes before it and it begin some text of an image.
 
 ghost use Rattle.std.specs.Prelude.{◌≡◌, IfOk, IfErr, ℕ};
 ghost use Rattle.rb_image_text.specs.Images.{AreBlocks, IsImage};

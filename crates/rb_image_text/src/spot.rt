@@ -1,4 +1,8 @@
 //! Where reading stands between two bytes of a text.
+//!
+//! A text has a first line, `root` with the root words, each behind a blank and `0x`; and then a
+//! line for each block: `block`, its address and its size in decimal, and its bytes, each as two
+//! hexadecimal digits. `Move` tells what a byte does at a spot.
 
 use crate::image::ImageBlock;
 
@@ -25,7 +29,7 @@ pub enum Spot {
     Half(ImageBlock, usize, u8),
 }
 
-/// What one byte more does.
+/// What one byte more does at a spot.
 #[derive(Drop)]
 pub enum Move {
     /// Reading stands there, and neither a root word nor a block is made whole.

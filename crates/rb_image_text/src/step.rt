@@ -1,4 +1,9 @@
 //! One byte more of an image's text.
+//!
+//! A spot is where reading stands between two bytes, with what is read in part there. A move is
+//! what one byte more does: it leads to a spot, makes a root word or a block whole, or is refused,
+//! since no text goes on so. `read` is how many bytes of a fixed word stand before, and `byte` the
+//! next byte.
 
 ghost use Rattle.std.specs.Prelude.{◌≡◌, IfOk, List, ◌<◌, ◌≤◌, length, ℕ};
 ghost use Rattle.rb_image_text.specs.inner.Reading as spec;
@@ -223,7 +228,7 @@ fn half_step(block: ImageBlock, size: usize, upper: u8, byte: u8) -> Result<Move
     }
 }
 
-// What one byte more does where reading stands.
+// What one byte more does at a spot. An error is want of memory for a byte of a block.
 fn step(alloc: Global, spot: Spot, byte: u8) -> Result<Move, AllocError>
     requires { spec.IsHalved spot }
     ensures { IfOk result (λ m. m ≡ spec.step spot byte) }

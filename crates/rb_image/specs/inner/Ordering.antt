@@ -1,5 +1,6 @@
 -- What a walk has to know of the types and layouts of a program. A layout is tidy if its splits lead to its leaves,
--- and these can be read.
+-- and these can be read: they have as many root words as the layout's shape, their words are few and short, and each
+-- part lies among 64 bits.
 use Rattle.std.specs.Prelude.{◌≡◌, ℕ, ◌<◌, List, length, Some, slice_get}
 use Rattle.rb_core.specs.declared.types.ConRef.{ConRef}
 use Rattle.rb_core.specs.declared.types.DataDecl.{DataDecl}
