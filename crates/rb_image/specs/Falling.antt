@@ -47,7 +47,8 @@ abbrev pub PointersFall : Leaf → (ℕ → ℕ) → (ℕ → ℕ) → Type 0
 PointersFall leaf from ats =
     (r : WordRef) (l align b : ℕ) → PointsTo leaf r l align b → AddressFalls (base_in from ats r.block r.word) (ats b)
 
--- the word at r of a leaf has a part that is word j of the subvalue at a path
+-- the word of a leaf that r names, in its root or a block, has a part that is word j of the subvalue at a path of
+-- field numbers
 pub record HasWord (leaf : Leaf) (r : WordRef) (path : List ℕ) (j : ℕ) : Type 0 where
   pub word : FlatWord
   pub number : ℕ

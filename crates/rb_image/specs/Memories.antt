@@ -25,7 +25,7 @@ abbrev pub memory_within : ℕ → List ImageBlock → Memory
 memory_within limit blocks =
     record { limit = limit; next = end_from 64 blocks; blocks = map span_of blocks; bytes = bytes_from 0 blocks limit }
 
--- the memory of an image is the greatest region
+-- the memory of an image with these blocks, and no others: as many bytes as the greatest region has
 unfoldable pub image_memory : List ImageBlock → Memory
 image_memory blocks = memory_within most_region blocks
 

@@ -49,12 +49,12 @@ abbrev pub block_size : Option Block → ℕ
 block_size None = 0
 block_size (Some b) = size_of b
 
--- the address `at`, where there is a size and it is the wanted one
+-- the address `at`, where there is a size and it is the wanted one; else none
 abbrev pub if_size : ℕ → ℕ → Option ℕ → Option ℕ
 if_size at wanted None = None
 if_size at wanted (Some size) = if size == wanted then Some at else None
 
--- the address, where there is one and a block of this size begins at it
+-- the address, where there is one and a block of this size begins at it; else none
 abbrev pub block_from : List ImageBlock → Option ℕ → ℕ → Option ℕ
 block_from m None size = None
 block_from m (Some at) size = if_size at size (size_at m at)

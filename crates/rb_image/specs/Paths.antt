@@ -72,11 +72,13 @@ module _ (m : List ImageBlock) where
   abbrev pub words_ahead : Seen → List Kept
   words_ahead s = words_below m s.leaf s.words (reached m s.leaf s.words) s.at
 
-  -- the bits of a part of a subvalue's leaf
+  -- the bits of a part of the leaf of a subvalue, with where they are kept: of a root word, or of a word of a block
+  -- to which the leaf's pointers lead; the number 0 where no pointer leads there
   abbrev pub part_bits : Seen → PartAt → Kept
   part_bits s part = bits_at m s.words (reached m s.leaf s.words) part
 
-  -- a part of a subvalue's leaf has this fault, and the word that it is of stands here
+  -- a part of the leaf of subvalue s, the word of which is there, has this fault, and that word is kept at `base`
+  -- and `place`
   pub record HasBadPart (s : Seen) (base place : ℕ) (fault : ImageFault) : Type 0 where
     pub number : ℕ
     pub part : PartAt
@@ -87,7 +89,7 @@ module _ (m : List ImageBlock) where
     pub is_fault : part_fault m s.leaf (part_bits s part) part.part.kind ≡ Some fault
 
 module _ (layouts : List Layout) (m : List ImageBlock) where
-  -- the words that the splits of a subvalue read
+  -- the words that the splits of the value at a place read on the way to its leaf; none where its type has no layout
   abbrev pub words_asked : At → List Kept
   words_asked x = asked_by (layout_at layouts x.ty).tree m x.words
 
@@ -125,7 +127,7 @@ module _ (types : List DataDecl) (layouts : List Layout) (image : Image) (t : �
   abbrev pub LeadsTo : Seen → At → Type 0
   LeadsTo s x = ◌≡◌ {A = Result (List Kept) ImageFault} (words_on layouts image.blocks s x.ty) (Ok x.words)
 
-  -- a step leads to a subvalue of a data type, which stands at these words
+  -- a step of the path leads to a subvalue of a data type, which stands at the place x
   pub record IsEntered (x : At) : Type 0 where
     pub before : Where
     pub field : ℕ
@@ -134,7 +136,8 @@ module _ (types : List DataDecl) (layouts : List Layout) (image : Image) (t : �
     pub is_data : open_data here ≡ Some x.ty
     pub is_words : LeadsTo (moved before field here).last x
 
-  -- a subvalue of a data type on the path, that at its end included
+  -- at this place stands a subvalue of a data type on the path: the value at the root words, or one that a step
+  -- leads to, that at the end of the path included
   abbrev pub IsOnPath : At → Type 0
   IsOnPath x = (x ≡ root_at t image.root) ⊎ IsEntered x
 

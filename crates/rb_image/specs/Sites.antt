@@ -12,6 +12,6 @@ abbrev pub word_there : Image → Site → Kept
 word_there image s =
     record { number = unwrap_or (read_of image s.base s.place s.width) 0; base = s.base; place = s.place }
 
--- the bits at a site, and where they are kept
+-- the bits at a site, and where they are kept; the number 0 where there is no such word
 abbrev pub kept_of : Image → Site → Kept
 kept_of image s = range_of (word_there image s) s.o s.l

@@ -56,13 +56,14 @@ taken_apart layouts t ws =
     let leaf = leaf_or_none (slice_get (layout_at layouts t).leaves n) in
     and_then (addresses_of [] leaf ws) (λ none. Ok (from_root t ws leaf)))
 
--- the integer of so many bits that stands at position x
+-- the integer of so many bits that stands at position x; a bit that no part of the leaf holds is 0
 abbrev pub integer_here : List ImageBlock → Standing → ℕ → ℕ
 integer_here m x bits =
     numbered bits (field_bit (λ s. (bits_at m x.root x.addresses s).number) (Int bits) (order_of x.leaf) x.at)
 
 module _ (layouts : List Layout) (m : List ImageBlock) where
-  -- the words of the value of a data type that stands at a position
+  -- the words of the value of data type t that stands open at position x: for each the bits of the first part of the
+  -- leaf that holds it, the number 0 where none does
   abbrev pub words_here : Standing → ℕ → List Kept
   words_here x t = field_words (field_word m x.root x.addresses (order_of x.leaf)) x.at 0 (word_count layouts (Named t))
 

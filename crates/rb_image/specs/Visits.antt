@@ -39,7 +39,8 @@ LayoutsAreTidy =
     (p : Program) → IsTyped p → Agrees p → (t : ℕ) (layout : Layout) → layout_of (flat_layouts p) t ≡ Some layout
     → IsTidy layout (length layout.shape)
 
--- the leaf is the one to which the splits lead on these words, and its words were read
+-- x has the leaf to which the splits of a layout lead on the words ws, and the words of that leaf as they are read
+-- in the blocks m
 pub record IsVisited (m : List ImageBlock) (layout : Layout) (ws : List Kept) (x : Visited) : Type 0 where
   pub number : ℕ
   pub leads : ◌≡◌ {A = Result ℕ ImageFault} (leaf_at layout.tree m ws) (Ok number)

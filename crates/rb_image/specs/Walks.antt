@@ -96,7 +96,7 @@ abbrev pub counted : {A : Type 0} → Result A ImageFault → (A → ℕ) → �
 counted (Err fault) go = 0
 counted (Ok x) go = go x
 
--- the layout of the data type with this number
+-- the layout of the data type with this number, an empty one where there is none
 abbrev pub layout_at : List Layout → ℕ → Layout
 layout_at layouts t = layout_or_none (layout_of layouts t)
 

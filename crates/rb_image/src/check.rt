@@ -64,7 +64,8 @@ fn layout_of(layouts: &[Layout], ty: u32) -> Option<&Layout>
     layouts.get(ty as usize)
 }
 
-// Adds the words that the splits of a subvalue read.
+// Adds the words that the splits of a subvalue read, with where they are kept; none where its type
+// has no layout.
 fn add_splits(
     agreed: &Agreed,
     image: &Image,

@@ -29,7 +29,8 @@ pub enum Step {
     Note(Place),
 }
 
-// Adds looks at places, so that the first place is looked at first.
+// Adds looks at these places to the things to do, of which the last is done first: so the first
+// place is looked at first.
 fn add_looks(places: Vec<Place>, todo: &mut Vec<Step>) -> Result<(), AllocError>
     ensures { OnOk result (todo.new.items ≡ todo.old.items ++ looks places.items) }
 {
@@ -40,7 +41,8 @@ fn add_looks(places: Vec<Place>, todo: &mut Vec<Step>) -> Result<(), AllocError>
     Ok(())
 }
 
-/// Tells that a descent from root words ends. The getters know it: the program is typed, and its layouts agree.
+/// Tells proofs that a descent from root words ends. The getters know it: the program is typed, and
+/// its layouts agree. Nothing else is done.
 pub(crate) fn descents_end(agreed: &Agreed)
     ensures { DescentsEnd agreed.now.covered.program.types agreed.now.layouts }
 {

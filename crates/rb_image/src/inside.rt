@@ -28,7 +28,7 @@ fn type_at(types: &[Ty], field: u32) -> Option<Ty>
     }
 }
 
-// A pattern and a type, where there are both.
+// The position with this pattern and this type, none where one of them is missing.
 fn paired<'a>(pat: Option<&'a Pat>, ty: Option<Ty>) -> Option<Inside<'a>>
     ensures { position_or_none result ≡ with_type (option_copied pat.entry) ty }
 {

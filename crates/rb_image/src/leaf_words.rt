@@ -81,7 +81,7 @@ fn read_numbers<L: Ledger>(
     Ok(found)
 }
 
-// No words for each of so many blocks, as it is before any block is read.
+// An empty list of words for each of `count` blocks, as it is before any block is read.
 fn no_words(alloc: Global, count: usize) -> Result<Vec<Vec<u64>>, AllocError>
     ensures long { IfOk result (λ blocks. length blocks.items ≡ count) }
     ensures none { IfOk result (λ blocks. (b : ℕ) → items_or_none (slice_get blocks.items b) ≡ []) }

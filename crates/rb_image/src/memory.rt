@@ -35,7 +35,7 @@ fn end_of(blocks: &[ImageBlock]) -> u64
     }
 }
 
-// A region of so many bytes with nothing in it.
+// A region of `limit` bytes with no block in it.
 fn empty_region(alloc: Global, limit: u64) -> Result<CheckedMemory, AllocError>
     requires { (64 ≤ limit) × (limit ≤ most_region) }
     ensures good { IfOk result (λ m. IsGood m) }
@@ -45,7 +45,7 @@ fn empty_region(alloc: Global, limit: u64) -> Result<CheckedMemory, AllocError>
     CheckedMemory::new(alloc, limit)
 }
 
-// Places a block of so many bytes at the next address; it fits.
+// Places a block of `size` bytes at the next address. The caller has seen to it that it fits.
 fn place_next(memory: &mut CheckedMemory, size: u64)
     requires good { IsGood memory.old }
     requires size { IsSize size }
@@ -59,7 +59,8 @@ fn place_next(memory: &mut CheckedMemory, size: u64)
     }
 }
 
-// Places fillers, each as large as can be, up to an address.
+// Places fillers, each as large as can be, from the next address up to this one; none where it is
+// this one.
 fn fill_to(memory: &mut CheckedMemory, at: u64)
     requires good { IsGood memory.old }
     requires above { memory.old.next ≤ at }

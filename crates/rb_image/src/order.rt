@@ -76,7 +76,8 @@ fn add_block<'a>(
     }
 }
 
-// Adds a part, and right behind it those of the block to which it points.
+// Adds the part of a spot, and right behind it those of the block to which it points; none where it
+// is no pointer.
 #[cycle(ordering)]
 fn add_part<'a>(
     alloc: Global,

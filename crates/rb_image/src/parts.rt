@@ -23,7 +23,7 @@ use rb_layout::layout::{Kind, Leaf};
 use rb_layout::sizes::block_size;
 use std::alloc::Global;
 
-/// The address of a block, 0 for one that is not there.
+/// The address of the block with this number; 0 where it is not known, or there is no such block.
 pub(crate) fn address_at(addresses: &[u64], block: u32) -> u64
     ensures { result ≡ slice_index addresses.now block }
 {

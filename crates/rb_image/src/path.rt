@@ -26,14 +26,14 @@ use rb_layout::agreed::Agreed;
 use rb_rel::words::word_count;
 use std::alloc::Global;
 
-/// Tells that the program is typed.
+/// Tells proofs that the program is typed. Nothing else is done.
 pub(crate) fn tell_typed(agreed: &Agreed)
     ensures { IsTyped agreed.now.covered.program }
 {
     let _ = agreed.covered().program();
 }
 
-// Tells that words have at most 64 bits.
+// Tells proofs that these words have at most 64 bits. Nothing else is done.
 fn tell_words(words: &[u64])
     ensures { AreWords words.now }
 {

@@ -41,7 +41,8 @@ pub struct Peeked {
     pub words: Seq<u64>,
 }
 
-// Tells that a walk reads no more words than the spans of the types on its path are.
+// Tells proofs that a walk reads no more words than the spans of the types on its path are. Nothing
+// else is done.
 fn tell_short(agreed: &Agreed)
     ensures { (m : List ImageBlock) (t : ℕ) (ws : List Kept) (path : List ℕ)
         → walk_span agreed.now.covered.program.types agreed.now.layouts m t ws path

@@ -13,7 +13,7 @@ use crate::kept::{Kept, Place};
 use rb_layout::layout::Layout;
 use std::alloc::{AllocError, Global};
 
-/// The widths of the words of a data type, none where it has no layout.
+/// The widths in bits of the words of the data type with a number, none where it has no layout.
 pub(crate) fn widths_of(layouts: &[Layout], ty: u32) -> &[u64]
     ensures { result.now ≡ widths_of layouts.now (Named ty) }
 {
@@ -52,7 +52,7 @@ pub(crate) fn first_misfit(widths: &[u64], words: &[u64]) -> Option<u64>
     None
 }
 
-/// The place at which a value of a data type stands in the root words.
+/// The place at which a value of the data type `ty` is to stand in these root words.
 pub(crate) fn root_place(alloc: Global, ty: u32, words: &[u64]) -> Result<Place, AllocError>
     ensures { IfOk result (λ place. at_of place ≡ root_at ty words.now) }
 {

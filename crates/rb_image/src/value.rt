@@ -33,7 +33,8 @@ use rb_layout::agreed::Agreed;
 use rb_values::forest::Forest;
 use std::alloc::Global;
 
-// Tells that images which are sound for a type of this program have values.
+// Tells proofs that images which are sound for a type of this program have values. Nothing else is
+// done.
 fn images_have_values(agreed: &Agreed)
     ensures { HaveValues agreed.now.covered.program agreed.now.layouts }
 {
@@ -42,7 +43,8 @@ fn images_have_values(agreed: &Agreed)
     let _ = agreed.layouts();
 }
 
-// Tells that the images which are sound for a type of this program are those that hold a value.
+// Tells proofs that the images which are sound for a type of this program are those that hold a
+// value. Nothing else is done.
 fn images_descend(agreed: &Agreed)
     ensures held { HaveDescents agreed.now.covered.program agreed.now.layouts }
     ensures sound { AreSoundWhereTheyDescend agreed.now.covered.program agreed.now.layouts }

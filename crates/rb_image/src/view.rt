@@ -80,7 +80,7 @@ impl<'a> View<'a> {
         Ok(words)
     }
 
-    /// The integer of so many bits that stands here.
+    /// The integer of `bits` bits that stands here; a bit that no part of the leaf holds is 0.
     pub(crate) fn integer_here(
         &self,
         alloc: Global,

@@ -25,7 +25,7 @@ use rb_image_text::image::Image;
 use rb_layout::layout::{Layout, Leaf};
 use std::alloc::Global;
 
-/// The leaf of a subvalue, and its words.
+/// The leaf of a subvalue, and the words of that leaf as they were read.
 #[derive(Drop)]
 pub struct Visited<'a> {
     pub leaf: &'a Leaf,

@@ -50,7 +50,8 @@ pub struct Walk<'a> {
     pub here: Inside<'a>,
 }
 
-/// Tells that each declared type has a layout, of leaves that can be read.
+/// Tells proofs that each declared type has a layout, of leaves that can be read. Nothing else is
+/// done.
 pub(crate) fn tell_orderly(agreed: &Agreed)
     ensures { AreOrderly agreed.now.covered.program.types agreed.now.layouts }
 {
@@ -115,7 +116,8 @@ fn see<'a, L: Ledger>(
     })
 }
 
-// A walk that has come to the root of a subvalue's leaf.
+// A walk that has come to the root of the leaf of the subvalue `last`, after the subvalues
+// `before`.
 fn arrive<'a>(before: Vec<Passed<'a>>, last: Passed<'a>) -> Walk<'a>
     ensures walk { where_of result ≡ spec.arrived (map seen_of before.entry.items) (seen_of last.entry) }
     ensures same { (result.before ≡ before.entry) × (result.last ≡ last.entry) }

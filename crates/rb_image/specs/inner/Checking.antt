@@ -40,7 +40,8 @@ has_word ws base place = list_any (λ (w : WordAt). nat_eq base w.base && nat_eq
 abbrev pub with_word : List WordAt → Kept → ℕ → ℕ → Bool
 with_word ws k base place = has_word ws base place || (nat_eq base k.base && nat_eq place k.place)
 
--- the word of a part is there, and the part leads to what stands at a path or below it
+-- whether the word of part s is there, and the part holds what stands at a path of the leaf or below it, or is a
+-- pointer on the way there
 abbrev pub leads_there : Leaf → List ℕ → List ℕ → PartAt → Bool
 leads_there leaf ats path s = is_there ats s.block && leads_below leaf path s.part.kind
 

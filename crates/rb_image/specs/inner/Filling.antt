@@ -6,7 +6,7 @@ use Rattle.rb_image_text.specs.Places.{end_before}
 use Rattle.rb_image_text.specs.declared.image.ImageBlock.{ImageBlock}
 use Rattle.rb_image.specs.Memories.{BlockStands}
 
--- the memory with a block of so many bytes at its next address
+-- the memory with a block of so many bytes at its next address; what is written stays as it was
 abbrev pub with_next : Memory → ℕ → Memory
 with_next m size = record m { next = m.next + size; blocks = m.blocks ++ (m.next, size) ∷ [] }
 
