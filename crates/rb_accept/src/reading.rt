@@ -5,7 +5,7 @@
 
 ghost use Rattle.std.specs.Prelude.{◌≡◌, ◌≤◌, ◌<◌, ◌+◌, ◌^◌, [], ◌∷◌, length, IfOk, IfErr};
 ghost use Rattle.rb_edge.specs.Source.{HoldsTheSame};
-ghost use Rattle.rb_edge.specs.declared.whole.ReadFault.TheVariants.{Failed};
+ghost use Rattle.rb_edge.specs.declared.whole.SourceFault.TheVariants.{Failed};
 ghost use Rattle.rb_lines.specs.Answer.{refusal};
 ghost use Rattle.rb_lines.specs.Lines.{file_bytes_line, read_fault_line};
 ghost use Rattle.rb_lines.specs.View.{due_of, IsRefusal};
@@ -16,7 +16,7 @@ ghost use Rattle.rb_accept.specs.View.{added};
 use rb_core::limits::MOST_FILE_BYTES;
 use rb_edge::seq::Seq;
 use rb_edge::source::Source;
-use rb_edge::whole::{ReadFault, read_whole};
+use rb_edge::whole::{SourceFault, read_whole};
 use rb_lines::line::{self, READ_FAULT};
 use rb_lines::refusal::{Refusal, Refused};
 use rb_lines::status::Status;
@@ -33,13 +33,13 @@ pub const IMAGE_LIMIT: usize = 16_777_216;
 
 // The answer where a source gave no file, since its opening or a read of it failed. Where the fault
 // is want of memory, there is no answer, but this error.
-fn refuse_reading(alloc: Global, fault: ReadFault) -> Result<Refused, AllocError>
+fn refuse_reading(alloc: Global, fault: SourceFault) -> Result<Refused, AllocError>
     ensures failed { IfOk result (λ c. fault ≡ Failed) }
     ensures due { IfOk result (λ c. due_of c ≡ refusal Unread read_fault_line) }
 {
     match fault {
-        ReadFault::Memory => Err(AllocError),
-        ReadFault::Failed => {
+        SourceFault::Memory => Err(AllocError),
+        SourceFault::Failed => {
             let line = Vec::from_slice(alloc, READ_FAULT)?;
             Ok(Refused {
                 status: Status::Unread,

@@ -20,7 +20,7 @@ use Rattle.rb_core.specs.Matching.{matches_of, bindings}
 use Rattle.rb_core.specs.Typing.{binder_of}
 use Rattle.rb_core.specs.Inference.{binders}
 use Rattle.rb_core.specs.Meaning.{Meaning, Calls, at_end, then_do, PartsOutcome, at_part, first_wanted, later_wanted, all_of, at_parts_end, then_with, first_of, meaning_of, clause_meaning, arguments, body_of, call_within}
-use Rattle.rb_core.specs.Outcomes.{IsWithinCalls, IsPartsWithinCalls}
+use Rattle.rb_core.specs.inner.Evaluation.{IsWithinCalls, IsPartsWithinCalls}
 use Rattle.rb_core.proofs.ExpressionLaws.{Each, EachBody, induction}
 use Rattle.rb_core.proofs.MeaningForms.{clause_meaning-is, meaning-Num, meaning-Var, meaning-Call, meaning-Build, meaning-Binary, meaning-To, meaning-Let, meaning-Match}
 

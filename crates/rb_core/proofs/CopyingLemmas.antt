@@ -4,7 +4,7 @@ use Rattle.std.proofs.lemmas.Grind.{common_steps}
 use Rattle.rb_core.specs.declared.value.Value.{Value, Con}
 use Rattle.rb_core.specs.declared.copying.Frame.{Frame}
 use Rattle.rb_core.specs.Values.{node_count}
-use Rattle.rb_core.specs.Copying.{filled, plugged, nodes_left, remaining}
+use Rattle.rb_core.specs.inner.Copying.{filled, plugged, nodes_left, remaining}
 use Rattle.rb_core.proofs.ValueLaws.{node_count-Con}
 
 pub plugged-push : (fs : List Frame) (f : Frame) (v : Value) → plugged (fs ++ f ∷ []) v ≡ plugged fs (filled f v)

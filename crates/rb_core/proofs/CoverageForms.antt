@@ -10,8 +10,12 @@ use Rattle.rb_core.specs.declared.expression.Clause.{Clause}
 use Rattle.rb_core.specs.declared.expression.Expr as X
 use Rattle.rb_core.specs.declared.expression.Expr.{Expr}
 use Rattle.rb_core.specs.declared.expression.Expr.TheOpen as E
-use Rattle.rb_core.specs.declared.expression.Expr.TheFolds.{para-roll-Expr, para-roll-Clause}
-use Rattle.rb_core.specs.Coverage.{Sites, SitedPart, SitedBranch, sites, clause_sites, sites_step, body_sites}
+use Rattle.rb_core.specs.declared.expression.Expr.TheFolds.{para-Clause, para-roll-Expr, para-roll-Clause}
+use Rattle.rb_core.specs.Coverage.{Sites, SitedPart, SitedBranch, sites, sites_step, body_sites}
+
+-- the sites in a clause's body, given the scope that the body stands in, which has what the pattern binds
+abbrev pub clause_sites : List DataDecl → List Fun → Clause → Sites
+clause_sites types funs = para-Clause Sites Sites (sites_step types funs) body_sites
 
 module _ (types : List DataDecl) (funs : List Fun) where
   -- a part and a clause with their matches

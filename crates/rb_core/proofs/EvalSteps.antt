@@ -18,7 +18,7 @@ use Rattle.rb_core.specs.declared.expression.Expr.{Expr}
 use Rattle.rb_core.specs.Matching.{matches_of, bindings}
 use Rattle.rb_core.specs.Inference.{binders}
 use Rattle.rb_core.specs.Meaning.{Meaning, Calls, PartsOutcome, at_part, parts_after, first_wanted, later_wanted, all_of, first_of, meaning_of, clause_meaning}
-use Rattle.rb_core.specs.Outcomes.{GivesOutcome, GivesParts}
+use Rattle.rb_core.specs.inner.Evaluation.{GivesOutcome, GivesParts}
 use Rattle.rb_core.proofs.MeaningForms.{clause_meaning-is}
 
 from_here : {A : Type 0} (xs : List A) (i : ℕ) (x : A) → i < length xs → x ≡ get_or xs i x → drop i xs ≡ x ∷ drop (i + 1) xs

@@ -8,7 +8,7 @@ use Rattle.rb_core.specs.declared.outcome.SourceEnd.TheVariants.{Done, Spent}
 use Rattle.rb_core.specs.declared.outcome.PartsEnd.TheVariants.{AllDone, Cut}
 use Rattle.rb_core.specs.declared.outcome.Outcome.{Outcome}
 use Rattle.rb_core.specs.Meaning.{done, after, at_end, then_do, PartsOutcome, at_parts_end, then_with}
-use Rattle.rb_core.specs.Outcomes.{GivesOutcome, GivesParts}
+use Rattle.rb_core.specs.inner.Evaluation.{GivesOutcome, GivesParts}
 
 -- an outcome's end and log go on with what follows
 pub Gives-spent : (o : Outcome) (go : Value → ℕ → Outcome) (old new : List Event) → GivesOutcome o old new Spent → GivesOutcome (then_do o go) old new Spent

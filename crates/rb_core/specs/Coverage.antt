@@ -19,7 +19,7 @@ use Rattle.rb_core.specs.declared.typing.Binder.{Binder}
 use Rattle.rb_core.specs.declared.expression.Expr.{Expr}
 use Rattle.rb_core.specs.declared.expression.Expr.TheOpen as E
 use Rattle.rb_core.specs.declared.expression.Expr.TheOpen.{Expr-F}
-use Rattle.rb_core.specs.declared.expression.Expr.TheFolds.{para-Expr, para-Clause}
+use Rattle.rb_core.specs.declared.expression.Expr.TheFolds.{para-Expr}
 use Rattle.rb_core.specs.declared.expression.Clause.{Clause, Clause-F}
 use Rattle.rb_core.specs.Typing.{binder_of}
 use Rattle.rb_core.specs.Inference.{inferred_type, with_binder, binders}
@@ -72,10 +72,6 @@ body_sites c = c.body.1
 -- the sites in an expression that stands in a scope, in the order of the text
 abbrev pub sites : List DataDecl → List Fun → Expr → Sites
 sites types funs = para-Expr Sites Sites (sites_step types funs) body_sites
-
--- the sites in a clause's body, given the scope that the body stands in, which has what the pattern binds
-abbrev pub clause_sites : List DataDecl → List Fun → Clause → Sites
-clause_sites types funs = para-Clause Sites Sites (sites_step types funs) body_sites
 
 -- the sites in a function's body, whose scope is the function's parameters
 abbrev pub function_sites : List DataDecl → List Fun → Fun → List Site

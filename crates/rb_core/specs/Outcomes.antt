@@ -1,35 +1,10 @@
--- How outcomes compare: the calls that are left at an end, and what more calls do to an outcome. An outcome
--- is a log of events and an end: done, with a value and the calls left, or spent, where a call was due and
--- none was left. The outcome of parts ends with all their values, or is cut where one of them is spent.
-use Rattle.std.specs.Prelude.{◌≡◌, ◌≤◌, ◌+◌, ℕ, List, ◌++◌}
+-- What more calls do to an outcome. An outcome is a log of events and an end: done, with a value and the
+-- calls left, or spent, where a call was due and none was left.
+use Rattle.std.specs.Prelude.{◌≡◌, ◌+◌, ℕ, List, ◌++◌}
 use Rattle.rb_core.specs.declared.outcome.Event.{Event}
 use Rattle.rb_core.specs.declared.outcome.SourceEnd.{SourceEnd}
 use Rattle.rb_core.specs.declared.outcome.SourceEnd.TheVariants.{Done, Spent}
-use Rattle.rb_core.specs.declared.outcome.PartsEnd.{PartsEnd}
-use Rattle.rb_core.specs.declared.outcome.PartsEnd.TheVariants.{AllDone, Cut}
 use Rattle.rb_core.specs.declared.outcome.Outcome.{Outcome}
-use Rattle.rb_core.specs.Meaning.{PartsOutcome}
-
--- an end leaves no more than n calls; an end that is spent leaves none
-abbrev pub IsWithinCalls : ℕ → SourceEnd → Type 0
-IsWithinCalls n (Done v left) = left ≤ n
-IsWithinCalls n Spent = Unit {0}
-
--- an end of parts leaves no more than n calls; where they are cut none is left
-abbrev pub IsPartsWithinCalls : ℕ → PartsEnd → Type 0
-IsPartsWithinCalls n (AllDone vs left) = left ≤ n
-IsPartsWithinCalls n Cut = Unit {0}
-
--- a run with the outcome o has this end, and its events stand behind those of the log `old` in the log `new`
-pub record GivesOutcome (o : Outcome) (old new : List Event) (end : SourceEnd) : Type 0 where
-  pub same_end : end ≡ o.end
-  pub same_log : new ≡ old ++ o.log
-
--- parts with the outcome o have this end, and their events stand behind those of the log `old` in the log
--- `new`
-pub record GivesParts (o : PartsOutcome) (old new : List Event) (end : PartsEnd) : Type 0 where
-  pub same_end : end ≡ o.end
-  pub same_log : new ≡ old ++ o.log
 
 -- the list `all` begins with the list `first`, and `rest` is what stands behind that
 pub record BeginsWith (first all : List Event) : Type 0 where

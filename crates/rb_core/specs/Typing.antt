@@ -299,9 +299,3 @@ clause_rule types funs = fold-Clause Rule ClauseRule (rule_step types funs) (cla
 -- the type of an expression, at a wanted type or none and in a scope, or the first fault in it
 abbrev pub type_of : List DataDecl → List Fun → Expr → Option Ty → List Binder → Typing Ty
 type_of types funs e = (rule_of types funs e).answer
-
--- the type of the operands of an operator with the first operand `a`, whose width its meaning takes, or the
--- first fault in `a`
-abbrev pub operand_type : List DataDecl → List Fun → Op → Expr → Option Ty → List Binder → Typing Ty
-operand_type types funs op a wanted scope =
-    integer_operand (rule_of types funs a) (operand_wanted op wanted) scope

@@ -3,7 +3,7 @@
 
 ghost use Rattle.std.specs.Prelude.{◌≡◌, ◌+◌, ◌<◌, ◌≤◌, IfOk};
 ghost use Rattle.rb_core.specs.Values.{node_count};
-ghost use Rattle.rb_core.specs.Copying.{Enters, Leaves};
+ghost use Rattle.rb_core.specs.inner.Copying.{Enters, Leaves};
 
 use crate::seq::Seq;
 use crate::value::Value;

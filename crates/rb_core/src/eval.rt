@@ -5,8 +5,7 @@
 ghost use Rattle.std.specs.Prelude.{◌≡◌, ◌≤◌, [], ℕ, IfOk, OnOk, map, slice_get};
 ghost use Rattle.rb_core.specs.declared.expression.Expr as X;
 ghost use Rattle.rb_core.specs.Meaning.{call_of, call_within, meaning_of, all_of};
-ghost use Rattle.rb_core.specs.Outcomes.{GivesOutcome, GivesParts, IsWithinCalls, IsPartsWithinCalls};
-ghost use Rattle.rb_core.specs.inner.Evaluation.{EndsAs, EndsAsFirst};
+ghost use Rattle.rb_core.specs.inner.Evaluation.{GivesOutcome, GivesParts, IsWithinCalls, IsPartsWithinCalls, EndsAs, EndsAsFirst};
 
 use crate::environment::{Frame, bind_arguments, scope_of, value_of};
 use crate::expression::{Clause, Expr, Op};

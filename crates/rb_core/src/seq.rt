@@ -79,8 +79,8 @@ impl<T> Seq<T> {
         self.items.pop()
     }
 
-    /// Moves the items of `more` to the end, in their order, and gives None. Where memory is
-    /// wanting, gives `more` back, and the list is as it was.
+    /// Moves the items of `more` to the end, in their order, and gives None. For want of memory,
+    /// gives `more` back, and the list is as it was.
     pub fn append(&mut self, more: Seq<T>) -> Option<Seq<T>>
         ensures { MatchOption result (self.new ≡ self.old ++ more) (λ rest. (self.new ≡ self.old) × (rest ≡ more)) }
     {

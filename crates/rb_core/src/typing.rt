@@ -29,7 +29,7 @@ pub enum TypeFault {
     /// At this token a variable stands for the second time in one pattern or parameter list.
     #[error("a variable stands twice")]
     VariableTwice(u32),
-    /// Memory is wanting.
+    /// Want of memory.
     #[error("no memory")]
     Memory,
 }

@@ -6,16 +6,16 @@ use Rattle.std.specs.declared.alloc.Global.{Global}
 use Rattle.rb_edge.specs.History.{Reading, going, ended, failed, begun, handed, told_end, broken, on_last, after_read}
 use Rattle.rb_edge.specs.Whole.{Begins, ReadsOnce, read_to}
 use Rattle.rb_edge.specs.inner.Left.{ReadsOn, goes_on}
-use Rattle.rb_edge.specs.declared.whole.ReadFault.{ReadFault}
-use Rattle.rb_edge.specs.declared.whole.ReadFault.TheVariants.{Failed, Memory}
+use Rattle.rb_edge.specs.declared.whole.SourceFault.{SourceFault}
+use Rattle.rb_edge.specs.declared.whole.SourceFault.TheVariants.{Failed, Memory}
 use Rattle.rb_edge.proofs.Histories.{on_last_snoc, on_last_twice, on_last_same, gave_none, read_more}
 
 module _ {S : Type 0} (tells : S → Bool) (left : S → List ℕ) (readings : S → List Reading) (old new : S) (limit : ℕ) where
-  pub stopped_by_fault : (r : Result (Vec ℕ Global) ReadFault) (f : ReadFault) → r ≡ Err f → (bytes : List ℕ) → length bytes ≤ limit + 1
+  pub stopped_by_fault : (r : Result (Vec ℕ Global) SourceFault) (f : SourceFault) → r ≡ Err f → (bytes : List ℕ) → length bytes ≤ limit + 1
       → (IsTrue (tells old) → left old ≡ bytes ++ left new) → readings new ≡ on_last (goes_on limit bytes (Err f)) (readings old)
       → ReadsOn tells left readings old new limit r
   stopped_by_fault r f is bytes within left_so on =
-      subst (λ (x : Result (Vec ℕ Global) ReadFault). ReadsOn tells left readings old new limit x) (sym is)
+      subst (λ (x : Result (Vec ℕ Global) SourceFault). ReadsOn tells left readings old new limit x) (sym is)
       (record { bytes = bytes; within = within; left_so = left_so; on = on; given = tt })
 
 module _ (limit : ℕ) (bytes : List ℕ) (first before after : List Reading) (so_far : before ≡ on_last (handed bytes) first) where
@@ -57,10 +57,10 @@ made name bytes false = refl
 module _ {S : Type 0} (tells : S → Bool) (held : S → List ℕ → Option (List ℕ)) (left : S → List ℕ) (readings : S → List Reading) (old mid new : S)
     (name : List ℕ) (limit : ℕ) (opened : readings mid ≡ readings old ++ begun name ∷ []) (same : tells mid ≡ tells old)
     (is_held : IsTrue (tells old) → held old name ≡ Some (left mid)) where
-  came : (r : Result (Vec ℕ Global) ReadFault) (on : ReadsOn tells left readings mid new limit r) → readings new ≡ readings old ++ goes_on limit on.bytes r (begun name) ∷ []
+  came : (r : Result (Vec ℕ Global) SourceFault) (on : ReadsOn tells left readings mid new limit r) → readings new ≡ readings old ++ goes_on limit on.bytes r (begun name) ∷ []
   came r on = on.on ∙ ap (λ (rs : List Reading). on_last (goes_on limit on.bytes r) rs) opened ∙ on_last_snoc (goes_on limit on.bytes r) (readings old) (begun name)
 
-  front : (r : Result (Vec ℕ Global) ReadFault) (on : ReadsOn tells left readings mid new limit r) → IsTrue (tells old) → Begins (held old name) on.bytes
+  front : (r : Result (Vec ℕ Global) SourceFault) (on : ReadsOn tells left readings mid new limit r) → IsTrue (tells old) → Begins (held old name) on.bytes
   front r on t = subst (λ (o : Option (List ℕ)). Begins o on.bytes) (sym (is_held t)) (left new, on.left_so (subst (λ (b : Bool). IsTrue b) (sym same) t))
 
   pub once_ok : (v : Vec ℕ Global) → ReadsOn tells left readings mid new limit (Ok v) → ReadsOnce tells held readings old new name limit (Ok v.items)
@@ -74,7 +74,7 @@ module _ {S : Type 0} (tells : S → Bool) (held : S → List ℕ → Option (Li
     stopped = tt;
   }
 
-  pub once_err : (f : ReadFault) → ReadsOn tells left readings mid new limit (Err f) → ReadsOnce tells held readings old new name limit (Err f)
+  pub once_err : (f : SourceFault) → ReadsOn tells left readings mid new limit (Err f) → ReadsOnce tells held readings old new name limit (Err f)
   once_err Failed on = record {
     reading = record { name = name; bytes = on.bytes; course = failed };
     one_more = came (Err Failed) on;

@@ -4,8 +4,8 @@
 -- course, which says how far that came. A limit is a number of bytes.
 use Rattle.std.specs.Prelude.{◌≡◌, ◌≤◌, ◌<◌, ◌+◌, leb, ℕ, List, [], ◌∷◌, ◌++◌, length, take, Bool, IsTrue, Option, Some, None, Result, IfOk, IfErr, if◌then◌else◌}
 use Rattle.rb_edge.specs.History.{Reading, Course, going, ended, failed, Account, after_take, after_break}
-use Rattle.rb_edge.specs.declared.whole.ReadFault.{ReadFault}
-use Rattle.rb_edge.specs.declared.whole.ReadFault.TheVariants.{Failed, Memory}
+use Rattle.rb_edge.specs.declared.whole.SourceFault.{SourceFault}
+use Rattle.rb_edge.specs.declared.whole.SourceFault.TheVariants.{Failed, Memory}
 
 -- what is held under a name begins with these bytes; where nothing is held, there is none of them
 abbrev pub Begins : Option (List ℕ) → List ℕ → Type 0
@@ -19,7 +19,7 @@ read_to limit name bytes =
     record { name = name; bytes = bytes; course = if leb (length bytes) limit then ended else going }
 
 -- the course of a file that was not read because of this fault: for want of memory more bytes may follow
-abbrev pub stopped_by : ReadFault → Course
+abbrev pub stopped_by : SourceFault → Course
 stopped_by Failed = failed
 stopped_by Memory = going
 
@@ -28,7 +28,7 @@ stopped_by Memory = going
 -- the source tells its bytes, those that were handed out are the first of those that it holds under the name.
 pub record ReadsOnce {S : Type 0} (tells : S → Bool) (held : S → List ℕ → Option (List ℕ))
     (readings : S → List Reading) (old new : S)
-    (name : List ℕ) (limit : ℕ) (result : Result (List ℕ) ReadFault) : Type 0 where
+    (name : List ℕ) (limit : ℕ) (result : Result (List ℕ) SourceFault) : Type 0 where
   pub reading : Reading
   pub one_more : readings new ≡ readings old ++ reading ∷ []
   pub named : reading.name ≡ name

@@ -47,5 +47,5 @@ pub use sink::Sink;
 pub use source::{Failed, Source};
 pub use std_sink::StdSink;
 pub use steps::{CountLedger, Ledger, NoLedger, Steps};
-pub use whole::{ReadFault, read_whole, write_whole};
+pub use whole::{SourceFault, read_whole, write_whole};
 pub use words::Words;

@@ -7,7 +7,7 @@ ghost use Rattle.rb_edge.specs.Source.{HoldsTheSame, FailsToOpen};
 ghost use Rattle.rb_edge.specs.History.{after_take};
 ghost use Rattle.rb_edge.specs.Whole.{ReadsOnce, TakesFront};
 ghost use Rattle.rb_edge.specs.inner.Left.{ReadsOn};
-ghost use Rattle.rb_edge.specs.declared.whole.ReadFault.TheVariants.{Memory, Failed};
+ghost use Rattle.rb_edge.specs.declared.whole.SourceFault.TheVariants.{Memory, Failed};
 
 use crate::seq::Seq;
 use crate::sink::Sink;
@@ -20,43 +20,43 @@ const PIECE: usize = 4096;
 
 /// Why a file was not read.
 #[derive(Clone, Copy, Debug, PartialEq, Eq, Error)]
-pub enum ReadFault {
+pub enum SourceFault {
     /// The source failed, or holds nothing under the name.
     #[error("the file was not read")]
     Failed,
-    /// Memory ran out.
+    /// Want of memory.
     #[error("no memory")]
     Memory,
 }
 
-impl From<AllocError> for ReadFault {
+impl From<AllocError> for SourceFault {
     ghost from_gives = { λ _ fault. fault ≡ Memory };
 
     /// Want of memory is told as such.
-    fn from(_: AllocError) -> ReadFault {
-        ReadFault::Memory
+    fn from(_: AllocError) -> SourceFault {
+        SourceFault::Memory
     }
 }
 
-impl From<Failed> for ReadFault {
+impl From<Failed> for SourceFault {
     ghost from_gives = { λ _ fault. fault ≡ Failed };
 
     /// The source failed.
-    fn from(_: Failed) -> ReadFault {
-        ReadFault::Failed
+    fn from(_: Failed) -> SourceFault {
+        SourceFault::Failed
     }
 }
 
 // The bytes that are left of the file that is open, up to one more than the limit, which is in
 // bytes. They are read piece by piece, until a read gives none or the one more is there.
-fn read_left<S: Source>(alloc: Global, source: &mut S, limit: usize) -> Result<Vec<u8>, ReadFault>
+fn read_left<S: Source>(alloc: Global, source: &mut S, limit: usize) -> Result<Vec<u8>, SourceFault>
     requires { limit < usize.MAX }
     ensures same { HoldsTheSame S.tells S.held source.old source.new }
     ensures later { S.faults source.old ≤ S.faults source.new }
     ensures bytes { IfOk result (λ bytes. IsTrue (S.tells source.old)
         → bytes.items ≡ take (limit + 1) (S.left source.old)) }
     ensures within { IfOk result (λ bytes. length bytes.items ≤ limit + 1) }
-    ensures cause { IsErrOf result ReadFault.Failed
+    ensures cause { IsErrOf result SourceFault.Failed
         → Rose (S.faults source.old) (S.faults source.new) }
     ensures on { ReadsOn S.tells S.left S.readings source.old source.new limit result }
 {
@@ -88,7 +88,7 @@ pub fn read_whole<S: Source>(
     source: &mut S,
     name: &[u8],
     limit: usize,
-) -> Result<Seq<u8>, ReadFault>
+) -> Result<Seq<u8>, SourceFault>
     requires { limit < usize.MAX }
     ensures same { HoldsTheSame S.tells S.held source.old source.new }
     ensures later { S.faults source.old ≤ S.faults source.new }
@@ -100,12 +100,12 @@ pub fn read_whole<S: Source>(
     ensures bytes { IfOk result (λ bytes. IsTrue (S.tells source.old) →
         Some bytes ≡ option_map (λ whole. take (limit + 1) whole) (S.held source.old name.now)) }
     ensures within { IfOk result (λ bytes. length bytes ≤ limit + 1) }
-    ensures cause { IsErrOf result ReadFault.Failed →
+    ensures cause { IsErrOf result SourceFault.Failed →
         FailsToOpen S.tells S.held S.faults source.old source.new name.now }
 
     // A name under which nothing is held is answered so, and that is no fault.
     ensures not_held { IsTrue (S.tells source.old) → S.held source.old name.now ≡ None
-        → IsErrOf result ReadFault.Failed }
+        → IsErrOf result SourceFault.Failed }
     ensures no_fault { IsTrue (S.tells source.old) → S.held source.old name.now ≡ None
         → S.faults source.new ≡ S.faults source.old }
 {

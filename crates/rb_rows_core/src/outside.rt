@@ -3,7 +3,7 @@
 
 use rb_edge::{
     CountLedger, Failed, FileSource, Ledger, MemSink, MemSource, Name, NamedBytes, NoLedger,
-    ReadFault, Seq, Sink, Source, StdSink, Steps, Words, read_whole, write_whole,
+    SourceFault, Seq, Sink, Source, StdSink, Steps, Words, read_whole, write_whole,
 };
 use std::alloc::{AllocError, Global};
 use std::io::Write;
@@ -71,7 +71,7 @@ fn words(rt: HostRuntime) -> Result<(), Fail> {
 }
 
 // Whether these bytes were read, or reading failed so.
-fn is_read(found: &Result<Seq<u8>, ReadFault>, want: Result<&[u8], ReadFault>) -> bool {
+fn is_read(found: &Result<Seq<u8>, SourceFault>, want: Result<&[u8], SourceFault>) -> bool {
     match (found, want) {
         (Ok(bytes), Ok(want)) => bytes.as_slice() == want,
         (Err(fault), Err(want)) => *fault == want,
@@ -86,22 +86,22 @@ fn read_of_three(
     fail: &[u64],
     name: &[u8],
     limit: u16,
-) -> Result<Seq<u8>, ReadFault> {
+) -> Result<Seq<u8>, SourceFault> {
     let files = files(alloc)?;
     let mut source = MemSource::new(files, 2, list(alloc, fail)?);
     read_whole(alloc, &mut source, name, usize::from(limit))
 }
 
 // which calls fail, the name and the limit, and the bytes that are read
-const READS: &[(&[u64], &[u8], u16, Result<&[u8], ReadFault>)] = &[
+const READS: &[(&[u64], &[u8], u16, Result<&[u8], SourceFault>)] = &[
     (&[], b"a", 10, Ok(b"first")),
     (&[], b"a", 5, Ok(b"first")),
     (&[], b"a", 2, Ok(b"fir")),
     (&[], b"a", 0, Ok(b"f")),
     (&[], b"b", 10, Ok(b"")),
-    (&[], b"c", 10, Err(ReadFault::Failed)),
-    (&[0], b"a", 10, Err(ReadFault::Failed)),
-    (&[4], b"a", 10, Err(ReadFault::Failed)),
+    (&[], b"c", 10, Err(SourceFault::Failed)),
+    (&[0], b"a", 10, Err(SourceFault::Failed)),
+    (&[4], b"a", 10, Err(SourceFault::Failed)),
 ];
 
 #[test]
@@ -163,11 +163,11 @@ fn steps_are_noted(rt: HostRuntime) {
 }
 
 // a file, no file, no text, and a folder, which opens and can't be read
-const OUTSIDE: &[(&[u8], Result<&[u8], ReadFault>)] = &[
+const OUTSIDE: &[(&[u8], Result<&[u8], SourceFault>)] = &[
     (b"seven.rib", Ok(b"fun main(): u8 = 7;\n")),
-    (b"eight.rib", Err(ReadFault::Failed)),
-    (b"\xff", Err(ReadFault::Failed)),
-    (b".", Err(ReadFault::Failed)),
+    (b"eight.rib", Err(SourceFault::Failed)),
+    (b"\xff", Err(SourceFault::Failed)),
+    (b".", Err(SourceFault::Failed)),
 ];
 
 #[test]

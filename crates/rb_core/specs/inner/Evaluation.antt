@@ -2,18 +2,44 @@
 -- those of the log before it. A context has the program, the type that is wanted or none, and the calls left;
 -- a frame has the function that runs, by its number, and the variables in scope with their types and values.
 -- The meaning bounds how deep calls nest; what is said here is said for each bound k that is no less than the
--- calls left, since calls nest no deeper than there are calls.
-use Rattle.std.specs.Prelude.{ℕ, ◌≤◌, List, Option, map}
+-- calls left, since calls nest no deeper than there are calls. An outcome is a log of events and an end: done,
+-- with a value and the calls left, or spent, where a call was due and none was left. The outcome of parts ends
+-- with all their values, or is cut where one of them is spent.
+use Rattle.std.specs.Prelude.{◌≡◌, ℕ, ◌≤◌, List, ◌++◌, Option, map}
 use Rattle.rb_core.specs.declared.types.Ty.{Ty}
 use Rattle.rb_core.specs.declared.value.Value.{Value}
 use Rattle.rb_core.specs.declared.expression.Expr.{Expr}
 use Rattle.rb_core.specs.declared.expression.Clause.{Clause}
 use Rattle.rb_core.specs.declared.outcome.Event.{Event}
 use Rattle.rb_core.specs.declared.outcome.SourceEnd.{SourceEnd}
+use Rattle.rb_core.specs.declared.outcome.SourceEnd.TheVariants.{Done, Spent}
+use Rattle.rb_core.specs.declared.outcome.PartsEnd.{PartsEnd}
+use Rattle.rb_core.specs.declared.outcome.PartsEnd.TheVariants.{AllDone, Cut}
+use Rattle.rb_core.specs.declared.outcome.Outcome.{Outcome}
 use Rattle.rb_core.specs.declared.environment.Frame.{Frame}
 use Rattle.rb_core.specs.declared.eval.Context.{Context}
-use Rattle.rb_core.specs.Meaning.{call_within, meaning_of, clause_meaning, first_of}
-use Rattle.rb_core.specs.Outcomes.{GivesOutcome}
+use Rattle.rb_core.specs.Meaning.{PartsOutcome, call_within, meaning_of, clause_meaning, first_of}
+
+-- an end leaves no more than n calls; an end that is spent leaves none
+abbrev pub IsWithinCalls : ℕ → SourceEnd → Type 0
+IsWithinCalls n (Done v left) = left ≤ n
+IsWithinCalls n Spent = Unit {0}
+
+-- an end of parts leaves no more than n calls; where they are cut none is left
+abbrev pub IsPartsWithinCalls : ℕ → PartsEnd → Type 0
+IsPartsWithinCalls n (AllDone vs left) = left ≤ n
+IsPartsWithinCalls n Cut = Unit {0}
+
+-- a run with the outcome o has this end, and its events stand behind those of the log `old` in the log `new`
+pub record GivesOutcome (o : Outcome) (old new : List Event) (end : SourceEnd) : Type 0 where
+  pub same_end : end ≡ o.end
+  pub same_log : new ≡ old ++ o.log
+
+-- parts with the outcome o have this end, and their events stand behind those of the log `old` in the log
+-- `new`
+pub record GivesParts (o : PartsOutcome) (old new : List Event) (end : PartsEnd) : Type 0 where
+  pub same_end : end ≡ o.end
+  pub same_log : new ≡ old ++ o.log
 
 -- an expression, evaluated in a context c with the variables of a frame f, has this end, and makes the log
 -- `old` the log `new`, as its meaning has it

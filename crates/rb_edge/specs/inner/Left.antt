@@ -3,12 +3,12 @@ use Rattle.std.specs.Prelude.{◌≡◌, ◌≤◌, ◌+◌, leb, ℕ, List, ◌
 use Rattle.std.specs.declared.vec.Vec.{Vec}
 use Rattle.std.specs.declared.alloc.Global.{Global}
 use Rattle.rb_edge.specs.History.{Reading, handed, told_end, broken, on_last}
-use Rattle.rb_edge.specs.declared.whole.ReadFault.{ReadFault}
-use Rattle.rb_edge.specs.declared.whole.ReadFault.TheVariants.{Failed, Memory}
+use Rattle.rb_edge.specs.declared.whole.SourceFault.{SourceFault}
+use Rattle.rb_edge.specs.declared.whole.SourceFault.TheVariants.{Failed, Memory}
 
 -- The file's reading after these bytes more were handed out, by the answer: with bytes, its end was told where they
 -- are within the limit; after a failure of the source a read of it failed; for want of memory it is left as it is.
-abbrev pub goes_on : ℕ → List ℕ → Result (Vec ℕ Global) ReadFault → Reading → Reading
+abbrev pub goes_on : ℕ → List ℕ → Result (Vec ℕ Global) SourceFault → Reading → Reading
 goes_on limit bytes (Ok _) r = if leb (length bytes) limit then told_end (handed bytes r) else handed bytes r
 goes_on limit bytes (Err Failed) r = broken (handed bytes r)
 goes_on limit bytes (Err Memory) r = handed bytes r
@@ -17,7 +17,7 @@ goes_on limit bytes (Err Memory) r = handed bytes r
 -- over the limit. `tells` says whether a source tells its bytes, `left` which are left of the opened file, `readings`
 -- what it handed out. The answer has just these bytes, or says why there is none.
 pub record ReadsOn {S : Type 0} (tells : S → Bool) (left : S → List ℕ) (readings : S → List Reading) (old new : S)
-    (limit : ℕ) (result : Result (Vec ℕ Global) ReadFault) : Type 0 where
+    (limit : ℕ) (result : Result (Vec ℕ Global) SourceFault) : Type 0 where
   pub bytes : List ℕ
   pub within : length bytes ≤ limit + 1
   pub left_so : IsTrue (tells old) → left old ≡ bytes ++ left new

@@ -1,6 +1,6 @@
 use Rattle.std.proofs.Common.{Err, ap, subst, arith}
 use Rattle.rb_edge.specs.Whole.{ReadsOnce}
-use Rattle.rb_edge.specs.declared.whole.ReadFault.{ReadFault}
+use Rattle.rb_edge.specs.declared.whole.SourceFault.{SourceFault}
 use Rattle.rb_accept.specs.Reading.{too_long, not_read}
 use Rattle.rb_accept.proofs.ReadLaws.{turn_ok, turn_err, long_read, failed_read}
 use Rattle.rb_accept.proofs.reading.read_within.Goals as goal
@@ -27,6 +27,6 @@ returns-in_err-refused-in-Err-clause-read g c =
 
 pub returns-in_ok-refused-in-Err-clause-refused : goal.returns-in_ok-refused-in-Err-clause-refused
 returns-in_ok-refused-in-Err-clause-refused g c =
-    let once = subst (λ (f : ReadFault). ReadsOnce g.S.Source.tells g.S.Source.held g.S.Source.readings c.args.src.now c.read_whole.new.source c.args.name.now c.args.limit (Err f))
+    let once = subst (λ (f : SourceFault). ReadsOnce g.S.Source.tells g.S.Source.held g.S.Source.readings c.args.src.now c.read_whole.new.source c.args.name.now c.args.limit (Err f))
     c.in_ok-refused-in-Err.ensures.failed c.in-Err.ensures.once in
     not_read once.reading.bytes (failed_read g.S.Source.tells g.S.Source.held g.S.Source.readings g.S.Source.faults c.args.src.now c.read_whole.new.source c.args.name.now c.args.limit once) c.in_ok-refused-in-Err.ensures.due

@@ -1,5 +1,5 @@
 use Rattle.std.proofs.Common.{◌≡◌, ◌≤◌, length}
-use Rattle.rb_core.specs.Copying.{plugged, remaining}
+use Rattle.rb_core.specs.inner.Copying.{plugged, remaining}
 use Rattle.rb_core.proofs.copying.leave.Given as goal
 
 abbrev pub invariant-loop-frame : goal.invariant-loop-frame

@@ -1,7 +1,7 @@
 use Rattle.std.proofs.Common.{rules, ◌≡◌, ◌≤◌, ◌+◌, ◌++◌, ℕ, List, [], take, length, Err, refl, sym, ap, ◌∙◌, arith, append_assoc, length-append, length-take}
 use Rattle.std.proofs.lemmas.Result.{err_from_is_err_and}
 use Rattle.rb_edge.specs.History.{handed, on_last}
-use Rattle.rb_edge.specs.declared.whole.ReadFault.TheVariants.{Memory, Failed}
+use Rattle.rb_edge.specs.declared.whole.SourceFault.TheVariants.{Memory, Failed}
 use Rattle.rb_edge.proofs.Histories.{on_last_id, handed_none}
 use Rattle.rb_edge.proofs.LeftLemmas.{stopped_by_fault, then_broken, then_more, then_ended, some_taken, take_front}
 use Rattle.rb_edge.proofs.whole.read_left.Goals as goal

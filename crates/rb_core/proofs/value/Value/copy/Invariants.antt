@@ -1,6 +1,6 @@
 use Rattle.std.proofs.Common.{◌≡◌, ◌+◌}
 use Rattle.rb_core.specs.Values.{node_count}
-use Rattle.rb_core.specs.Copying.{plugged, remaining}
+use Rattle.rb_core.specs.inner.Copying.{plugged, remaining}
 use Rattle.rb_core.proofs.value.Value.copy.Given as goal
 
 abbrev pub invariant-loop-frames : goal.invariant-loop-frames
