@@ -8,6 +8,10 @@ use Rattle.rb_bytes.specs.declared.fault.Trap.{Trap}
 use Rattle.rb_bytes.specs.declared.fault.Trap.TheVariants.{Astray, Unwritten}
 use Rattle.rb_bytes.specs.declared.fault.Full.{Full}
 
+-- the address at which a region ends at the earliest, and from which on its blocks are placed
+abbrev pub least_region : ℕ
+least_region = 64
+
 -- the address at which a region ends at the latest
 abbrev pub most_region : ℕ
 most_region = 16777216
@@ -39,11 +43,11 @@ byte_in (Some b) = b
 abbrev pub byte_at : List (Option ℕ) → ℕ → Option ℕ
 byte_at bytes a = byte_in (slice_get bytes a)
 
--- A memory as it can come to be: its blocks stand in order between address 64 and the next address, which is within
--- the region, and the region ends at `most_region` at the latest.
+-- A memory as it can come to be: its blocks stand in order between the address `least_region` and the next address,
+-- which is within the region, and the region ends at `most_region` at the latest.
 pub record IsGood (m : Memory) : Type 0 where
-  pub blocks : AreBlocks 64 m.blocks m.next
-  pub next : (64 ≤ m.next) × (m.next ≤ m.limit)
+  pub blocks : AreBlocks least_region m.blocks m.next
+  pub next : (least_region ≤ m.next) × (m.next ≤ m.limit)
   pub limit : m.limit ≤ most_region
   -- each address below the limit has its place in the list of bytes
   pub long : length m.bytes ≡ m.limit
@@ -63,9 +67,10 @@ IsSize size = (0 < size) × (size ≤ 512)
 abbrev pub IsAlign : ℕ → Type 0
 IsAlign align = (k : ℕ) × (k ≤ 6) × (align ≡ 2 ^ k)
 
--- a region that ends at the limit, without a block and without a byte written; the first block may begin at 64
+-- a region that ends at the limit, without a block and without a byte written; the first block may begin at the
+-- address `least_region`
 abbrev pub empty_memory : ℕ → Memory
-empty_memory limit = record { limit = limit; next = 64; blocks = []; bytes = replicate limit None }
+empty_memory limit = record { limit = limit; next = least_region; blocks = []; bytes = replicate limit None }
 
 -- the least multiple of the alignment that is not below an address; 0 for the alignment 0
 abbrev pub aligned : ℕ → ℕ → ℕ

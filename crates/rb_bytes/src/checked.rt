@@ -2,11 +2,11 @@
 
 ghost use Rattle.std.specs.Prelude.{◌≡◌, ℕ, ◌≤◌, ◌<◌, ◌+◌, get_or, length, map, IfOk, IfSome, true, nat_le, find};
 ghost use Rattle.rb_bits.specs.LittleEndian.{IsByteCount};
-ghost use Rattle.rb_bytes.specs.Memory.{IsGood, most_region, read_le, write_le, empty_memory, size_at, lies_within, byte_at};
+ghost use Rattle.rb_bytes.specs.Memory.{IsGood, least_region, most_region, read_le, write_le, empty_memory, size_at, lies_within, byte_at};
 ghost use Rattle.rb_bytes.specs.Starts.{written_in};
 
 use crate::fault::{Full, Trap};
-use crate::memory::ByteMemory;
+use crate::memory::{ByteMemory, LEAST_REGION};
 use rb_bits::{load_le, mask, store_le, take};
 use std::alloc::{AllocError, Global};
 use std::marker::Model;
@@ -98,7 +98,7 @@ impl CheckedMemory {
     ///
     /// Want of memory.
     pub fn new(alloc: Global, limit: u64) -> Result<CheckedMemory, AllocError>
-        requires { (64 ≤ limit) × (limit ≤ most_region) }
+        requires { (least_region ≤ limit) × (limit ≤ most_region) }
         ensures value { IfOk result (λ m. m ≡ empty_memory limit) }
         ensures good { IfOk result (λ m. IsGood m) }
     {
@@ -107,7 +107,7 @@ impl CheckedMemory {
             marks: Vec::with_capacity(alloc, limit as usize)?,
             sizes: Vec::with_capacity(alloc, limit as usize)?,
             blocks: 0,
-            next: 64,
+            next: LEAST_REGION,
             limit,
         })
     }

@@ -5,6 +5,10 @@ ghost use Rattle.rb_bytes.specs.Memory.{Memory, IsGood, IsWidth, IsSize, IsAlign
 
 use crate::fault::{Full, Trap};
 
+/// The address at which a region ends at the earliest, and from which on its blocks are placed;
+/// clauses cite it as `least_region` of `specs/Memory.antt`.
+pub const LEAST_REGION: u64 = 64;
+
 /// The address at which a region ends at the latest; clauses cite it as `most_region` of
 /// `specs/Memory.antt`.
 pub const MOST_REGION: u64 = 16_777_216;

@@ -1,11 +1,11 @@
 //! The memory over raw bytes, and the marks that say where its blocks are.
 
 ghost use Rattle.std.specs.Prelude.{◌≡◌, ℕ, ◌≤◌, IfOk, false, replicate};
-ghost use Rattle.rb_bytes.specs.Memory.{IsGood, empty_memory, most_region};
+ghost use Rattle.rb_bytes.specs.Memory.{IsGood, empty_memory, least_region, most_region};
 
 use crate::bytes::RawBytes;
 use rb_bytes::fault::{Full, Trap};
-use rb_bytes::memory::ByteMemory;
+use rb_bytes::memory::{ByteMemory, LEAST_REGION};
 use std::alloc::{AllocError, Global};
 use std::marker::Model;
 
@@ -54,7 +54,7 @@ impl RawMemory {
     ///
     /// Want of memory.
     pub fn new(alloc: Global, limit: u64) -> Result<RawMemory, AllocError>
-        requires { (64 ≤ limit) × (limit ≤ most_region) }
+        requires { (least_region ≤ limit) × (limit ≤ most_region) }
         ensures value { IfOk result (λ m. m ≡ empty_memory limit) }
         ensures good { IfOk result (λ m. IsGood m) }
     {
@@ -64,7 +64,7 @@ impl RawMemory {
             bytes,
             marks,
             blocks: 0,
-            next: 64,
+            next: LEAST_REGION,
             limit,
         })
     }
