@@ -29,7 +29,7 @@ use Rattle.rb_core.specs.Values.{fields_in, fields_of_con}
 use Rattle.rb_core.specs.Typing.{binder_of, bound_type, field_types, operand_wanted, operator_type, result_of, result_type}
 use Rattle.rb_core.specs.Inference.{all_binders, binders, first_clause_type, inferred_type, clause_inferred, with_binder}
 use Rattle.rb_core.specs.Coverage.{branch_sites, function_sites, part_sites, sites, sites_of}
-use Rattle.rb_core.specs.WellNumbered.{Within, clause_step, expression_is_numbered, expression_step, function_is_numbered, is_constructor, is_lower, is_type, param_is_numbered, vars_of}
+use Rattle.rb_core.specs.WellNumbered.{Within, numbered_clause_step, expression_is_numbered, expression_step, function_is_numbered, is_constructor, is_lower, is_type, param_is_numbered, vars_of}
 use Rattle.rb_core.specs.TypedPrograms.{IsTyped}
 use Rattle.rb_core.proofs.PatternLaws as PL
 use Rattle.rb_core.proofs.ExpressionLaws as EL
@@ -154,14 +154,14 @@ module _ (types : List DataDecl) where
       numbered = expression_is_numbered types funs
 
       abbrev clause_numbered : Clause → Within
-      clause_numbered = fold-Clause Within Within (expression_step types funs) (clause_step types)
+      clause_numbered = fold-Clause Within Within (expression_step types funs) (numbered_clause_step types)
 
       abbrev opened : (e : Expr-F Expr Clause) (xs : List ℕ) → numbered (X.roll-Expr e) xs ≡ expression_step types funs (X.map-Expr Expr Clause Within Within numbered clause_numbered e) xs
-      opened e xs = ap (λ (w : Within). w xs) (fold-roll-Expr Within Within (expression_step types funs) (clause_step types) e)
+      opened e xs = ap (λ (w : Within). w xs) (fold-roll-Expr Within Within (expression_step types funs) (numbered_clause_step types) e)
 
       -- the body of a numbered clause
       clause-body : (c : Clause) (xs : List ℕ) → clause_numbered c xs ≡ true → numbered c.body (vars_of c.pat ++ xs) ≡ true
-      clause-body c xs e = (both _ (numbered c.body (vars_of c.pat ++ xs)) (sym (ap (λ (w : Within). w xs) (fold_out-Clause Within Within (expression_step types funs) (clause_step types) c)) ∙ e)).1
+      clause-body c xs e = (both _ (numbered c.body (vars_of c.pat ++ xs)) (sym (ap (λ (w : Within). w xs) (fold_out-Clause Within Within (expression_step types funs) (numbered_clause_step types) c)) ∙ e)).1
 
       abbrev all_numbered : List Expr → List ℕ → Type 0
       all_numbered es xs = list_all (λ (w : Within). w xs) (map numbered es) ≡ true

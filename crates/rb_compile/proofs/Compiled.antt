@@ -3,7 +3,7 @@ use Rattle.std.proofs.Common.{◌≡◌, ℕ, ◌+◌, ◌-◌, ◌^◌, ◌<◌
 use Rattle.std.proofs.lemmas.List.{length-replicate}
 use Rattle.std.specs.Prelude.{slice_get}
 use Rattle.rb_core.specs.declared.program.Fun.{Fun}
-use Rattle.rb_core.specs.Meaning.{arguments, meaning_of}
+use Rattle.rb_core.specs.Meaning.{argument_bindings, meaning_of}
 use Rattle.rb_target.specs.declared.instr.Instr.{Instr}
 use Rattle.rb_target.specs.declared.code.CodeFun.{CodeFun}
 use Rattle.rb_target.specs.Growth.{AgreesBut, Nowhere}
@@ -77,7 +77,7 @@ module _ (plan : Plan) (g : ℕ) (f : Fun) (b : Sheet) (named : IsLower f.name)
       does = λ calls callee next law rel clean vs ws w good reps.
           let zs = replicate {A = ℕ} (q.slots - length ws) 0 in
           let s = ws ++ zs in
-          let env = arguments f.params vs in
+          let env = argument_bindings f.params vs in
           let out = next 0 s w in
           let holds : Holds plan clean s w.memory ls env = params_hold plan clean w.memory f.params vs ws [] zs 0 refl reps in
           let room_slots : b.slots ≤ length s = omega (arith, slots_are, length-append ws zs, length-replicate {A = ℕ} (q.slots - length ws) 0) in

@@ -18,7 +18,7 @@ use Rattle.rb_core.specs.declared.expression.Expr.TheOpen as E
 use Rattle.rb_core.specs.declared.expression.Expr.TheFolds.{fold-Clause, fold-roll-Expr, fold_out-Clause}
 use Rattle.rb_core.specs.Coverage.{branch_sites, part_sites, sites}
 use Rattle.rb_core.specs.Inference.{binders, inferred_type, with_binder}
-use Rattle.rb_core.specs.WellNumbered.{all_tokens, clause_matches, is_distinct, match_tokens, matches_step}
+use Rattle.rb_core.specs.WellNumbered.{all_tokens, body_tokens, is_distinct, match_tokens, tokens_step}
 use Rattle.rb_core.proofs.CoverageForms.{part, branch, sites-Clause, sites-Num, sites-Var, sites-Call, sites-Build, sites-Binary, sites-To, sites-Let, sites-Match}
 use Rattle.rb_core.proofs.ExpressionLaws.{Each, EachBody, induction}
 use Rattle.rb_core.proofs.NumberedForms.{both}
@@ -29,44 +29,44 @@ abbrev pub token : Site → ℕ
 token s = s.at
 
 abbrev clause_tokens : Clause → List ℕ
-clause_tokens = fold-Clause (List ℕ) (List ℕ) matches_step clause_matches
+clause_tokens = fold-Clause (List ℕ) (List ℕ) tokens_step body_tokens
 
 -- Tokens of matches, form by form
 
 tokens-Num : (at n : ℕ) → match_tokens (X.Num at n) ≡ []
 unfolding X.roll-Expr denote.Hole.Carrier.roll
-tokens-Num at n = fold-roll-Expr (List ℕ) (List ℕ) matches_step clause_matches (E.Num at n)
+tokens-Num at n = fold-roll-Expr (List ℕ) (List ℕ) tokens_step body_tokens (E.Num at n)
 
 tokens-Var : (at x : ℕ) → match_tokens (X.Var at x) ≡ []
 unfolding X.roll-Expr denote.Hole.Carrier.roll
-tokens-Var at x = fold-roll-Expr (List ℕ) (List ℕ) matches_step clause_matches (E.Var at x)
+tokens-Var at x = fold-roll-Expr (List ℕ) (List ℕ) tokens_step body_tokens (E.Var at x)
 
 tokens-Call : (at g : ℕ) (es : List Expr) → match_tokens (X.Call at g es) ≡ all_tokens (map match_tokens es)
 unfolding X.roll-Expr denote.Hole.Carrier.roll
-tokens-Call at g es = fold-roll-Expr (List ℕ) (List ℕ) matches_step clause_matches (E.Call at g es)
+tokens-Call at g es = fold-roll-Expr (List ℕ) (List ℕ) tokens_step body_tokens (E.Call at g es)
 
 tokens-Build : (at : ℕ) (c : ConRef) (es : List Expr) → match_tokens (X.Build at c es) ≡ all_tokens (map match_tokens es)
 unfolding X.roll-Expr denote.Hole.Carrier.roll
-tokens-Build at c es = fold-roll-Expr (List ℕ) (List ℕ) matches_step clause_matches (E.Build at c es)
+tokens-Build at c es = fold-roll-Expr (List ℕ) (List ℕ) tokens_step body_tokens (E.Build at c es)
 
 tokens-Binary : (at : ℕ) (op : Op) (a b : Expr) → match_tokens (X.Binary at op a b) ≡ match_tokens a ++ match_tokens b
 unfolding X.roll-Expr denote.Hole.Carrier.roll
-tokens-Binary at op a b = fold-roll-Expr (List ℕ) (List ℕ) matches_step clause_matches (E.Binary at op a b)
+tokens-Binary at op a b = fold-roll-Expr (List ℕ) (List ℕ) tokens_step body_tokens (E.Binary at op a b)
 
 tokens-To : (at bits : ℕ) (a : Expr) → match_tokens (X.To at bits a) ≡ match_tokens a
 unfolding X.roll-Expr denote.Hole.Carrier.roll
-tokens-To at bits a = fold-roll-Expr (List ℕ) (List ℕ) matches_step clause_matches (E.To at bits a)
+tokens-To at bits a = fold-roll-Expr (List ℕ) (List ℕ) tokens_step body_tokens (E.To at bits a)
 
 tokens-Let : (at x : ℕ) (t : Ty) (a b : Expr) → match_tokens (X.Let at x t a b) ≡ match_tokens a ++ match_tokens b
 unfolding X.roll-Expr denote.Hole.Carrier.roll
-tokens-Let at x t a b = fold-roll-Expr (List ℕ) (List ℕ) matches_step clause_matches (E.Let at x t a b)
+tokens-Let at x t a b = fold-roll-Expr (List ℕ) (List ℕ) tokens_step body_tokens (E.Let at x t a b)
 
 tokens-Match : (at : ℕ) (e : Expr) (cs : List Clause) → match_tokens (X.Match at e cs) ≡ at ∷ (match_tokens e ++ all_tokens (map clause_tokens cs))
 unfolding X.roll-Expr denote.Hole.Carrier.roll
-tokens-Match at e cs = fold-roll-Expr (List ℕ) (List ℕ) matches_step clause_matches (E.Match at e cs)
+tokens-Match at e cs = fold-roll-Expr (List ℕ) (List ℕ) tokens_step body_tokens (E.Match at e cs)
 
 tokens-Clause : (c : Clause) → clause_tokens c ≡ match_tokens c.body
-tokens-Clause c = fold_out-Clause (List ℕ) (List ℕ) matches_step clause_matches c
+tokens-Clause c = fold_out-Clause (List ℕ) (List ℕ) tokens_step body_tokens c
 
 -- A site's token is one of its expression's
 

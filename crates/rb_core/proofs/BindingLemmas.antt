@@ -5,24 +5,24 @@ use Rattle.rb_core.specs.declared.binding.Binding.{Binding}
 use Rattle.rb_core.specs.declared.program.Param.{Param}
 use Rattle.std.proofs.lemmas.List.{append-nil}
 use Rattle.rb_core.specs.Matching.{all_bound}
-use Rattle.rb_core.specs.Meaning.{arguments}
+use Rattle.rb_core.specs.Meaning.{argument_bindings}
 
 next_argument : (ps : List Param) (vs : List Value) (i : ℕ) (p : Param) (v : Value) → i < length ps → i < length vs
-    → arguments (drop i ps) (drop i vs) ≡ record { var = (get_or ps i p).var; value = get_or vs i v } ∷ arguments (drop (suc i) ps) (drop (suc i) vs)
+    → argument_bindings (drop i ps) (drop i vs) ≡ record { var = (get_or ps i p).var; value = get_or vs i v } ∷ argument_bindings (drop (suc i) ps) (drop (suc i) vs)
 next_argument [] vs i p v lt lt' = absurd (omega arith)
 next_argument (q ∷ ps) [] i p v lt lt' = absurd (omega arith)
 next_argument (q ∷ ps) (w ∷ vs) zero p v lt lt' = refl
 next_argument (q ∷ ps) (w ∷ vs) (suc i) p v lt lt' = next_argument ps vs i p v (omega arith) (omega arith)
 
 pub arguments-drop : (ps : List Param) (vs : List Value) (i : ℕ) (p : Param) (v : Value) → i < length ps → i < length vs
-    → arguments (drop i ps) (drop i vs) ≡ record { var = (get_or ps i p).var; value = get_or vs i v } ∷ arguments (drop (i + 1) ps) (drop (i + 1) vs)
+    → argument_bindings (drop i ps) (drop i vs) ≡ record { var = (get_or ps i p).var; value = get_or vs i v } ∷ argument_bindings (drop (i + 1) ps) (drop (i + 1) vs)
 arguments-drop ps vs i p v lt lt' = rw (add-one i) (next_argument ps vs i p v lt lt')
 
-none_left : (ps : List Param) → arguments ps [] ≡ []
+none_left : (ps : List Param) → argument_bindings ps [] ≡ []
 none_left [] = refl
 none_left (p ∷ ps) = refl
 
-pub arguments-past : (ps : List Param) (vs : List Value) (i : ℕ) → length vs ≤ i → arguments (drop i ps) (drop i vs) ≡ []
+pub arguments-past : (ps : List Param) (vs : List Value) (i : ℕ) → length vs ≤ i → argument_bindings (drop i ps) (drop i vs) ≡ []
 arguments-past ps [] zero le = none_left ps
 arguments-past ps [] (suc i) le = none_left (drop (suc i) ps)
 arguments-past ps (v ∷ vs) zero le = absurd (omega arith)

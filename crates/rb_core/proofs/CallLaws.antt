@@ -20,7 +20,7 @@ use Rattle.rb_core.specs.declared.expression.Expr.{Expr}
 use Rattle.rb_core.specs.Matching.{matches_of, bindings}
 use Rattle.rb_core.specs.Typing.{binder_of}
 use Rattle.rb_core.specs.Inference.{binders}
-use Rattle.rb_core.specs.Meaning.{Meaning, Calls, after, at_end, then_do, PartsOutcome, at_part, parts_after, first_wanted, later_wanted, all_of, at_parts_end, then_with, first_of, meaning_of, clause_meaning, arguments, body_of, call_within, call_of}
+use Rattle.rb_core.specs.Meaning.{Meaning, Calls, after, at_end, then_do, PartsOutcome, at_part, parts_after, first_wanted, later_wanted, all_of, at_parts_end, then_with, first_of, meaning_of, clause_meaning, argument_bindings, body_of, call_within, call_of}
 use Rattle.rb_core.specs.inner.Evaluation.{IsWithinCalls, IsPartsWithinCalls}
 use Rattle.rb_core.proofs.ExpressionLaws.{Each, EachBody, induction}
 use Rattle.rb_core.proofs.MeaningForms.{clause_meaning-is, meaning-Num, meaning-Var, meaning-Call, meaning-Build, meaning-Binary, meaning-To, meaning-Let, meaning-Match}
@@ -112,7 +112,7 @@ module _ (p : Program) (c c' : Calls) (bounded : (g n : ℕ) (vs : List Value) �
 module _ (p : Program) where
   body_alike : (o : Option Fun) (c c' : Calls) (g n : ℕ) (vs : List Value) → ((g n : ℕ) (vs : List Value) → IsWithinCalls n (c g n vs).end) → ((g m : ℕ) (vs : List Value) → m ≤ n → c g m vs ≡ c' g m vs) → body_of p c o g n vs ≡ body_of p c' o g n vs
   body_alike None c c' g n vs b h = refl
-  body_alike (Some f) c c' g n vs b h = alike p c c' b n h g f.body (Some f.result) (map binder_of f.params) n (arguments f.params vs) (le_refl n)
+  body_alike (Some f) c c' g n vs b h = alike p c c' b n h g f.body (Some f.result) (map binder_of f.params) n (argument_bindings f.params vs) (le_refl n)
 
   -- calls nest no deeper than there are calls
   pub enough : (k k' g n : ℕ) (vs : List Value) → n ≤ k → n ≤ k' → call_within p k g n vs ≡ call_within p k' g n vs

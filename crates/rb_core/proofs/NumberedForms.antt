@@ -19,7 +19,7 @@ use Rattle.rb_core.specs.declared.expression.Expr.TheOpen as E
 use Rattle.rb_core.specs.declared.expression.Expr.TheFolds.{fold-Clause, fold-roll-Expr, fold_out-Clause}
 use Rattle.rb_core.specs.Typing.{Typing, and_then, binder_of, repeated, twice_at, distinct_binders, type_of}
 use Rattle.rb_core.specs.TypedPrograms.{IsTyped, first_fault, layout_fault, function_fault}
-use Rattle.rb_core.specs.WellNumbered.{Within, all_within, is_between, is_constructor, vars_of, expression_step, clause_step, expression_is_numbered, function_is_numbered}
+use Rattle.rb_core.specs.WellNumbered.{Within, all_within, is_between, is_constructor, vars_of, expression_step, numbered_clause_step, expression_is_numbered, function_is_numbered}
 use Rattle.rb_core.proofs.InferenceAgreement.{wanted-is_found}
 use Rattle.rb_core.proofs.TypedForms.{ok-same, came}
 
@@ -37,30 +37,30 @@ module _ (types : List DataDecl) (funs : List Fun) where
 
   pub numbered-Binary : (at : ℕ) (op : Op) (a b : Expr) (xs : List ℕ) → numbered (X.Binary at op a b) xs ≡ true → (numbered a xs ≡ true) × (numbered b xs ≡ true)
   unfolding X.roll-Expr denote.Hole.Carrier.roll
-  numbered-Binary at op a b xs h = both _ _ (form (E.Binary at op (numbered a) (numbered b)) _ (fold-roll-Expr Within Within (expression_step types funs) (clause_step types) (E.Binary at op a b)) xs h)
+  numbered-Binary at op a b xs h = both _ _ (form (E.Binary at op (numbered a) (numbered b)) _ (fold-roll-Expr Within Within (expression_step types funs) (numbered_clause_step types) (E.Binary at op a b)) xs h)
 
   pub numbered-Let : (at x : ℕ) (u : Ty) (a b : Expr) (xs : List ℕ) → numbered (X.Let at x u a b) xs ≡ true → (numbered a xs ≡ true) × (numbered b (x ∷ xs) ≡ true)
   unfolding X.roll-Expr denote.Hole.Carrier.roll
-  numbered-Let at x u a b xs h = both _ _ (both _ _ (form (E.Let at x u (numbered a) (numbered b)) _ (fold-roll-Expr Within Within (expression_step types funs) (clause_step types) (E.Let at x u a b)) xs h)).1
+  numbered-Let at x u a b xs h = both _ _ (both _ _ (form (E.Let at x u (numbered a) (numbered b)) _ (fold-roll-Expr Within Within (expression_step types funs) (numbered_clause_step types) (E.Let at x u a b)) xs h)).1
 
   pub numbered-Call : (at g : ℕ) (es : List Expr) (xs : List ℕ) → numbered (X.Call at g es) xs ≡ true → (nat_lt g (length funs) ≡ true) × (all_within (map numbered es) xs ≡ true)
   unfolding X.roll-Expr denote.Hole.Carrier.roll
   numbered-Call at g es xs h =
-      let p = both _ _ (form (E.Call at g (map numbered es)) _ (fold-roll-Expr Within Within (expression_step types funs) (clause_step types) (E.Call at g es)) xs h) in
+      let p = both _ _ (form (E.Call at g (map numbered es)) _ (fold-roll-Expr Within Within (expression_step types funs) (numbered_clause_step types) (E.Call at g es)) xs h) in
       (p.0, (both _ _ p.1).1)
 
   pub numbered-Var : (at x : ℕ) (xs : List ℕ) → numbered (X.Var at x) xs ≡ true → list_any (nat_eq x) xs ≡ true
   unfolding X.roll-Expr denote.Hole.Carrier.roll
-  numbered-Var at x xs h = form (E.Var at x) _ (fold-roll-Expr Within Within (expression_step types funs) (clause_step types) (E.Var at x)) xs h
+  numbered-Var at x xs h = form (E.Var at x) _ (fold-roll-Expr Within Within (expression_step types funs) (numbered_clause_step types) (E.Var at x)) xs h
 
   pub numbered-To : (at bits : ℕ) (a : Expr) (xs : List ℕ) → numbered (X.To at bits a) xs ≡ true → (is_between 1 64 bits ≡ true) × (numbered a xs ≡ true)
   unfolding X.roll-Expr denote.Hole.Carrier.roll
-  numbered-To at bits a xs h = both _ _ (form (E.To at bits (numbered a)) _ (fold-roll-Expr Within Within (expression_step types funs) (clause_step types) (E.To at bits a)) xs h)
+  numbered-To at bits a xs h = both _ _ (form (E.To at bits (numbered a)) _ (fold-roll-Expr Within Within (expression_step types funs) (numbered_clause_step types) (E.To at bits a)) xs h)
 
   pub numbered-Build : (at : ℕ) (c : ConRef) (es : List Expr) (xs : List ℕ) → numbered (X.Build at c es) xs ≡ true → (is_constructor types c ≡ true) × (all_within (map numbered es) xs ≡ true)
   unfolding X.roll-Expr denote.Hole.Carrier.roll
   numbered-Build at c es xs h =
-      let p = both _ _ (form (E.Build at c (map numbered es)) _ (fold-roll-Expr Within Within (expression_step types funs) (clause_step types) (E.Build at c es)) xs h) in
+      let p = both _ _ (form (E.Build at c (map numbered es)) _ (fold-roll-Expr Within Within (expression_step types funs) (numbered_clause_step types) (E.Build at c es)) xs h) in
       (p.0, (both _ _ p.1).1)
 
   -- each of a list of parts
@@ -70,7 +70,7 @@ module _ (types : List DataDecl) (funs : List Fun) where
   numbered_part (x ∷ es) xs h (suc i) e at = numbered_part es xs (both (numbered x xs) _ h).1 i e at
 
   abbrev clause_numbered : Clause → Within
-  clause_numbered = fold-Clause Within Within (expression_step types funs) (clause_step types)
+  clause_numbered = fold-Clause Within Within (expression_step types funs) (numbered_clause_step types)
 
   pub each_numbered : (cs : List Clause) (xs : List ℕ) → all_within (map clause_numbered cs) xs ≡ true → (k : ℕ) (c : Clause) → slice_get cs k ≡ Some c → numbered c.body (vars_of c.pat ++ xs) ≡ true
   each_numbered [] xs h k c at = cc
@@ -78,14 +78,14 @@ module _ (types : List DataDecl) (funs : List Fun) where
       let is : d ≡ c = cc at in
       let here = (both (clause_numbered d xs) _ h).0 in
       subst (λ (x : Clause). numbered x.body (vars_of x.pat ++ xs) ≡ true) is
-      ((both _ (numbered d.body (vars_of d.pat ++ xs)) (sym (ap (λ (w : Within). w xs) (fold_out-Clause Within Within (expression_step types funs) (clause_step types) d)) ∙ here)).1)
+      ((both _ (numbered d.body (vars_of d.pat ++ xs)) (sym (ap (λ (w : Within). w xs) (fold_out-Clause Within Within (expression_step types funs) (numbered_clause_step types) d)) ∙ here)).1)
   each_numbered (d ∷ cs) xs h (suc k) c at = each_numbered cs xs (both (clause_numbered d xs) _ h).1 k c at
 
   pub numbered-Match : (at : ℕ) (e : Expr) (cs : List Clause) (xs : List ℕ) → numbered (X.Match at e cs) xs ≡ true
       → (numbered e xs ≡ true) × ((k : ℕ) (c : Clause) → slice_get cs k ≡ Some c → numbered c.body (vars_of c.pat ++ xs) ≡ true)
   unfolding X.roll-Expr denote.Hole.Carrier.roll
   numbered-Match at e cs xs h =
-      let opened = sym (ap (λ (w : Within). w xs) (fold-roll-Expr Within Within (expression_step types funs) (clause_step types) (E.Match at e cs))) ∙ h in
+      let opened = sym (ap (λ (w : Within). w xs) (fold-roll-Expr Within Within (expression_step types funs) (numbered_clause_step types) (E.Match at e cs))) ∙ h in
       let p = both (numbered e xs) _ opened in
       (p.0, each_numbered cs xs (both _ _ (both _ _ p.1).1).1)
 

@@ -230,31 +230,31 @@ meaning_step p calls f (E.Match at e cs) wanted scope left env =
     (first_of p.types t (map branch_means cs) wanted others scope v rest env))
 
 -- one layer of a clause: its pattern, and what its body does
-abbrev pub clause_step : Clause-F Part Branch → Pat × Meaning
-clause_step c = (c.pat, c.body.1)
+abbrev pub branch_step : Clause-F Part Branch → Pat × Meaning
+branch_step c = (c.pat, c.body.1)
 
 -- what an expression of function f does, where a call does as `calls` has it
 abbrev pub meaning_of : Program → Calls → ℕ → Expr → Meaning
-meaning_of p calls f = para-Expr Meaning (Pat × Meaning) (meaning_step p calls f) clause_step
+meaning_of p calls f = para-Expr Meaning (Pat × Meaning) (meaning_step p calls f) branch_step
 
 -- a clause of function f: its pattern, and what its body does, where a call does as `calls` has it
 abbrev pub clause_meaning : Program → Calls → ℕ → Clause → Pat × Meaning
-clause_meaning p calls f = para-Clause Meaning (Pat × Meaning) (meaning_step p calls f) clause_step
+clause_meaning p calls f = para-Clause Meaning (Pat × Meaning) (meaning_step p calls f) branch_step
 
 -- Calls
 
 -- the bindings of parameters to arguments, each to the one in its place, up to where either list ends
-abbrev pub arguments : List Param → List Value → List Binding
-arguments [] vs = []
-arguments (p ∷ ps) [] = []
-arguments (p ∷ ps) (v ∷ vs) = record { var = p.var; value = v } ∷ arguments ps vs
+abbrev pub argument_bindings : List Param → List Value → List Binding
+argument_bindings [] vs = []
+argument_bindings (p ∷ ps) [] = []
+argument_bindings (p ∷ ps) (v ∷ vs) = record { var = p.var; value = v } ∷ argument_bindings ps vs
 
 -- what the body of function g does at its result type, with so many calls left and its parameters bound to
 -- the arguments vs; where the program has no such function, it is done with 0
 abbrev pub body_of : Program → Calls → Option Fun → ℕ → ℕ → List Value → Outcome
 body_of p calls None g left vs = done (Num 0) left
 body_of p calls (Some f) g left vs =
-    meaning_of p calls g f.body (Some f.result) (map binder_of f.params) left (arguments f.params vs)
+    meaning_of p calls g f.body (Some f.result) (map binder_of f.params) left (argument_bindings f.params vs)
 
 -- what a call of function g does, with so many calls left, of which it takes one, and the arguments vs, where
 -- calls nest at most k deep: it is spent where no call is left, or k is 0

@@ -98,15 +98,15 @@ con_names d = map (λ c. c.name) d.cons
 
 -- whether one layer of a pattern is well numbered: a constructor is one of the program, and its list of
 -- subpatterns is short, of which each is well numbered; whether there are as many as fields is typing's to ask
-abbrev pub pattern_step : List DataDecl → Pat-F Bool → Bool
-pattern_step types (P.Wild at) = true
-pattern_step types (P.Var at x) = true
-pattern_step types (P.Num at n) = true
-pattern_step types (P.Con at c ps) = is_constructor types c && (is_short ps && list_all (λ p. p) ps)
+abbrev pub numbered_pattern_step : List DataDecl → Pat-F Bool → Bool
+numbered_pattern_step types (P.Wild at) = true
+numbered_pattern_step types (P.Var at x) = true
+numbered_pattern_step types (P.Num at n) = true
+numbered_pattern_step types (P.Con at c ps) = is_constructor types c && (is_short ps && list_all (λ p. p) ps)
 
 -- a pattern is well numbered: each constructor in it is one of the program, and each list in it is short
 abbrev pub pattern_is_numbered : List DataDecl → Pat → Bool
-pattern_is_numbered types = fold-Pat Bool (pattern_step types)
+pattern_is_numbered types = fold-Pat Bool (numbered_pattern_step types)
 
 -- the variables that one layer of a pattern binds, from those that its subpatterns bind
 abbrev pub vars_step : Pat-F (List ℕ) → List ℕ
@@ -152,8 +152,8 @@ all_within es xs = list_all (λ (e : Within). e xs) es
 
 -- whether one layer of a clause is well numbered within the variables xs: its pattern is, and its body is
 -- with what the pattern binds
-abbrev pub clause_step : List DataDecl → Clause-F Within Within → Within
-clause_step types c xs = pattern_is_numbered types c.pat && c.body (vars_of c.pat ++ xs)
+abbrev pub numbered_clause_step : List DataDecl → Clause-F Within Within → Within
+numbered_clause_step types c xs = pattern_is_numbered types c.pat && c.body (vars_of c.pat ++ xs)
 
 -- whether one layer of an expression is well numbered within the variables xs: what it names is there, a
 -- conversion is to 1 to 64 bits, a match has a clause, its lists are short, and its parts are well numbered
@@ -171,7 +171,7 @@ expression_step types funs (E.Match at e cs) xs = e xs && (nat_lt 0 (length cs) 
 -- one of the program, each variable one of these or bound round it in the expression, each conversion is to 1
 -- to 64 bits, each match has a clause, and each list in it is short
 abbrev pub expression_is_numbered : List DataDecl → List Fun → Expr → List ℕ → Bool
-expression_is_numbered types funs = fold-Expr Within Within (expression_step types funs) (clause_step types)
+expression_is_numbered types funs = fold-Expr Within Within (expression_step types funs) (numbered_clause_step types)
 
 -- the tokens of several lists, one list behind the other
 abbrev pub all_tokens : List (List ℕ) → List ℕ
@@ -179,23 +179,23 @@ all_tokens = flat_map (λ ts. ts)
 
 -- the token numbers of the matches in one layer of an expression, from those in its parts: a match comes
 -- first, then what is in its scrutinee and its clauses
-abbrev pub matches_step : Expr-F (List ℕ) (List ℕ) → List ℕ
-matches_step (E.Num at n) = []
-matches_step (E.Var at x) = []
-matches_step (E.Call at g es) = all_tokens es
-matches_step (E.Build at c es) = all_tokens es
-matches_step (E.Binary at op a b) = a ++ b
-matches_step (E.To at bits a) = a
-matches_step (E.Let at x ty a b) = a ++ b
-matches_step (E.Match at e cs) = at ∷ (e ++ all_tokens cs)
+abbrev pub tokens_step : Expr-F (List ℕ) (List ℕ) → List ℕ
+tokens_step (E.Num at n) = []
+tokens_step (E.Var at x) = []
+tokens_step (E.Call at g es) = all_tokens es
+tokens_step (E.Build at c es) = all_tokens es
+tokens_step (E.Binary at op a b) = a ++ b
+tokens_step (E.To at bits a) = a
+tokens_step (E.Let at x ty a b) = a ++ b
+tokens_step (E.Match at e cs) = at ∷ (e ++ all_tokens cs)
 
 -- the token numbers of the matches in one layer of a clause: those in its body
-abbrev pub clause_matches : Clause-F (List ℕ) (List ℕ) → List ℕ
-clause_matches c = c.body
+abbrev pub body_tokens : Clause-F (List ℕ) (List ℕ) → List ℕ
+body_tokens c = c.body
 
 -- the token numbers of an expression's matches, in the order of the text
 abbrev pub match_tokens : Expr → List ℕ
-match_tokens = fold-Expr (List ℕ) (List ℕ) matches_step clause_matches
+match_tokens = fold-Expr (List ℕ) (List ℕ) tokens_step body_tokens
 
 -- Programs ----------------------------------------------------------------------------------
 

@@ -4,7 +4,7 @@ ghost use Rattle.std.specs.Prelude.{◌≡◌, ◌++◌, IfOk, OnOk, map, take, 
 ghost use Rattle.rb_core.specs.Typing.{binder_of};
 ghost use Rattle.rb_core.specs.Matching.{all_bound, bindings};
 ghost use Rattle.rb_core.specs.Inference.{with_binder, binders};
-ghost use Rattle.rb_core.specs.Meaning.{value_in, with_value, arguments};
+ghost use Rattle.rb_core.specs.Meaning.{value_in, with_value, argument_bindings};
 
 use crate::binding::Binding;
 use crate::inference::bind_types;
@@ -113,7 +113,7 @@ pub(crate) fn bind_arguments(
     params: &[Param],
     args: &[Value],
 ) -> Result<Seq<Binding>, AllocError>
-    ensures { IfOk result (λ values. values ≡ arguments params.now args.now) }
+    ensures { IfOk result (λ values. values ≡ argument_bindings params.now args.now) }
 {
     let mut values = Seq::new(alloc);
     for (i, param) in params.iter().enumerate() {

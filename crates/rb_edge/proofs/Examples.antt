@@ -3,7 +3,7 @@ use Rattle.std.proofs.Common.{◌≡◌, ℕ, List, [], ◌∷◌, ◌++◌, Som
 use Rattle.rb_edge.specs.declared.named.NamedBytes.{NamedBytes}
 use Rattle.rb_edge.specs.Faults.{one_more}
 use Rattle.rb_edge.specs.History.{Reading, Course, going, ended, failed, begun, missed, told_end, broken}
-use Rattle.rb_edge.specs.MemSource.{SourceState, held_in, after_open, after_read}
+use Rattle.rb_edge.specs.MemSource.{SourceState, held_in, after_open, after_read_into}
 use Rattle.rb_edge.specs.MemSink.{SinkState, after_write}
 
 -- two files of one name, 7, and one of the name 8
@@ -37,19 +37,19 @@ not-held : after_open (before 5 (1 ∷ []) (seven [] going)) (9 ∷ []) ≡ (Err
 not-held = refl
 
 -- a read gives no more than the step, and what stands behind in the buffer stays
-reads : after_read (before 1 (1 ∷ 2 ∷ 3 ∷ []) (seven (0 ∷ []) going)) (0 ∷ 0 ∷ 0 ∷ [])
+reads : after_read_into (before 1 (1 ∷ 2 ∷ 3 ∷ []) (seven (0 ∷ []) going)) (0 ∷ 0 ∷ 0 ∷ [])
     ≡ (Ok 2, 1 ∷ 2 ∷ 0 ∷ [], before 2 (3 ∷ []) (seven (0 ∷ 1 ∷ 2 ∷ []) going))
 reads = refl
 
 -- no bytes tell the end, where there is room for one
-at-end : after_read (before 1 [] (seven (3 ∷ []) going)) (0 ∷ []) ≡ (Ok 0, 0 ∷ [], before 2 [] (seven (3 ∷ []) ended))
+at-end : after_read_into (before 1 [] (seven (3 ∷ []) going)) (0 ∷ []) ≡ (Ok 0, 0 ∷ [], before 2 [] (seven (3 ∷ []) ended))
 at-end = refl
 
-no-room-to-read : after_read (before 1 (1 ∷ []) (seven [] going)) [] ≡ (Ok 0, [], before 2 (1 ∷ []) (seven [] going))
+no-room-to-read : after_read_into (before 1 (1 ∷ []) (seven [] going)) [] ≡ (Ok 0, [], before 2 (1 ∷ []) (seven [] going))
 no-room-to-read = refl
 
 -- what failed does not come to an end
-fails-to-read : after_read (before 5 [] (seven [] going)) (0 ∷ []) ≡ (Err (record {}), 0 ∷ [], record (before 6 [] (seven [] failed)) { faults = 1 })
+fails-to-read : after_read_into (before 5 [] (seven [] going)) (0 ∷ []) ≡ (Err (record {}), 0 ∷ [], record (before 6 [] (seven [] failed)) { faults = 1 })
 fails-to-read = refl
 
 stays-failed : told_end (broken (begun (7 ∷ []))) ≡ missed (7 ∷ [])

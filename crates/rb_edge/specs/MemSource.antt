@@ -75,8 +75,8 @@ read_count s room = min (min room s.step) (length s.left)
 -- What a read into a buffer answers, and the buffer and the source after it. Where the call's number says so it
 -- fails, which is a fault, and no byte is lost; else the answer is how many bytes it gives, which stand at the front
 -- of the buffer, and what is behind them there stays. The last reading, if there is one, tells either.
-abbrev pub after_read : SourceState → List ℕ → Result ℕ Failed × List ℕ × SourceState
-after_read s buffer =
+abbrev pub after_read_into : SourceState → List ℕ → Result ℕ Failed × List ℕ × SourceState
+after_read_into s buffer =
     let n = read_count s (length buffer) in
     let readings = on_last (history.after_read (length buffer) (take n s.left)) s.readings in
     if fails_at s.fail s.calls then (Err (record {}), buffer, faulted s s.left (on_last broken s.readings))

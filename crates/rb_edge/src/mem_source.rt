@@ -6,7 +6,7 @@ ghost use Rattle.rb_edge.specs.Faults.{Rose};
 ghost use Rattle.rb_edge.specs.History.{Reading, begun, missed, broken, on_last};
 ghost use Rattle.rb_edge.specs.History as history;
 ghost use Rattle.rb_edge.specs.Source.{HoldsTheSame, GivesBytes, FailsToOpen};
-ghost use Rattle.rb_edge.specs.MemSource.{new_source, held_in, bytes_of, after_open, after_read};
+ghost use Rattle.rb_edge.specs.MemSource.{new_source, held_in, bytes_of, after_open, after_read_into};
 
 use crate::calls::is_failing;
 use crate::history::Readings;
@@ -148,7 +148,7 @@ impl Source for MemSource {
     ///
     /// `Failed` where the call's number is in the list. It counts as a fault.
     fn read(&mut self, buf: &mut [u8]) -> Result<usize, Failed>
-        ensures answer { (result, buf.new, self.new) ≡ after_read self.old buf.old }
+        ensures answer { (result, buf.new, self.new) ≡ after_read_into self.old buf.old }
         ensures gives { IfOk result (λ n. GivesBytes n buf.new self.old.left self.new.left) }
     {
         let failing = is_failing(self.fail.as_slice(), self.calls);

@@ -8,7 +8,7 @@ use Rattle.rb_core.specs.declared.typing.Binder.{Binder}
 use Rattle.rb_core.specs.declared.program.Param.{Param}
 use Rattle.rb_core.specs.declared.program.Fun.{Fun}
 use Rattle.rb_core.specs.Typing.{binder_of}
-use Rattle.rb_core.specs.Meaning.{arguments, call_within}
+use Rattle.rb_core.specs.Meaning.{argument_bindings, call_within}
 use Rattle.rb_core.specs.Meaning as Source
 use Rattle.rb_bytes.specs.Memory.{Memory, IsGood}
 use Rattle.rb_target.specs.declared.instr.Instr.{Instr}
@@ -44,7 +44,7 @@ row_is (w ∷ ws) pre zs a e =
 
 module _ (plan : Plan) where
   pub params_hold : (clean : Bool) (m : Memory) (ps : List Param) (vs : List Value) (ws pre zs : List ℕ) (a : ℕ) → length pre ≡ a → Reps plan m clean (map (λ p. p.ty) ps) vs ws
-      → Holds plan clean (pre ++ (ws ++ zs)) m (param_locals plan a ps) (arguments ps vs)
+      → Holds plan clean (pre ++ (ws ++ zs)) m (param_locals plan a ps) (argument_bindings ps vs)
   params_hold clean m [] [] ws pre zs a e r = tt
   params_hold clean m [] (v ∷ vs) ws pre zs a e r = absurd r
   params_hold clean m (p ∷ ps) [] ws pre zs a e r = absurd r
@@ -56,10 +56,10 @@ module _ (plan : Plan) where
       let words : slots_at s (slots_from a (words_of plan p.ty)) ≡ first = ap (λ n. slots_at s (slots_from a n)) (sym count) ∙ row_is first pre (rest ++ zs) a e in
       let len : length (pre ++ first) ≡ a + words_of plan p.ty = omega (arith, e, count, length-append pre first) in
       let others = params_hold clean m ps vs rest (pre ++ first) zs (a + words_of plan p.ty) len r.4 in
-      subst (λ l. Holds plan clean l m (param_locals plan a (p ∷ ps)) (arguments (p ∷ ps) (v ∷ vs))) (sym whole) (
+      subst (λ l. Holds plan clean l m (param_locals plan a (p ∷ ps)) (argument_bindings (p ∷ ps) (v ∷ vs))) (sym whole) (
         refl,
         subst (λ us. Rep plan m clean p.ty v us) (sym words) r.3,
-        subst (λ l. Holds plan clean l m (param_locals plan (a + words_of plan p.ty) ps) (arguments ps vs)) (append_assoc pre first (rest ++ zs)) others,
+        subst (λ l. Holds plan clean l m (param_locals plan (a + words_of plan p.ty) ps) (argument_bindings ps vs)) (append_assoc pre first (rest ++ zs)) others,
       )
 
   pub params_given : (a n : ℕ) (ps : List Param) → a + words_in plan (map (λ p. p.ty) ps) ≤ n → AreGiven plan n (param_locals plan a ps)

@@ -20,7 +20,7 @@ use Rattle.rb_core.specs.declared.layout_decl.LayTree.TheVariants as S
 use Rattle.rb_core.specs.Layouts as lay
 use Rattle.rb_core.specs.Layouts.{WrittenLeaf, leaves, provenances, is_short, written, written_path, leaf_is_short, is_short_layout}
 use Rattle.rb_core.specs.Values.{fields_in, fields_of_con}
-use Rattle.rb_core.specs.WellNumbered.{IsWellNumbered, below_step, is_constructor, layout_is_numbered, may_be_below, pattern_step, Below, provenance_is_numbered}
+use Rattle.rb_core.specs.WellNumbered.{IsWellNumbered, below_step, is_constructor, layout_is_numbered, may_be_below, numbered_pattern_step, Below, provenance_is_numbered}
 use Rattle.rb_core.proofs.PatternLaws.{fold-Wild}
 use Rattle.rb_layout.proofs.FlatForms as flat
 use Rattle.rb_auto.specs.declared.field_words.FieldWord.{FieldWord}
@@ -216,7 +216,7 @@ module _ (types : List DataDecl) where
 
   wilds-good : (tys : List Ty) → Each (IsBelow most small types no_tables none-known) (map (λ (ty : Ty). P.Wild 0) tys)
   wilds-good [] = tt
-  wilds-good (ty ∷ tys) = ((ap may_be_below (fold-Wild Below below_step 0), fold-Wild Bool (pattern_step types) 0), wilds-good tys)
+  wilds-good (ty ∷ tys) = ((ap may_be_below (fold-Wild Below below_step 0), fold-Wild Bool (numbered_pattern_step types) 0), wilds-good tys)
 
   constructor-there : (d : Option DataDecl) (k : ℕ) (c : Con) → slice_get (cons_in d) k ≡ Some c → is_some (fields_in d k) ≡ true
   constructor-there None k c e = absurd cc

@@ -19,7 +19,7 @@ use Rattle.rb_core.specs.declared.expression.Expr.TheOpen.{Expr-F, Clause-F}
 use Rattle.rb_core.specs.declared.expression.Expr.TheFolds.{fold-Clause, fold-roll-Expr, fold_out-Clause}
 use Rattle.rb_core.specs.Layouts.{is_short}
 use Rattle.rb_core.specs.WellNumbered as well
-use Rattle.rb_core.specs.WellNumbered.{Within, is_between, is_constructor, is_type, all_within, all_tokens, expression_step, expression_is_numbered, matches_step, clause_matches, match_tokens, pattern_is_numbered, vars_of}
+use Rattle.rb_core.specs.WellNumbered.{Within, is_between, is_constructor, is_type, all_within, all_tokens, expression_step, expression_is_numbered, tokens_step, body_tokens, match_tokens, pattern_is_numbered, vars_of}
 use Rattle.rb_syntax.specs.declared.token.Token.{Token}
 use Rattle.rb_syntax.specs.declared.token.Token.TheVariants as tok
 use Rattle.rb_syntax.specs.declared.token.Word.TheVariants as word
@@ -121,22 +121,22 @@ module _ (types : List DataDecl) (funs : List Fun) where
   fine = expression_is_numbered types funs
 
   abbrev clause_fine : Clause → Within
-  clause_fine = fold-Clause Within Within (expression_step types funs) (well.clause_step types)
+  clause_fine = fold-Clause Within Within (expression_step types funs) (well.numbered_clause_step types)
 
   abbrev clause_tokens : Clause → List ℕ
-  clause_tokens = fold-Clause (List ℕ) (List ℕ) matches_step clause_matches
+  clause_tokens = fold-Clause (List ℕ) (List ℕ) tokens_step body_tokens
 
   fine-is : (e : Expr-F Expr Clause) (xs : List ℕ) → fine (C.roll-Expr e) xs ≡ expression_step types funs (C.map-Expr Expr Clause Within Within fine clause_fine e) xs
-  fine-is e xs = ap (λ (w : Within). w xs) (fold-roll-Expr Within Within (expression_step types funs) (well.clause_step types) e)
+  fine-is e xs = ap (λ (w : Within). w xs) (fold-roll-Expr Within Within (expression_step types funs) (well.numbered_clause_step types) e)
 
-  tokens-are : (e : Expr-F Expr Clause) → match_tokens (C.roll-Expr e) ≡ matches_step (C.map-Expr Expr Clause (List ℕ) (List ℕ) match_tokens clause_tokens e)
-  tokens-are e = fold-roll-Expr (List ℕ) (List ℕ) matches_step clause_matches e
+  tokens-are : (e : Expr-F Expr Clause) → match_tokens (C.roll-Expr e) ≡ tokens_step (C.map-Expr Expr Clause (List ℕ) (List ℕ) match_tokens clause_tokens e)
+  tokens-are e = fold-roll-Expr (List ℕ) (List ℕ) tokens_step body_tokens e
 
   clause-fine-is : (c : Clause) (xs : List ℕ) → clause_fine c xs ≡ (pattern_is_numbered types c.pat && fine c.body (vars_of c.pat ++ xs))
-  clause-fine-is c xs = ap (λ (w : Within). w xs) (fold_out-Clause Within Within (expression_step types funs) (well.clause_step types) c)
+  clause-fine-is c xs = ap (λ (w : Within). w xs) (fold_out-Clause Within Within (expression_step types funs) (well.numbered_clause_step types) c)
 
   clause-tokens-are : (c : Clause) → clause_tokens c ≡ match_tokens c.body
-  clause-tokens-are c = fold_out-Clause (List ℕ) (List ℕ) matches_step clause_matches c
+  clause-tokens-are c = fold_out-Clause (List ℕ) (List ℕ) tokens_step body_tokens c
 
 module _ (total : ℕ) (small : total < 2 ^ 32) (types : List DataDecl) (funs : List Fun) (t : Tables)
     (known_type : (name : Name) (n : ℕ) → meaning t.types name ≡ Some n → nat_lt n (length types) ≡ true)

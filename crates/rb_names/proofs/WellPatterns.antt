@@ -10,7 +10,7 @@ use Rattle.rb_core.specs.declared.types.DataDecl.{DataDecl}
 use Rattle.rb_core.specs.declared.pattern.Pat.{Pat}
 use Rattle.rb_core.specs.declared.pattern.Pat as C
 use Rattle.rb_core.specs.Layouts.{is_short}
-use Rattle.rb_core.specs.WellNumbered.{is_constructor, pattern_is_numbered, pattern_step, vars_of, vars_step}
+use Rattle.rb_core.specs.WellNumbered.{is_constructor, pattern_is_numbered, numbered_pattern_step, vars_of, vars_step}
 use Rattle.rb_core.proofs.PatternLaws.{fold-Wild, fold-Var, fold-Num, fold-Con}
 use Rattle.rb_syntax.specs.declared.token.Token.{Token}
 use Rattle.rb_syntax.specs.declared.token.Token.TheVariants as tok
@@ -152,7 +152,7 @@ module _ (total : ℕ) (small : total < 2 ^ 32) (types : List DataDecl) (t : Tab
         right = record { formed = s.formed; numbers = s.numbers.1; fits = omega (arith, s.fits) };
         shorter = rw (pat-Wild at l rest) (omega arith);
         well = λ scope q e. rw (← ok-is (C.Wild at) q (sym (pattern-Wild t scope at) ∙ e))
-            (no-names scope (names_in (P.Wild at)) _ _ (names-Wild at) (fold-Wild Bool (pattern_step types) at));
+            (no-names scope (names_in (P.Wild at)) _ _ (names-Wild at) (fold-Wild Bool (numbered_pattern_step types) at));
       }
 
   num-well : (at n : ℕ) → Well (P.Num at n)
@@ -161,7 +161,7 @@ module _ (total : ℕ) (small : total < 2 ^ 32) (types : List DataDecl) (t : Tab
         right = record { formed = s.formed; numbers = s.numbers.1; fits = omega (arith, s.fits) };
         shorter = rw (pat-Num at n l rest) (omega arith);
         well = λ scope q e. rw (← ok-is (C.Num at n) q (sym (pattern-Num t scope at n) ∙ e))
-            (no-names scope (names_in (P.Num at n)) _ _ (names-Num at n) (fold-Num Bool (pattern_step types) at n));
+            (no-names scope (names_in (P.Num at n)) _ _ (names-Num at n) (fold-Num Bool (numbered_pattern_step types) at n));
       }
 
   pub same-name : (a b : Name) → bytes_eq a b ≡ true → a ≡ b
@@ -188,7 +188,7 @@ module _ (total : ℕ) (small : total < 2 ^ 32) (types : List DataDecl) (t : Tab
             let f = then-ok (known v (meaning scope v.text)) _ q (sym (pattern-Var t scope at v) ∙ e) in
             let m : meaning scope v.text ≡ Some f.0 = known-ok v (meaning scope v.text) f.0 f.1 in
             rw (← ok-is (C.Var at f.0) q f.2) (record {
-              numbered = fold-Var Bool (pattern_step types) at f.0;
+              numbered = fold-Var Bool (numbered_pattern_step types) at f.0;
               binds = λ name y n k. rw (fold-Var (List ℕ) vars_step at f.0) (var-binds at v scope f.0 m name y (subst (λ ns. named_so name ns ≡ true) (names-Var at v) n) k);
             });
       }
@@ -219,7 +219,7 @@ module _ (total : ℕ) (small : total < 2 ^ 32) (types : List DataDecl) (t : Tab
             let short : is_short (map (pattern_is_numbered types) g.0) ≡ true =
             short-list (map (pattern_is_numbered types) g.0) (length ps) (length-map (pattern_is_numbered types) g.0 ∙ v.0) (omega (arith, b.count, s.fits)) in
             rw (← ok-is (C.Con at f.0 g.0) q g.2) (record {
-              numbered = fold-Con Bool (pattern_step types) at f.0 g.0
+              numbered = fold-Con Bool (numbered_pattern_step types) at f.0 g.0
                   ∙ and-both _ _ (known_con x.text f.0 (known-ok x (meaning t.constructors x.text) f.0 f.1)) (and-both _ _ short v.1.numbered);
               binds = λ name y n k. rw (fold-Con (List ℕ) vars_step at f.0 g.0) (v.1.binds name y (subst (λ ns. named_so name ns ≡ true) (names-Con at x ps) n) k);
             });

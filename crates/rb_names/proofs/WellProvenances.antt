@@ -8,7 +8,7 @@ use Rattle.rb_core.specs.declared.pattern.Pat.{Pat}
 use Rattle.rb_core.specs.declared.pattern.Pat as C
 use Rattle.rb_core.specs.declared.pattern.Pat.TheFolds.{fold-Pat}
 use Rattle.rb_core.specs.Layouts.{is_short}
-use Rattle.rb_core.specs.WellNumbered.{is_constructor, pattern_is_numbered, pattern_step, Below, either, may_be_below, below_step, is_provenance, provenance_is_numbered}
+use Rattle.rb_core.specs.WellNumbered.{is_constructor, pattern_is_numbered, numbered_pattern_step, Below, either, may_be_below, below_step, is_provenance, provenance_is_numbered}
 use Rattle.rb_core.proofs.PatternLaws.{fold-Wild, fold-Con}
 use Rattle.rb_syntax.specs.declared.token.Token.TheVariants as tok
 use Rattle.rb_syntax.specs.declared.token.Symbol.TheVariants as symbol
@@ -105,7 +105,7 @@ module _ (total : ℕ) (small : total < 2 ^ 32) (types : List DataDecl) (t : Tab
       short-of total small (map (pattern_is_numbered types) qs) (omega (arith, h, length-of-map (pattern_is_numbered types) qs)) in
       let all : list_all (λ b. b) (map (pattern_is_numbered types) qs) ≡ true =
       each-passes (pattern_is_numbered types) (λ b. b) qs (each-of IsBelow (λ q. pattern_is_numbered types q ≡ true) (λ q b. b.1) qs g) in
-      both _ _ provenance (fold-Con Bool (pattern_step types) at c qs ∙ both _ _ k (both _ _ short all))
+      both _ _ provenance (fold-Con Bool (numbered_pattern_step types) at c qs ∙ both _ _ k (both _ _ short all))
 
   con-is : (at : ℕ) (x : NameTree) (ps : List PatTree) → pattern.Each BelowFine ps → (l : ℕ) (rest : List Written)
       → Right total (below_written (P.Con at x ps) l rest) → ConIs l (P.Con at x ps) rest
@@ -131,7 +131,7 @@ module _ (total : ℕ) (small : total < 2 ^ 32) (types : List DataDecl) (t : Tab
       (λ q e. (
         omega arith,
         subst IsBelow (ok-is (C.Wild at) q (sym (pattern-Wild t [] at) ∙ e))
-            (ap may_be_below (fold-Wild Below below_step at), fold-Wild Bool (pattern_step types) at),
+            (ap may_be_below (fold-Wild Below below_step at), fold-Wild Bool (numbered_pattern_step types) at),
       ))
 
   flawed : (Q : Type 0) (ws rest : List Written) → ws ≡ flaw ∷ rest → Right total ws → Q

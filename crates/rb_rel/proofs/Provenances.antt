@@ -68,7 +68,7 @@ module _ (types : List DataDecl) where
 
   con_fits : (at : ℕ) (c : ConRef) (ps : List Pat) → Each Fits ps → Fits (Con at c ps)
   con_fits at c ps each ty bs n e =
-      let a = both (is_constructor types c) (is_short (map (pattern_is_numbered types) ps) && list_all (λ b. b) (map (pattern_is_numbered types) ps)) (sym (fold-Con Bool (W.pattern_step types) at c ps) ∙ n) in
+      let a = both (is_constructor types c) (is_short (map (pattern_is_numbered types) ps) && list_all (λ b. b) (map (pattern_is_numbered types) ps)) (sym (fold-Con Bool (W.numbered_pattern_step types) at c ps) ∙ n) in
       let b = both (is_short (map (pattern_is_numbered types) ps)) (list_all (λ b. b) (map (pattern_is_numbered types) ps)) a.1 in
       let d = chosen-ok (same_type ty (Named c.ty)) (fields_match at (map (pattern_params types) ps) (field_types types c)) (Mismatch at ty (Named c.ty)) bs (sym (pattern-Con types at c ps ty) ∙ e) in
       fits-Con types at c ps ty ∙ and_true (is_named c.ty ty) (are_of (map (fits_type types) ps) (fields_of types c)) (same_named ty c.ty d.0) (fields_fit at ps each (fields_of types c) bs a.0 b.1 d.1)

@@ -16,7 +16,7 @@ use Rattle.rb_core.specs.Values.{is_of_type, are_of, fields_of}
 use Rattle.rb_core.specs.Matching.{all_pass, is_con, matches_of, bindings, all_bound, bound_within}
 use Rattle.rb_core.specs.Typing.{same_type, bound_type, variable_type, binder_of, field_types, also_bound, subpatterns, fields_match, pattern_params}
 use Rattle.rb_core.specs.Inference.{binders, all_binders}
-use Rattle.rb_core.specs.Meaning.{value_or, value_in, arguments}
+use Rattle.rb_core.specs.Meaning.{value_or, value_in, argument_bindings}
 use Rattle.rb_core.proofs.ValueLaws as VL
 use Rattle.rb_core.proofs.PatternLaws as PL
 use Rattle.rb_core.proofs.MatchingForms.{matches-Con, bindings-Wild, bindings-Var, bindings-Num, bindings-Con}
@@ -56,7 +56,7 @@ module _ (types : List DataDecl) where
   pub variable_is : (x : ℕ) (s : List Binder) (e : List Binding) → Agree s e → IsOf (value_in e x) (variable_type x s)
   variable_is x s e h = looked_up x s e (Int 64) (Num 0) h zero_is_word
 
-  pub arguments_agree : (ps : List Param) (vs : List Value) → AreOfTypes types vs (map (λ p. p.ty) ps) → Agree (map binder_of ps) (arguments ps vs)
+  pub arguments_agree : (ps : List Param) (vs : List Value) → AreOfTypes types vs (map (λ p. p.ty) ps) → Agree (map binder_of ps) (argument_bindings ps vs)
   arguments_agree [] [] h = tt
   arguments_agree [] (v ∷ vs) h = cc
   arguments_agree (p ∷ ps) [] h = cc

@@ -16,7 +16,7 @@ use Rattle.rb_core.specs.declared.expression.Expr.TheOpen as E
 use Rattle.rb_core.specs.declared.expression.Expr.TheOpen.{Expr-F}
 use Rattle.rb_core.specs.declared.expression.Expr.TheFolds.{fold-Expr, fold-roll-Expr, fold-Clause, fold_out-Clause}
 use Rattle.rb_core.specs.Values.{fields_of}
-use Rattle.rb_core.specs.WellNumbered.{Within, is_lower, is_type, param_is_numbered, expression_step, clause_step, expression_is_numbered, function_is_numbered, vars_of, IsWellNumbered}
+use Rattle.rb_core.specs.WellNumbered.{Within, is_lower, is_type, param_is_numbered, expression_step, numbered_clause_step, expression_is_numbered, function_is_numbered, vars_of, IsWellNumbered}
 use Rattle.rb_core.proofs.ExpressionLaws.{Each, EachBody, induction}
 use Rattle.rb_sound.specs.Words.{all_true, words_step, words_clause, has_words, clause_has_words, body_has_words, HasWords}
 use Rattle.rb_sound.proofs.Forms.{both, and_true}
@@ -110,13 +110,13 @@ module _ (types : List DataDecl) (funs : List Fun) where
   numbered = expression_is_numbered types funs
 
   abbrev clause_numbered : Clause → Within
-  clause_numbered = fold-Clause Within Within (expression_step types funs) (clause_step types)
+  clause_numbered = fold-Clause Within Within (expression_step types funs) (numbered_clause_step types)
 
   abbrev opened : (e : Expr-F Expr Clause) (xs : List ℕ) → numbered (X.roll-Expr e) xs ≡ expression_step types funs (X.map-Expr Expr Clause Within Within numbered clause_numbered e) xs
-  opened e xs = ap (λ (w : Within). w xs) (fold-roll-Expr Within Within (expression_step types funs) (clause_step types) e)
+  opened e xs = ap (λ (w : Within). w xs) (fold-roll-Expr Within Within (expression_step types funs) (numbered_clause_step types) e)
 
-  clause_numbered-is : (c : Clause) (xs : List ℕ) → clause_numbered c xs ≡ clause_step types (record { pat = c.pat; body = numbered c.body }) xs
-  clause_numbered-is c xs = ap (λ (w : Within). w xs) (fold_out-Clause Within Within (expression_step types funs) (clause_step types) c)
+  clause_numbered-is : (c : Clause) (xs : List ℕ) → clause_numbered c xs ≡ numbered_clause_step types (record { pat = c.pat; body = numbered c.body }) xs
+  clause_numbered-is c xs = ap (λ (w : Within). w xs) (fold_out-Clause Within Within (expression_step types funs) (numbered_clause_step types) c)
 
   abbrev IsWhole : Expr → Type 0
   IsWhole e = (xs : List ℕ) → numbered e xs ≡ true → has_words e ≡ true → is_whole types e ≡ true
