@@ -1,7 +1,8 @@
--- Typed programs: each type has a value, and each provenance and each function's body is typed. The first
--- fault is that of a type without a value, then the first in the file's order: through the layouts'
--- provenances, then through the functions. A type is named here by the number of its declaration, and `types`
--- and `funs` are the data types and the functions of the program.
+-- Typed programs: the program is well numbered, each type has a value, each provenance is typed, and so is
+-- each function, whose parameters are distinct and whose body is typed. The first fault is that of a type
+-- without a value, then the first in the file's order: through the layouts' provenances, then through the
+-- functions. A type is named here by the number of its declaration, and `types` and `funs` are the data types
+-- and the functions of the program.
 use Rattle.std.specs.Prelude.{◌≡◌, ℕ, ◌<◌, List, [], ◌∷◌, ◌++◌, map, length, true, false, Option, Some, None}
 use Rattle.std.specs.Result.{result_err}
 use Rattle.rb_core.specs.declared.value.Value.{Value}

@@ -97,7 +97,8 @@ fn infer_let(
 }
 
 /// The type of a match whose scrutinee has type `ty`: the wanted one, or where none is wanted that
-/// of its first clause; `u64` where it has no clause. On `Ok` the scope is what it was.
+/// of its first clause; `u64` where none is wanted and it has no clause. On `Ok` the scope is what
+/// it was.
 ///
 /// # Errors
 ///
