@@ -2,7 +2,7 @@
 use Rattle.std.specs.Prelude.{◌≡◌, ◌≤◌, ◌<◌, ℕ, suc, ◌^◌, List, [], ◌∷◌, codes, map, Result, Ok, Err}
 use Rattle.std.specs.Fmt.{decimal}
 use Rattle.std.specs.List.{All}
-use Rattle.rb_bytes.specs.Memory.{most_region}
+use Rattle.rb_bytes.specs.Memory.{least_region, most_region}
 use Rattle.rb_core.specs.Limits.{most_calls}
 use Rattle.rb_core.specs.Stopping.{StopsAtIn}
 use Rattle.rb_command.specs.Path.{AreSteps, path_text}
@@ -33,9 +33,9 @@ pub data Command : Type 0 where
 abbrev pub IsBetween : ℕ → ℕ → ℕ → Type 0
 IsBetween low high n = (low ≤ n) × (n ≤ high)
 
--- CALLS is at most `most_calls`, and REGION is from 64 to `most_region`
+-- CALLS is at most `most_calls`, and REGION is from `least_region` to `most_region`
 abbrev pub AreLimits : Limits → Type 0
-AreLimits limits = IsBetween 0 most_calls limits.calls × IsBetween 64 most_region limits.region
+AreLimits limits = IsBetween 0 most_calls limits.calls × IsBetween least_region most_region limits.region
 
 -- how many functions a generated file may have beside `up` and `main`
 abbrev pub most_generated : ℕ

@@ -8,7 +8,7 @@ ghost use Rattle.rb_command.specs.inner.Parsing.{check_words, command_of, compil
 
 use crate::limits::{Functions, Limits};
 use crate::path::parse_path;
-use rb_bytes::memory::MOST_REGION;
+use rb_bytes::memory::{LEAST_REGION, MOST_REGION};
 use rb_core::decimal::number_in;
 use rb_core::limits::MOST_CALLS;
 use rb_core::seq::Seq;
@@ -96,9 +96,6 @@ impl From<AllocError> for CommandFault {
         CommandFault::Memory
     }
 }
-
-// The least address at which the memory of a run may end, in bytes.
-const LEAST_REGION: u64 = 64;
 
 // The most functions of a generated file, `up` and `main` apart; clauses cite it as `most_generated`.
 const FUNCTIONS: u64 = 2_000;

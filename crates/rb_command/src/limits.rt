@@ -1,7 +1,7 @@
 //! How far a run may go, and how large a generated file may be.
 
 ghost use Rattle.std.specs.Prelude.{◌≤◌};
-ghost use Rattle.rb_bytes.specs.Memory.{most_region};
+ghost use Rattle.rb_bytes.specs.Memory.{least_region, most_region};
 ghost use Rattle.rb_core.specs.Limits.{most_calls};
 ghost use Rattle.rb_command.specs.Command.{most_generated};
 
@@ -13,7 +13,7 @@ pub struct Limits {
     /// The address at which the memory of a run ends, in bytes.
     pub region: u64,
     ghost few: { calls ≤ most_calls },
-    ghost low: { 64 ≤ region },
+    ghost low: { least_region ≤ region },
     ghost high: { region ≤ most_region },
 }
 

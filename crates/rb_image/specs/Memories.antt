@@ -2,7 +2,7 @@
 -- image's block has an address and bytes; a memory has the blocks that were placed in it, each with its size, what
 -- is written at each of its addresses, the next free address, and a limit.
 use Rattle.std.specs.Prelude.{◌≡◌, ℕ, ◌+◌, ◌-◌, List, [], ◌∷◌, ◌++◌, length, map, replicate, Option, Some, None, slice_get}
-use Rattle.rb_bytes.specs.Memory.{Memory, byte_at, most_region, size_at}
+use Rattle.rb_bytes.specs.Memory.{Memory, byte_at, least_region, most_region, size_at}
 use Rattle.rb_image_text.specs.declared.image.ImageBlock.{ImageBlock}
 
 -- the address behind the last of the blocks, or `from` where there is none
@@ -23,7 +23,7 @@ bytes_from from (b ∷ bs) to =
 -- the memory of so many bytes that has these blocks and no others
 abbrev pub memory_within : ℕ → List ImageBlock → Memory
 memory_within limit blocks =
-    record { limit = limit; next = end_from 64 blocks; blocks = map span_of blocks; bytes = bytes_from 0 blocks limit }
+    record { limit = limit; next = end_from least_region blocks; blocks = map span_of blocks; bytes = bytes_from 0 blocks limit }
 
 -- the memory of an image with these blocks, and no others: as many bytes as the greatest region has
 unfoldable pub image_memory : List ImageBlock → Memory

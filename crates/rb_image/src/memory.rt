@@ -5,15 +5,15 @@
 
 ghost use Rattle.std.specs.Prelude.{◌≡◌, ◌+◌, ◌≤◌, length, IfOk, Some};
 ghost use Rattle.rb_bytes.specs.Laws.{Extends};
-ghost use Rattle.rb_bytes.specs.Memory.{IsGood, IsSize, most_region, size_at};
+ghost use Rattle.rb_bytes.specs.Memory.{IsGood, IsSize, least_region, most_region, size_at};
 ghost use Rattle.rb_image_text.specs.Images.{AreBlocks};
 ghost use Rattle.rb_image_text.specs.Places.{AreInPlace};
 ghost use Rattle.rb_image.specs.Memories.{Stand, BlockStands};
 ghost use Rattle.rb_image.specs.inner.Filling.{AreStored, EndBy, with_next};
 
 use rb_bytes::checked::CheckedMemory;
-use rb_bytes::memory::ByteMemory;
-use rb_image_text::image::{ImageBlock, LEAST_ADDRESS};
+use rb_bytes::memory::{ByteMemory, LEAST_REGION};
+use rb_image_text::image::ImageBlock;
 use std::alloc::{AllocError, Global};
 
 // The most bytes of a filler, which is a block of no image: it takes up the room before and between
@@ -23,11 +23,11 @@ const MOST_FILLER: u64 = 512;
 // The address behind the last block, or the least address of a block where there is none.
 fn end_of(blocks: &[ImageBlock]) -> u64
     requires placed { AreInPlace blocks.now }
-    ensures within { (64 ≤ result) × (result ≤ most_region) }
+    ensures within { (least_region ≤ result) × (result ≤ most_region) }
     ensures each { EndBy result blocks.now }
 {
     match blocks.last() {
-        None => LEAST_ADDRESS,
+        None => LEAST_REGION,
         Some(block) => {
             let at = block.at;
             at + block.bytes.len() as u64
@@ -37,10 +37,10 @@ fn end_of(blocks: &[ImageBlock]) -> u64
 
 // A region of `limit` bytes with no block in it.
 fn empty_region(alloc: Global, limit: u64) -> Result<CheckedMemory, AllocError>
-    requires { (64 ≤ limit) × (limit ≤ most_region) }
+    requires { (least_region ≤ limit) × (limit ≤ most_region) }
     ensures good { IfOk result (λ m. IsGood m) }
     ensures limit { IfOk result (λ m. m.limit ≡ limit) }
-    ensures next { IfOk result (λ m. m.next ≡ 64) }
+    ensures next { IfOk result (λ m. m.next ≡ least_region) }
 {
     CheckedMemory::new(alloc, limit)
 }

@@ -5,9 +5,6 @@
 
 use rb_core::seq::Seq;
 
-/// The least address of a block.
-pub const LEAST_ADDRESS: u64 = 64;
-
 /// The most bytes of a block.
 pub const MOST_BLOCK_BYTES: usize = 512;
 

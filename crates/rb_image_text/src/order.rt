@@ -7,15 +7,15 @@
 ghost use Rattle.std.specs.Prelude.{◌≡◌, IsTrue, ◌↔◌, MatchOption};
 ghost use Rattle.rb_image_text.specs.Places.{IsInPlace, AreInPlace, IsFirstMisplaced};
 
-use crate::image::{ImageBlock, LEAST_ADDRESS};
-use rb_bytes::memory::MOST_REGION;
+use crate::image::ImageBlock;
+use rb_bytes::memory::{LEAST_REGION, MOST_REGION};
 
 // Whether a block begins at 64 or later and at the address `before` or later, and ends within the
 // greatest region.
 fn is_in_place(before: u64, block: &ImageBlock) -> bool
     ensures { IsTrue result ↔ IsInPlace before block.now }
 {
-    LEAST_ADDRESS <= block.at
+    LEAST_REGION <= block.at
         && before <= block.at
         && block.at <= MOST_REGION
         && block.bytes.len() as u64 <= MOST_REGION - block.at

@@ -4,7 +4,7 @@
 //! construction.
 
 ghost use Rattle.std.specs.Prelude.{◌≡◌, ℕ, ◌+◌, ◌≤◌, List, map, true, IfOk};
-ghost use Rattle.rb_bytes.specs.Memory.{IsGood, Memory, empty_memory, most_region};
+ghost use Rattle.rb_bytes.specs.Memory.{IsGood, Memory, empty_memory, least_region, most_region};
 ghost use Rattle.rb_coding.specs.Decoding.{AreOf};
 ghost use Rattle.rb_core.specs.declared.value.Value.{Value};
 ghost use Rattle.rb_core.specs.Limits.{most_calls};
@@ -71,7 +71,7 @@ pub fn answer_main<L: Ledger>(
     requires typed { all_of_types (map (is_of_type agreed.now.covered.program.types) args.now)
         (param_types agreed.now.covered.program.funs agreed.now.covered.program.main) ≡ true }
     requires calls { bounds.calls ≤ most_calls }
-    requires region { (64 ≤ bounds.region) × (bounds.region ≤ most_region) }
+    requires region { (least_region ≤ bounds.region) × (bounds.region ≤ most_region) }
     ensures answer { IfOk result (λ a. meant_by a
         ≡ answer_of agreed.now.covered.program agreed.now.layouts args.now bounds.calls bounds.region bounds.nodes) }
     ensures counted { IfOk result (λ a. (taken switches : ℕ) × (steps.new.taken ≡ steps.old.taken + taken)

@@ -3,7 +3,7 @@
 //! an instruction that the run begins.
 
 ghost use Rattle.std.specs.Prelude.{◌≡◌, ℕ, ◌+◌, ◌-◌, ◌≤◌, length, map, true, IfOk};
-ghost use Rattle.rb_bytes.specs.Memory.{empty_memory, most_region};
+ghost use Rattle.rb_bytes.specs.Memory.{empty_memory, least_region, most_region};
 ghost use Rattle.rb_core.specs.Limits.{most_calls};
 ghost use Rattle.rb_core.specs.Meaning.{call_of};
 ghost use Rattle.rb_core.specs.Typing.{param_types};
@@ -17,7 +17,7 @@ ghost use Rattle.rb_run.specs.Counting.{IsTally, left_at};
 
 use crate::answer::{Answer, Bounds, answer_to};
 use crate::call::call_main;
-use rb_bytes::memory::ByteMemory;
+use rb_bytes::memory::{ByteMemory, LEAST_REGION};
 use rb_edge::steps::{Ledger, Steps};
 use rb_layout::agreed::Agreed;
 use rb_raw::memory::RawMemory;
@@ -25,9 +25,6 @@ use rb_target::code::Code;
 use rb_target::outcome::{End, Ran};
 use rb_values::forest::Forest;
 use std::alloc::{AllocError, Global};
-
-// The first address of a region.
-const FIRST_ADDRESS: u64 = 64;
 
 /// What a run did.
 #[derive(Clone, Copy)]
@@ -69,7 +66,7 @@ pub fn count_main<L: Ledger>(
     requires typed { all_of_types (map (is_of_type agreed.now.covered.program.types) args.now)
         (param_types agreed.now.covered.program.funs agreed.now.covered.program.main) ≡ true }
     requires calls { bounds.calls ≤ most_calls }
-    requires region { (64 ≤ bounds.region) × (bounds.region ≤ most_region) }
+    requires region { (least_region ≤ bounds.region) × (bounds.region ≤ most_region) }
     ensures answer { IfOk result (λ c. meant_by c.answer
         ≡ answer_of agreed.now.covered.program agreed.now.layouts args.now bounds.calls bounds.region bounds.nodes) }
     ensures counted { IfOk result (λ c. (taken : ℕ) × (steps.new.taken ≡ steps.old.taken + taken)
@@ -103,12 +100,12 @@ fn tally_of(ran: &Ran, memory: &RawMemory, calls: u64) -> Tally
     ensures calls { result.calls ≡ calls - left_at ran.now.end }
     ensures switches { result.switches ≡ ran.now.switches }
     ensures blocks { result.blocks ≡ length memory.now.blocks }
-    ensures bytes { result.bytes ≡ memory.now.next - 64 }
+    ensures bytes { result.bytes ≡ memory.now.next - least_region }
 {
     Tally {
         calls: calls.saturating_sub(calls_left(&ran.end)),
         switches: ran.switches,
         blocks: memory.blocks(),
-        bytes: memory.next() - FIRST_ADDRESS,
+        bytes: memory.next() - LEAST_REGION,
     }
 }

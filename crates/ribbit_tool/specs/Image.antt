@@ -5,7 +5,7 @@
 -- the address at which its region, the memory of the run, ends.
 use Rattle.std.specs.Prelude.{◌≡◌, ℕ, List}
 use Rattle.rb_bytes.specs.Growth.{AreWhole}
-use Rattle.rb_bytes.specs.Memory.{Memory, IsGood, empty_memory}
+use Rattle.rb_bytes.specs.Memory.{Memory, IsGood, empty_memory, least_region}
 use Rattle.rb_coding.specs.Encoding.{StandApart}
 use Rattle.rb_command.specs.Command.{Limits}
 use Rattle.rb_core.specs.Typing.{param_types, result_type}
@@ -34,7 +34,7 @@ pub record IsImageOf (p : Program) (layouts : List Layout) (limits : Limits) (ar
   pub root : IsCleanlyRepresented p.types layouts m (result_type p.funs p.main) v words
   -- some words represent each value that was given, cleanly, over just the blocks that it asks for
   pub given : (own : List (ℕ × ℕ)) (next : ℕ) → laid_values p layouts limits args ≡ Fits own next
-      → (ws : List ℕ) × StandApart p.types layouts m (param_types p.funs p.main) args 64 own next ws
+      → (ws : List ℕ) × StandApart p.types layouts m (param_types p.funs p.main) args least_region own next ws
 
 -- the words and the memory are an image of the value that the source answers, if it answers one
 abbrev pub ShowWhole : Program → List Layout → Limits → List Value → List ℕ → Memory → Type 0

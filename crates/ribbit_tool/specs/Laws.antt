@@ -1,7 +1,7 @@
 -- Laws of code texts: what the command `exec` does with them. A plan has a program with its layouts, words represent
 -- values by these, and what is due is the right answer, a text that is printed or a refusal.
 use Rattle.std.specs.Prelude.{◌≡◌, ◌≤◌, ℕ, List, Bool, Some, slice_get}
-use Rattle.rb_bytes.specs.Memory.{empty_memory, most_region}
+use Rattle.rb_bytes.specs.Memory.{empty_memory, least_region, most_region}
 use Rattle.rb_command.specs.Command.{Limits}
 use Rattle.rb_compile.specs.Plans.{plan_of}
 use Rattle.rb_compile.specs.Refining.{DoesAs}
@@ -32,7 +32,7 @@ abbrev pub CompiledTextsRun : Type 0
 CompiledTextsRun =
     (agreed : LaidOut) → IsTyped agreed.covered.program → (code : List CodeFun) → IsCompiled agreed code
     → (g : ℕ) (f : Fun) → slice_get agreed.covered.program.funs g ≡ Some f
-    → (limits : Limits) → 64 ≤ limits.region → limits.region ≤ most_region
+    → (limits : Limits) → least_region ≤ limits.region → limits.region ≤ most_region
     → (clean : Bool) (args : List Value) (words : List ℕ)
     → Reps (plan_of agreed) (empty_memory limits.region) clean (types_of f) args words
     → (due : Due) → Executes f.name limits words (code_text code) due

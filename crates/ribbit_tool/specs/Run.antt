@@ -7,7 +7,7 @@
 use Rattle.std.specs.Prelude.{◌≡◌, ℕ, List, ◌++◌, map, true}
 use Rattle.rb_accept.specs.Accepting.{Accepts}
 use Rattle.rb_accept.specs.Arguments.{Spell, IsMisfit}
-use Rattle.rb_bytes.specs.Memory.{empty_memory}
+use Rattle.rb_bytes.specs.Memory.{empty_memory, least_region}
 use Rattle.rb_command.specs.Command.{Limits}
 use Rattle.rb_core.specs.Meaning.{call_of}
 use Rattle.rb_core.specs.Typing.{param_types, result_type}
@@ -69,13 +69,13 @@ answer_due shown calls answer.TooLarge steps = refused status.TooLarge (large_li
 -- the blocks of the values laid over a fresh region: where they end up, or the first that does not fit
 abbrev pub laid_values : Program → List Layout → Limits → List Value → Laid
 laid_values p layouts limits args =
-    lay limits.region 64 (requests_of layouts (all_makings p.types args (param_types p.funs p.main)))
+    lay limits.region least_region (requests_of layouts (all_makings p.types args (param_types p.funs p.main)))
 
 -- the blocks of the values and behind them those of the call of `main` laid over a fresh region: where they end up,
 -- or the first that does not fit
 abbrev pub laid_all : Program → List Layout → Limits → List Value → Laid
 laid_all p layouts limits args =
-    lay limits.region 64 (requests_of layouts (all_makings p.types args (param_types p.funs p.main)
+    lay limits.region least_region (requests_of layouts (all_makings p.types args (param_types p.funs p.main)
     ++ (call_of p p.main limits.calls args).log))
 
 -- the answer to a call that ends so, its blocks laid like this, however many nodes, numbers and constructions, the

@@ -1,7 +1,7 @@
 -- Words read one after the other, with the number of the first that is at fault. What it comes to is `IsParsed`.
 use Rattle.std.specs.Prelude.{◌≡◌, ℕ, ◌+◌, ◌-◌, ◌^◌, List, [], ◌∷◌, ◌++◌, ◌==◌, codes, Option, Some, None, Result, Ok, Err, if◌then◌else◌}
 use Rattle.std.specs.Str.{bytes_eq}
-use Rattle.rb_bytes.specs.Memory.{most_region}
+use Rattle.rb_bytes.specs.Memory.{least_region, most_region}
 use Rattle.rb_core.specs.Decimal.{number_in}
 use Rattle.rb_core.specs.Limits.{most_calls}
 use Rattle.rb_command.specs.Command.{Limits, Command, Parsed, most_generated, check, layout, compile, run, image, count, gen, genrun, exec, value, peek}
@@ -28,7 +28,7 @@ with_number n low high words go =
 abbrev pub with_limits : ℕ → List (List ℕ) → (Limits → List (List ℕ) → Parsed) → Parsed
 with_limits n words go =
     with_number n 0 most_calls words (λ calls ws.
-    with_number (n + 1) 64 most_region ws (λ region rest.
+    with_number (n + 1) least_region most_region ws (λ region rest.
     go (record { calls = calls; region = region }) rest))
 
 -- the command, where no word is left; else the first that is left, word n of all, is at fault
