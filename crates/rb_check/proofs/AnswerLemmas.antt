@@ -4,7 +4,7 @@ use Rattle.std.specs.Result.{IsErrAnd}
 use Rattle.rb_core.specs.declared.typing.TypeFault.{TypeFault}
 use Rattle.rb_core.specs.declared.typing.TypeFault.TheVariants.{Empty, Mismatch, Arity, VariableTwice, Memory}
 use Rattle.rb_core.specs.Typing.{Typing}
-use Rattle.rb_check.specs.Answers.{AnswersTyping, Leaves}
+use Rattle.rb_check.specs.inner.Answers.{AnswersTyping, Leaves}
 
 -- what one part gives is passed on, want of memory included
 through : {A B : Type 0} (fault : TypeFault) (here : Typing A) (gives : Typing B)

@@ -6,7 +6,7 @@ use Rattle.rb_core.specs.declared.typing.TypeFault.TheVariants.{Empty, Mismatch,
 use Rattle.rb_core.specs.Typing.{Typing}
 use Rattle.rb_core.specs.TypedPrograms.{HaveValues, HasValue, IsFirstEmpty, IsFirstFault, IsTyped, rule_fault}
 use Rattle.rb_core.specs.WellNumbered.{IsWellNumbered}
-use Rattle.rb_check.specs.Answers.{AnswersFault}
+use Rattle.rb_check.specs.inner.Answers.{AnswersFault}
 
 pub at_Some : (P : Type 0) (Q : ℕ → Type 0) (o : Option ℕ) (t : ℕ) → o ≡ Some t → MatchOption o P Q → Q t
 at_Some P Q o t is h = subst (λ x. MatchOption x P Q) is h

@@ -13,7 +13,8 @@ use Rattle.rb_core.specs.Matching.{IsExhaustive}
 use Rattle.rb_matrix.specs.Exhaust as Matrix
 use Rattle.rb_check.specs.declared.coverage.CoverFault.{CoverFault}
 use Rattle.rb_check.specs.declared.coverage.CoverFault.TheVariants.{Missing, Memory}
-use Rattle.rb_check.specs.Covering.{AreCovered, AreNumberedSites, AreRefused, IsNumberedSite, IsSiteCovered, IsSiteRefused}
+use Rattle.rb_check.specs.Covering.{AreRefused, IsSiteRefused}
+use Rattle.rb_check.specs.inner.Covering.{AreCovered, AreNumberedSites, IsNumberedSite, IsSiteCovered}
 use Rattle.rb_check.proofs.SiteLemmas.{split-at, take-more}
 
 -- a fault that ends a call is passed on

@@ -14,7 +14,7 @@ use Rattle.rb_core.specs.declared.value.Value.{Value, Num, Con as Made}
 use Rattle.rb_core.specs.Values.{is_of_type, of_type_step, all_of_types, are_of, fields_in, fields_of_con}
 use Rattle.rb_core.specs.TypedPrograms.{HasValue, HaveValues, IsEmpty, IsFirstEmpty}
 use Rattle.rb_core.proofs.ValueLaws.{fold-Num, fold-Con, Each, induction}
-use Rattle.rb_check.specs.Emptiness.{mark_of, is_marked, constructor_is_live, type_is_live, IsSettled, AllMarked, IsFirstUnmarked}
+use Rattle.rb_check.specs.inner.Emptiness.{mark_of, is_marked, constructor_is_live, type_is_live, IsSettled, AllMarked, IsFirstUnmarked}
 
 -- how many types have no mark
 abbrev pub unmarked_count : List Bool → ℕ

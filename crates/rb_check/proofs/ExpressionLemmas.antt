@@ -10,7 +10,7 @@ use Rattle.rb_core.specs.declared.expression.Clause.{Clause}
 use Rattle.rb_core.specs.declared.expression.Expr.{Expr}
 use Rattle.rb_core.specs.Typing.{Typing, and_then, Rule, ClauseRule, each_argument, pattern_binders, type_of, clause_rule}
 use Rattle.rb_core.proofs.TypingLemmas.{rule-Clause}
-use Rattle.rb_check.specs.Answers.{AnswersTyping, within}
+use Rattle.rb_check.specs.inner.Answers.{AnswersTyping, within}
 
 pub Answers-at : (types : List DataDecl) (funs : List Fun) (r : Typing Ty) (e e' : Expr) (wanted : Option Ty) (scope : List Binder) (gives : Typing Ty)
     → e ≡ e' → type_of types funs e' wanted scope ≡ gives → AnswersTyping r gives → AnswersTyping r (type_of types funs e wanted scope)

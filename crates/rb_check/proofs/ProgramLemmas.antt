@@ -17,7 +17,7 @@ use Rattle.rb_core.specs.declared.typing.TypeFault.TheVariants.{Empty, Mismatch,
 use Rattle.rb_core.specs.Layouts.{WrittenLeaf, leaves, leaves_under, leaves_step, arm_leaves}
 use Rattle.rb_core.specs.Typing.{Typing}
 use Rattle.rb_core.specs.TypedPrograms.{first_fault, provenance_fault, layout_fault, function_fault, rule_fault}
-use Rattle.rb_check.specs.Answers.{AnswersFault, arm_fault}
+use Rattle.rb_check.specs.inner.Answers.{AnswersFault, arm_fault}
 
 -- a fault that ends one part ends the whole
 pub HasFault-fails : (r : Typing (Unit {0})) (fault : TypeFault) (here all : Option TypeFault)

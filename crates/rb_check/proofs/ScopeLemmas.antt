@@ -8,7 +8,7 @@ use Rattle.rb_core.specs.declared.types.Ty.TheVariants.{Int}
 use Rattle.rb_core.specs.declared.program.Param.{Param}
 use Rattle.rb_core.specs.declared.typing.Binder.{Binder}
 use Rattle.rb_core.specs.Typing.{binder_of, bound_type, variable_type}
-use Rattle.rb_check.specs.Answers.{binders}
+use Rattle.rb_check.specs.inner.Answers.{binders}
 
 bound-last : (outer : Ty) (x : ℕ) (bs : List Binder) (b : Binder)
     → bound_type outer x (bs ++ b ∷ []) ≡ (if b.var == x then b.ty else bound_type outer x bs)

@@ -17,7 +17,7 @@ use Rattle.rb_core.specs.declared.expression.Expr.{Expr}
 use Rattle.rb_core.specs.Inference.{binders, inferred_type, with_binder}
 use Rattle.rb_core.specs.Coverage.{SitedBranch, branch_sites, part_sites, sites}
 use Rattle.rb_core.proofs.CoverageForms.{branch, part, sites-Clause, sites-Num, sites-Var, sites-Call, sites-Build, sites-Binary, sites-To, sites-Let, sites-Match}
-use Rattle.rb_check.specs.Covering.{argument_sites, body_sites}
+use Rattle.rb_check.specs.inner.Covering.{argument_sites, body_sites}
 
 -- an item, and the items before and behind it
 pub split-at : {A : Type 0} (xs : List A) (i : ℕ) (x : A) → i < length xs → x ≡ get_or xs i x → xs ≡ take i xs ++ x ∷ drop (suc i) xs

@@ -38,7 +38,7 @@ use Rattle.rb_core.proofs.InferenceAgreement.{binders-Wild, binders-Var, binders
 use Rattle.rb_core.proofs.InferenceForms.{clause_inferred-is, inferred-Num, inferred-Var, inferred-Call, inferred-Build, inferred-Binary, inferred-To, inferred-Let, inferred-Match}
 use Rattle.rb_matrix.specs.Search.{AreInhabited, AreTypesIn, IsTypeIn}
 use Rattle.rb_matrix.proofs.Inhabited.{con-types}
-use Rattle.rb_check.specs.Covering.{AreNumberedSites}
+use Rattle.rb_check.specs.inner.Covering.{AreNumberedSites}
 
 both : (a b : Bool) → (a && b) ≡ true → (a ≡ true) × (b ≡ true)
 both true b e = (refl, e)

@@ -1,4 +1,2 @@
-pub mod Answers
 pub mod Covering
-pub mod Emptiness
 pub mod inner

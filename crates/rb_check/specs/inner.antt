@@ -1,1 +1,4 @@
+pub mod Answers
 pub mod Below
+pub mod Covering
+pub mod Emptiness

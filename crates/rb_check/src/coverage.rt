@@ -5,7 +5,8 @@ ghost use Rattle.std.specs.List.{All};
 ghost use Rattle.rb_core.specs.Coverage.{AreExhaustive, IsCovered, note_at, sites_of};
 ghost use Rattle.rb_core.specs.Matching.{IsExhaustive};
 ghost use Rattle.rb_matrix.specs.Search.{AreInhabited};
-ghost use Rattle.rb_check.specs.Covering.{AreCovered, AreNumberedSites, AreRefused, IsCoverFault, IsNumberedSite, IsSiteCovered, IsSiteRefused};
+ghost use Rattle.rb_check.specs.Covering.{AreRefused, IsCoverFault, IsSiteRefused};
+ghost use Rattle.rb_check.specs.inner.Covering.{AreCovered, AreNumberedSites, IsNumberedSite, IsSiteCovered};
 ghost use Rattle.rb_check.specs.declared.coverage.CoverFault.TheVariants as CoverFaults;
 
 use crate::sites::program_sites;
@@ -44,7 +45,7 @@ impl From<AllocError> for CoverFault {
 ///
 /// `Missing` names the first match in the file's order that is not exhaustive by its token number,
 /// with a pattern of numbers, constructors and wildcards that it misses; which such pattern is left
-/// open. `Memory` where memory is wanting, which says nothing of the program.
+/// open. `Memory` for want of memory, which says nothing of the program.
 pub fn cover(alloc: Global, typed: &Typed) -> Result<Seq<Note>, CoverFault>
     ensures covered { IfOk result (IsCovered typed.now) }
     ensures refused { IfErr result (IsCoverFault typed.now) }

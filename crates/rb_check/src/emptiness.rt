@@ -3,7 +3,7 @@
 ghost use Rattle.std.specs.Prelude.{◌≡◌, length, MatchOption, IfOk};
 ghost use Rattle.std.specs.List.{list_all};
 ghost use Rattle.rb_core.specs.TypedPrograms.{HaveValues, IsFirstEmpty};
-ghost use Rattle.rb_check.specs.Emptiness.{AllMarked, IsFirstUnmarked, IsNewlyLive, IsSettled, is_marked, mark_of, type_is_live};
+ghost use Rattle.rb_check.specs.inner.Emptiness.{AllMarked, IsFirstUnmarked, IsNewlyLive, IsSettled, is_marked, mark_of, type_is_live};
 
 use rb_core::types::{DataDecl, Ty};
 use std::alloc::{AllocError, Global};

@@ -6,7 +6,7 @@ ghost use Rattle.rb_core.specs.declared.types.DataDecl.{DataDecl};
 ghost use Rattle.rb_core.specs.declared.types.Ty.TheVariants.{Named};
 ghost use Rattle.rb_core.specs.declared.program.Fun.{Fun};
 ghost use Rattle.rb_core.specs.Typing.{and_then, arguments, clause_rule, clauses, field_types, fits, integer_operand, operands, operator_type, params_of, param_types, result_type, rule_of, type_of, variable_type};
-ghost use Rattle.rb_check.specs.Answers.{AnswersTyping, binders, wanted_types};
+ghost use Rattle.rb_check.specs.inner.Answers.{AnswersTyping, binders, wanted_types};
 
 use crate::pattern::bind_whole;
 use crate::types::{fit, integer, type_number};

@@ -46,8 +46,8 @@ use std::alloc::Global;
 /// # Errors
 ///
 /// The first fault: `Empty` for the first type without a value, else the first `Mismatch`, `Arity`
-/// or `VariableTwice`, through the layouts' provenances and then the functions. `Memory` where
-/// memory is wanting, which says nothing of the program.
+/// or `VariableTwice`, through the layouts' provenances and then the functions. `Memory` for want of
+/// memory, which says nothing of the program.
 pub fn check(alloc: Global, program: &Program) -> Result<(), TypeFault>
     requires { IsWellNumbered program.now }
     ensures typed { OnOk result (IsTyped program.now) }

@@ -3,7 +3,7 @@
 ghost use Rattle.std.specs.Prelude.{◌≡◌, ◌==◌, length, map, take, drop, OnOk};
 ghost use Rattle.std.specs.List.{list_any};
 ghost use Rattle.rb_core.specs.Typing.{also_bound, fields_match, pattern_binders, pattern_params, repeated};
-ghost use Rattle.rb_check.specs.Answers.{Leaves, binders, within};
+ghost use Rattle.rb_check.specs.inner.Answers.{Leaves, binders, within};
 ghost use Rattle.rb_check.specs.inner.Below.{AreBelow};
 
 use crate::types::{can_hold, number_type};

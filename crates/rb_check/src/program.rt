@@ -3,7 +3,7 @@
 ghost use Rattle.std.specs.Prelude.{map};
 ghost use Rattle.rb_core.specs.Layouts.{provenances};
 ghost use Rattle.rb_core.specs.TypedPrograms.{first_fault, function_fault, layout_fault, provenance_fault, rule_fault};
-ghost use Rattle.rb_check.specs.Answers.{AnswersFault, arm_fault};
+ghost use Rattle.rb_check.specs.inner.Answers.{AnswersFault, arm_fault};
 
 use crate::expression::type_expression;
 use crate::pattern::{bind_whole, repeated};

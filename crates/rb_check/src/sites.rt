@@ -4,7 +4,7 @@ ghost use Rattle.std.specs.Prelude.{◌≡◌, ◌++◌, [], ◌∷◌, map, IfO
 ghost use Rattle.std.specs.List.{flat_map};
 ghost use Rattle.rb_core.specs.Coverage.{function_sites, sites, sites_of};
 ghost use Rattle.rb_core.specs.Typing.{binder_of};
-ghost use Rattle.rb_check.specs.Covering.{argument_sites, body_sites};
+ghost use Rattle.rb_check.specs.inner.Covering.{argument_sites, body_sites};
 
 use rb_core::expression::{Clause, Expr};
 use rb_core::inference::{bind_types, infer};

@@ -2,7 +2,7 @@
 
 ghost use Rattle.std.specs.Prelude.{◌≡◌, ◌≤◌};
 ghost use Rattle.rb_core.specs.Typing.{fits, holds, integer, least_width, number, number_type};
-ghost use Rattle.rb_check.specs.Answers.{AnswersTyping};
+ghost use Rattle.rb_check.specs.inner.Answers.{AnswersTyping};
 
 use rb_core::types::Ty;
 use rb_core::typing::TypeFault;

@@ -1,5 +1,5 @@
 use Rattle.std.proofs.Common.{take}
-use Rattle.rb_check.specs.Covering.{AreCovered}
+use Rattle.rb_check.specs.inner.Covering.{AreCovered}
 use Rattle.rb_check.proofs.coverage.cover_sites.Given as goal
 
 abbrev pub invariant-loop-site : goal.invariant-loop-site

@@ -2,7 +2,7 @@ use Rattle.std.proofs.Common.{◌<◌, length, true, arith, ◌∙◌}
 use Rattle.std.proofs.lemmas.Option.{slice_get_within}
 use Rattle.std.proofs.Math.ListN.{length-set}
 use Rattle.rb_core.specs.TypedPrograms.{HasValue}
-use Rattle.rb_check.specs.Emptiness.{IsNewlyLive, IsSettled}
+use Rattle.rb_check.specs.inner.Emptiness.{IsNewlyLive, IsSettled}
 use Rattle.rb_check.proofs.EmptinessLemmas.{unmarked_count-set, mark_of-set, live-has_value, found-first_empty}
 use Rattle.rb_check.proofs.emptiness.first_empty.Goals as goal
 

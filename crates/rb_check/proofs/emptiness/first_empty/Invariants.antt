@@ -1,6 +1,6 @@
 use Rattle.std.proofs.Common.{◌≡◌, ℕ, true, length}
 use Rattle.rb_core.specs.TypedPrograms.{HasValue}
-use Rattle.rb_check.specs.Emptiness.{mark_of}
+use Rattle.rb_check.specs.inner.Emptiness.{mark_of}
 use Rattle.rb_check.proofs.EmptinessLemmas.{unmarked_count}
 use Rattle.rb_check.proofs.emptiness.first_empty.Given as goal
 

@@ -3,7 +3,7 @@ use Rattle.rb_core.specs.declared.expression.Expr as X
 use Rattle.rb_core.specs.declared.expression.Expr.{Expr}
 use Rattle.rb_core.specs.Typing.{type_of, rule_of}
 use Rattle.rb_core.proofs.TypingLemmas.{type-Call, type-Build, type-Binary}
-use Rattle.rb_check.specs.Answers.{binders}
+use Rattle.rb_check.specs.inner.Answers.{binders}
 use Rattle.rb_check.proofs.AnswerLemmas.{Answers-fails, Answers-Leaves}
 use Rattle.rb_check.proofs.ExpressionLemmas.{Answers-at, argument-next, argument-fails, clause-binds, clause-fails}
 use Rattle.rb_check.proofs.expression.+typing.Goals as goal

@@ -3,7 +3,7 @@ use denote.Param.Weighed.{most}
 use Rattle.rb_core.specs.declared.expression.Expr.{size-Expr}
 use Rattle.rb_core.specs.declared.expression.Clause.{size-Clause}
 use Rattle.rb_core.specs.Typing.{each_argument, arguments, clauses, clause_rule, rule_of}
-use Rattle.rb_check.specs.Answers.{binders, wanted_types}
+use Rattle.rb_check.specs.inner.Answers.{binders, wanted_types}
 use Rattle.rb_check.proofs.expression.+typing.Given as goal
 
 abbrev pub decreases-type_expression : goal.decreases-type_expression

@@ -1,6 +1,6 @@
 use Rattle.std.proofs.Common.{◌≡◌, take}
 use Rattle.rb_core.specs.Typing.{variable_type}
-use Rattle.rb_check.specs.Answers.{binders}
+use Rattle.rb_check.specs.inner.Answers.{binders}
 use Rattle.rb_check.proofs.expression.variable_type.Given as goal
 
 -- no binder further in has the number

@@ -1,5 +1,5 @@
 use Rattle.std.proofs.Common.{◌∙◌, Some, None, ap, subst, sym}
-use Rattle.rb_check.specs.Answers.{AnswersFault}
+use Rattle.rb_check.specs.inner.Answers.{AnswersFault}
 use Rattle.rb_check.proofs.ProgramLemmas.{HasFault-fails, tree_fault, other_fault, tree_fault-Split}
 use Rattle.rb_check.proofs.program.+leaves.Goals as goal
 

@@ -1,6 +1,6 @@
 use Rattle.std.proofs.Common.{◌≡◌, map, drop}
 use Rattle.rb_core.specs.TypedPrograms.{first_fault}
-use Rattle.rb_check.specs.Answers.{arm_fault}
+use Rattle.rb_check.specs.inner.Answers.{arm_fault}
 use Rattle.rb_check.proofs.program.+leaves.Given as goal
 
 abbrev pub invariant-check_arms-loop-arm : goal.invariant-check_arms-loop-arm

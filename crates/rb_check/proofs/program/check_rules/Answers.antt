@@ -1,5 +1,5 @@
 use Rattle.std.proofs.Common.{Some, None, subst, sym}
-use Rattle.rb_check.specs.Answers.{AnswersFault}
+use Rattle.rb_check.specs.inner.Answers.{AnswersFault}
 use Rattle.rb_check.proofs.ProgramLemmas.{HasFault-fails, rule_fault-opens}
 use Rattle.rb_check.proofs.program.check_rules.Goals as goal
 

@@ -1,7 +1,7 @@
 use Rattle.std.proofs.Common.{◌∙◌}
 use Rattle.rb_core.specs.declared.expression.Expr.{Expr}
 use Rattle.rb_core.specs.Coverage.{sites}
-use Rattle.rb_check.specs.Covering.{body_sites}
+use Rattle.rb_check.specs.inner.Covering.{body_sites}
 use Rattle.rb_check.proofs.SiteLemmas.{gathered-next, added-at, none-Num, none-Var, added-Call, added-Build, added-Binary, added-To, added-Let, added-Match}
 use Rattle.rb_check.proofs.sites.+adding.Goals as goal
 

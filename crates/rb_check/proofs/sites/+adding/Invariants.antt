@@ -1,6 +1,6 @@
 use Rattle.std.proofs.Common.{◌≡◌, ◌++◌, take}
 use Rattle.std.specs.List.{flat_map}
-use Rattle.rb_check.specs.Covering.{argument_sites, body_sites}
+use Rattle.rb_check.specs.inner.Covering.{argument_sites, body_sites}
 use Rattle.rb_check.proofs.sites.+adding.Given as goal
 
 abbrev pub invariant-add_arguments-loop-part : goal.invariant-add_arguments-loop-part

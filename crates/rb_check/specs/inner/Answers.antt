@@ -13,22 +13,24 @@ use Rattle.rb_core.specs.Typing.{Typing, and_then, binder_of}
 use Rattle.rb_check.specs.declared.expression.Wanted.{Wanted}
 use Rattle.rb_check.specs.declared.expression.Wanted.TheVariants.{Params, Fields}
 
--- the answer is what typing gives; no expression or pattern is refused for an empty type
+-- the answer is what typing gives, a type or a fault; want of memory says nothing of it, and no expression or
+-- pattern is refused for an empty type
 abbrev pub AnswersTyping : {A : Type 0} → Typing A → Typing A → Type 0
 AnswersTyping (Ok a) gives = gives ≡ Ok a
 AnswersTyping (Err Memory) gives = Unit {0}
 AnswersTyping (Err (Empty t)) gives = ⊥
 AnswersTyping (Err fault) gives = gives ≡ Err fault
 
--- what a call that is done left behind is what typing gives, and its fault is the fault there;
--- want of memory says nothing
+-- what a call that is done left behind is what typing gives, and its fault is the fault there, which is none for an
+-- empty type; want of memory says nothing
 abbrev pub Leaves : {A : Type 0} → Typing (Unit {0}) → A → Typing A → Type 0
 Leaves (Ok done) left gives = gives ≡ Ok left
 Leaves (Err Memory) left gives = Unit {0}
 Leaves (Err (Empty t)) left gives = ⊥
 Leaves (Err fault) left gives = gives ≡ Err fault
 
--- the answer is this fault, or done where there is none; want of memory says nothing of it
+-- the answer is this fault, which is none for an empty type, or done where there is none; want of memory says
+-- nothing of it
 abbrev pub AnswersFault : Typing (Unit {0}) → Option TypeFault → Type 0
 AnswersFault (Ok done) fault = fault ≡ None
 AnswersFault (Err Memory) fault = Unit {0}
@@ -43,9 +45,10 @@ arm_fault types ty arm = first_fault (map (provenance_fault types ty) (arm_prove
 abbrev pub binders : List Param → List Binder
 binders = map binder_of
 
--- the binders of a scope with further ones behind them, or the fault that stands in place of these
+-- the scope of a clause's body: the binders of the match's scope and behind them those that typing gives of the
+-- clause's pattern, or the fault that it gives instead
 abbrev pub within : List Binder → Typing (List Binder) → Typing (List Binder)
-within scope inner = and_then inner (λ more. Ok (scope ++ more))
+within scope pattern = and_then pattern (λ more. Ok (scope ++ more))
 
 -- the types that are wanted of arguments, in order: those of parameters, or of fields
 abbrev pub wanted_types : Wanted → List Ty
