@@ -15,17 +15,27 @@
 mod numbers;
 
 ghost use Rattle.rb_sound.specs.Soundness.{CallsRunTyped, ExpressionsRunTyped, OfTypedPrograms};
+ghost use Rattle.rb_sound.specs.Words.{HasWords};
 
-use rb_core::typed::Covered;
+use rb_core::typed::{Covered, Typed};
 
 /// A typed program with exhaustive matches keeps its types. A call that is done gives a value of
 /// the result type, and an expression one of the type that typing gives it; whatever they build is
 /// of the type that the log notes with it. A law's numbers have no bound, so it asks that those of
-/// the program have at most 64 bits.
+/// the program have at most 64 bits: of a program in memory [`typed_has_words`] says that.
 pub fn typed_runs_end_typed()
     ensures calls { OfTypedPrograms CallsRunTyped }
     ensures expressions { OfTypedPrograms ExpressionsRunTyped }
 {}
+
+/// The numbers of a typed program in memory have at most 64 bits, patterns apart, as each is a
+/// `u64`. So of the law [`typed_runs_end_typed`], taken at such a program, only that its matches are
+/// exhaustive is left to show: that it is typed its getter says, and this is the last premise.
+pub fn typed_has_words(typed: &Typed)
+    ensures { HasWords typed.now }
+{
+    numbers::see_numbers(typed.program());
+}
 
 /// A program in memory that is typed and covered keeps its types, as any typed program with
 /// exhaustive matches. Nothing is left to ask: its numbers are `u64`.
