@@ -1,9 +1,7 @@
 //! A checked memory at the ends of its region and of its blocks. The addresses were worked out by hand:
 //! the first block is at 64, and each next one at the least multiple that is free.
 
-ghost use Rattle.std.specs.Prelude.{IsTrue};
-ghost use Rattle.rb_bytes.specs.Memory.{IsWidth};
-
+use crate::width::is_width;
 use rb_bytes::checked::CheckedMemory;
 use rb_bytes::fault::{Full, Trap};
 use rb_bytes::memory::ByteMemory;
@@ -25,13 +23,6 @@ fn told_place(placed: Result<u64, Full>) -> (u64, u64, u64, u64) {
         Ok(address) => (address, 0, 0, 0),
         Err(full) => (full.next, full.size, full.align, full.limit),
     }
-}
-
-// Whether this is the width of an access.
-fn is_width(width: u64) -> bool
-    ensures { IsTrue result → IsWidth width }
-{
-    width == 8 || width == 16 || width == 32 || width == 64
 }
 
 // Whether a store succeeds; None where no access has this width.

@@ -1,9 +1,10 @@
 //! The same calls on the memory that tests each access and on the one that trusts it. The addresses and
 //! the words were worked out by hand; the first block is at 64, the lowest byte of a word first.
 
-ghost use Rattle.std.specs.Prelude.{◌≡◌, ◌≤◌, IfOk, IsTrue};
+ghost use Rattle.std.specs.Prelude.{◌≡◌, ◌≤◌, IfOk};
 ghost use Rattle.rb_bytes.specs.Memory.{IsAlign, IsSize, IsWidth};
 
+use crate::width::is_width;
 use rb_bytes::checked::CheckedMemory;
 use rb_bytes::fault::{Full, Trap};
 use rb_bytes::memory::ByteMemory;
@@ -117,13 +118,6 @@ fn loaded(answer: Result<u64, Trap>) -> u64 {
         Ok(word) => word,
         Err(_) => u64::MAX,
     }
-}
-
-// Whether this is the width of an access.
-fn is_width(width: u64) -> bool
-    ensures { IsTrue result → IsWidth width }
-{
-    width == 8 || width == 16 || width == 32 || width == 64
 }
 
 // A call on a memory: its sizes, bases and offsets in bytes, its widths in bits.
