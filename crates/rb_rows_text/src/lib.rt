@@ -1,5 +1,14 @@
-//! Rows of texts: their tokens, the trees that they spell, and what their names stand for. It has
-//! tests alone.
+//! Rows of texts: their tokens, the trees that they spell, and what their names stand for. It has tests alone.
+//!
+//! They hold the grammar's definitions against texts that were written by hand from the language's pages: each form of
+//! item and expression, the token at which it does not go on, trees beside the texts that they are spelled as, nodes
+//! at the greatest level and below it, each limit at its number and one over, and names that are defined twice or
+//! stand for nothing. In a row of files a `~` stands before the first token at which no file goes on; a row without a
+//! mark is a file.
+//!
+//! ```text
+//! fun main(x: u8,~): u8 = x;
+//! ```
 #![tactic(auto)]
 
 #[cfg(test)]
