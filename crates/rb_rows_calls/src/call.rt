@@ -36,6 +36,10 @@ fn words_of(alloc: Global, text: &str) -> Result<Words, AllocError> {
 
 /// A source that holds bytes under these names, gives so many bytes a read at most, and fails at the calls of these
 /// numbers.
+///
+/// # Errors
+///
+/// Want of memory.
 pub fn source_of(
     alloc: Global,
     held: &[(&str, &[u8])],
@@ -53,6 +57,10 @@ pub fn source_of(
 }
 
 /// A sink that takes so many bytes, so many a write at most, and fails at the calls of these numbers.
+///
+/// # Errors
+///
+/// Want of memory.
 pub fn sink_of(
     alloc: Global,
     room: usize,
@@ -63,6 +71,10 @@ pub fn sink_of(
 }
 
 /// Calls `ribbit` on words with blanks between them, over a source, an output, and a sink for what is told of faults.
+///
+/// # Errors
+///
+/// Want of memory.
 pub fn call_with(
     alloc: Global,
     words: &str,
@@ -83,6 +95,10 @@ pub fn call_with(
 
 /// Calls `ribbit` on words with blanks between them, over files with these names. The source gives ten bytes
 /// a read, the output takes one a write, and the calls of these numbers fail.
+///
+/// # Errors
+///
+/// Want of memory.
 pub fn call_over(
     alloc: Global,
     words: &str,
@@ -97,6 +113,10 @@ pub fn call_over(
 }
 
 /// Calls `ribbit` so, over the one file `E`.
+///
+/// # Errors
+///
+/// Want of memory.
 pub fn call(
     alloc: Global,
     words: &str,
@@ -108,6 +128,10 @@ pub fn call(
 }
 
 /// A text in which each `;` ends a line.
+///
+/// # Errors
+///
+/// Want of memory.
 pub fn lines(alloc: Global, row: &str) -> Result<Vec<u8>, AllocError> {
     let mut text = Vec::new(alloc);
     for byte in row.as_bytes() {
@@ -125,6 +149,10 @@ fn push_lines(answer: &mut Vec<u8>, text: &[u8]) -> Result<(), AllocError> {
 }
 
 /// What these words answer to files: the status, and what was written, in which each line ends with a `;`.
+///
+/// # Errors
+///
+/// Want of memory.
 pub fn answer_over(
     alloc: Global,
     words: &str,
@@ -139,6 +167,10 @@ pub fn answer_over(
 }
 
 /// What these words answer so to the one file `E`.
+///
+/// # Errors
+///
+/// Want of memory.
 pub fn answer(alloc: Global, words: &str, file: &[u8]) -> Result<Vec<u8>, AllocError> {
     answer_over(alloc, words, &[("E", file)])
 }
@@ -176,6 +208,10 @@ pub fn expect_answer(
 }
 
 /// A text, so many times another, and a text.
+///
+/// # Errors
+///
+/// Want of memory.
 pub fn repeated(
     alloc: Global,
     before: &str,

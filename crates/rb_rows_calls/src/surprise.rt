@@ -23,6 +23,10 @@ impl From<AllocError> for Surprise {
 }
 
 /// Bytes as a text; those over 127 as `?`.
+///
+/// # Errors
+///
+/// Want of memory.
 pub fn text_of(alloc: Global, bytes: &[u8]) -> Result<String, AllocError> {
     let mut text = String::new(alloc);
     for byte in bytes {

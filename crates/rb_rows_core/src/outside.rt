@@ -220,6 +220,8 @@ fn streams_of_the_system(rt: HostRuntime) -> Result<(), Fail> {
     Ok(())
 }
 
+// Writing to standard output succeeds. Flushing a stream that cannot be flushed fails, and so does writing to one that
+// takes nothing, unless nothing is written.
 #[test]
 fn streams_that_fail(rt: HostRuntime) {
     assert!(rt; write_whole(&mut StdSink::new(rt.stdout()), b"written\n").is_ok());

@@ -9,11 +9,20 @@ use rb_core::types::{Auto, Con, DataDecl, Ty};
 use std::alloc::{AllocError, Global};
 use std::test::Fail;
 
+/// A list of these items.
+///
+/// # Errors
+///
+/// Want of memory.
 pub fn seq<T: Drop, const N: usize>(alloc: Global, items: [T; N]) -> Result<Seq<T>, AllocError> {
     Ok(Seq::from_vec(Vec::from_array(alloc, items)?))
 }
 
 /// A constructor with these fields.
+///
+/// # Errors
+///
+/// Want of memory.
 pub fn con(alloc: Global, fields: &[Ty]) -> Result<Con, AllocError> {
     Ok(Con {
         name: Seq::new(alloc),
@@ -30,6 +39,10 @@ pub fn data(alloc: Global, cons: Seq<Con>) -> DataDecl {
 }
 
 /// A written layout of a type: of this shape, and one leaf without items.
+///
+/// # Errors
+///
+/// Want of memory.
 pub fn written(alloc: Global, ty: u32, shape: &[u64]) -> Result<LayoutDecl, AllocError> {
     Ok(LayoutDecl {
         at: 0,
@@ -40,6 +53,10 @@ pub fn written(alloc: Global, ty: u32, shape: &[u64]) -> Result<LayoutDecl, Allo
 }
 
 /// What is derived for a type of these, for each of which the kind is given, if any.
+///
+/// # Errors
+///
+/// A type without a kind, or one that cannot be packed; or want of memory.
 pub fn derived(
     alloc: Global,
     types: Seq<DataDecl>,
@@ -62,6 +79,10 @@ pub fn derived(
 }
 
 /// What is derived for a lone type with these constructors, which is packed.
+///
+/// # Errors
+///
+/// A type that cannot be packed, or want of memory.
 pub fn packed(alloc: Global, cons: Seq<Con>) -> Result<LayoutDecl, Fail> {
     let types = seq(alloc, [data(alloc, cons)])?;
     derived(alloc, types, Seq::new(alloc), &[Some(Auto::Packed)], 0)

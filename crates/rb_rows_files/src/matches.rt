@@ -59,8 +59,8 @@ fn a_number_that_is_missed(rt: HostRuntime) -> Result<(), Surprise> {
     expect_missed(rt.alloc(), &WIDE)
 }
 
-// A function on a number of so many bits, with a clause for each number below a bound but one, and
-// then a last clause.
+// A function on a number, with a clause for each number below a bound but one, and then a last clause. None is left
+// out where that one is the bound itself.
 fn function(
     alloc: Global,
     head: &str,
@@ -81,7 +81,7 @@ fn function(
     Ok(text)
 }
 
-// Clauses for each number below a bound but one, a last clause, and the answer.
+// A bound, the number below it that has no clause (none where it is the bound), the last clause, and the answer.
 const LONG: [(u64, u64, &str, &str); 3] = [
     (255, 255, "255 => 0", "0 ok;"),
     (

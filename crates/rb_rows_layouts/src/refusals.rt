@@ -5,6 +5,10 @@ use rb_rows_calls::surprise::{Surprise, another};
 use std::alloc::Global;
 
 /// Looks whether files are refused, each for its reason.
+///
+/// # Errors
+///
+/// Another answer, or want of memory.
 pub fn expect_refused(alloc: Global, rows: &[(&str, &str)]) -> Result<(), Surprise> {
     for (file, reason) in rows {
         expect_refusal(alloc, file, reason)?;
@@ -13,6 +17,10 @@ pub fn expect_refused(alloc: Global, rows: &[(&str, &str)]) -> Result<(), Surpri
 }
 
 /// Looks whether a file is refused for this reason.
+///
+/// # Errors
+///
+/// Another answer, or want of memory.
 pub fn expect_refusal(alloc: Global, file: &str, reason: &str) -> Result<(), Surprise> {
     let file = format!(in alloc; "{file} fun main(): u8 = 0;")?;
     let wanted = format!(in alloc; "3 ribbit: layout of {reason};")?;
@@ -23,6 +31,10 @@ pub fn expect_refusal(alloc: Global, file: &str, reason: &str) -> Result<(), Sur
 pub type Either<'a> = (&'a str, &'a str, &'a str);
 
 /// Looks whether files are refused, each for one of its reasons.
+///
+/// # Errors
+///
+/// Another answer, or want of memory.
 pub fn expect_either(alloc: Global, rows: &[Either]) -> Result<(), Surprise> {
     for (file, one, other) in rows {
         let file = format!(in alloc; "{file} fun main(): u8 = 0;")?;
@@ -37,6 +49,10 @@ pub fn expect_either(alloc: Global, rows: &[Either]) -> Result<(), Surprise> {
 }
 
 /// Looks whether files are accepted.
+///
+/// # Errors
+///
+/// Another answer, or want of memory.
 pub fn expect_all_agreed(alloc: Global, files: &[&str]) -> Result<(), Surprise> {
     for file in files {
         expect_agreed(alloc, file)?;
@@ -45,6 +61,10 @@ pub fn expect_all_agreed(alloc: Global, files: &[&str]) -> Result<(), Surprise> 
 }
 
 /// Looks whether a file is accepted.
+///
+/// # Errors
+///
+/// Another answer, or want of memory.
 pub fn expect_agreed(alloc: Global, file: &str) -> Result<(), Surprise> {
     let file = format!(in alloc; "{file} fun main(): u8 = 0;")?;
     expect_answer(alloc, "check E", file.as_bytes(), "0 ok;")

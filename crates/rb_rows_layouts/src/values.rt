@@ -1,10 +1,10 @@
-//! Values that two leaves hold, and values that none holds. Worked out by hand from the rules; each pattern that is
-//! missed is the only one.
+//! Values that two leaves hold, and values that none holds, where a leaf is a form in which a layout stores values of
+//! its type. Worked out by hand from rule A5; each pattern that is missed is the only one.
 
 use crate::refusals::expect_refused;
 use rb_rows_calls::surprise::Surprise;
 
-// File, and what is refused.
+// A file, and its refusal.
 const REFUSED: [(&str, &str); 8] = [
     (
         "type Bit = Off | On; layout Bit <8> = split 0[0:2] { 0 => Off : { word 8 { [0:2] = 0 } } 1 => Off : { word 8 { [0:2] = 1 } } 2 => On : { word 8 { [0:2] = 2 } } };",

@@ -25,6 +25,10 @@ const MOST: usize = 262_144;
 pub type Row<'a> = (&'a str, u32, u64, u64, &'a str);
 
 /// What is wrong with an image, and where.
+///
+/// # Errors
+///
+/// Want of memory.
 pub fn fault_text(alloc: Global, fault: ImageFault) -> Result<String, AllocError> {
     match fault {
         ImageFault::ImageSyntax(at) => format!(in alloc; "syntax {at}"),
@@ -121,6 +125,10 @@ fn value(alloc: Global, agreed: &Agreed, text: &str, ty: u32) -> Result<Vec<u8>,
 pub type ValueRow<'a> = (&'a str, u32, &'a str);
 
 /// The accepted program of a file.
+///
+/// # Errors
+///
+/// A file that is too long or is refused, also for want of memory.
 pub fn agreed_of(alloc: Global, file: &str) -> Result<Agreed, Fail> {
     if file.len() > MOST {
         return Err(Fail::from("a long file"));
@@ -132,6 +140,10 @@ pub fn agreed_of(alloc: Global, file: &str) -> Result<Agreed, Fail> {
 }
 
 /// Fails where another text came of a row than was wanted.
+///
+/// # Errors
+///
+/// Another text, or want of memory.
 pub fn compare(alloc: Global, row: &str, found: &[u8], wanted: &str) -> Result<(), Fail> {
     if found == wanted.as_bytes() {
         return Ok(());
@@ -141,6 +153,10 @@ pub fn compare(alloc: Global, row: &str, found: &[u8], wanted: &str) -> Result<(
 }
 
 /// Checks which values images hold, each of which has these lines behind its own.
+///
+/// # Errors
+///
+/// Another text, a file that is too long or is refused, or want of memory.
 pub fn expect_values(
     alloc: Global,
     file: &str,
@@ -157,6 +173,10 @@ pub fn expect_values(
 }
 
 /// Checks what comes of images, each of which has these lines behind its own.
+///
+/// # Errors
+///
+/// Another text, a file that is too long or is refused, or want of memory.
 pub fn expect_images(
     alloc: Global,
     file: &str,
@@ -173,6 +193,10 @@ pub fn expect_images(
 }
 
 /// Checks what comes of places.
+///
+/// # Errors
+///
+/// Another text, a file that is too long or is refused, or want of memory.
 pub fn expect(alloc: Global, file: &str, rows: &[Row]) -> Result<(), Fail> {
     let agreed = agreed_of(alloc, file)?;
     for row in rows {

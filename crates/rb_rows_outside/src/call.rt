@@ -78,6 +78,10 @@ fn sink(alloc: Global, side: Side) -> Result<MemSink, AllocError> {
 }
 
 /// Calls `ribbit` on words with blanks between them.
+///
+/// # Errors
+///
+/// Want of memory.
 pub fn call(alloc: Global, words: &str, held: Held, outside: Outside) -> Result<Did, AllocError> {
     let files = [("E", held.file), ("I", held.image)];
     let side = outside.source;

@@ -14,8 +14,10 @@ pub type Row<'a> = (&'a str, &'a [u8], u8, &'a [u8], Option<u128>);
 /// Words, the file and the image (none where nothing is read), the status and the text where nothing fails.
 pub type ImageRow<'a> = (&'a str, &'a [u8], &'a [u8], u8, &'a [u8]);
 
+/// The line for a failed read.
 pub const READ_FAULT: &[u8] = b"ribbit: read fault\n";
 
+// The line for a failed write.
 const WRITE_FAULT: &[u8] = b"ribbit: write fault\n";
 
 // The status of a failed read.

@@ -5,6 +5,7 @@ use Rattle.rb_core.specs.declared.types.DataDecl.{DataDecl}
 use Rattle.rb_core.specs.declared.types.Ty.{Ty}
 use Rattle.rb_core.specs.declared.types.Ty.TheVariants.{Int, Named}
 
+-- the constructor whose name is this letter, with fields of these types
 abbrev pub con_of : ℕ → List Ty → Con
 con_of letter fields = record { name = letter ∷ []; fields = fields }
 
@@ -24,5 +25,6 @@ pair_decl = record { name = 80 ∷ []; cons = con_of 80 (Named 0 ∷ Named 1 ∷
 abbrev pub six_decl : DataDecl
 six_decl = record { name = 83 ∷ []; cons = con_of 83 (Int 1 ∷ Int 1 ∷ Int 1 ∷ Int 1 ∷ Int 1 ∷ Int 1 ∷ []) ∷ [] }
 
+-- the types of the examples: C, T, P and S have the numbers 0 to 3
 abbrev pub example_types : List DataDecl
 example_types = color_decl ∷ tree_decl ∷ pair_decl ∷ six_decl ∷ []

@@ -54,6 +54,10 @@ fn changed(alloc: Global, image: &str, change: &Change) -> Result<Vec<u8>, Alloc
 }
 
 /// Looks at an image, which has the name `I`, as it is, and at each change of it.
+///
+/// # Errors
+///
+/// Another answer, or want of memory.
 pub fn expect_changes(
     alloc: Global,
     file: &str,

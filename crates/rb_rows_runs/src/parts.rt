@@ -9,7 +9,7 @@ use rb_rows_calls::rows::{ImageRow, expect_held, expect_image};
 use rb_rows_calls::surprise::{Surprise, another};
 use std::alloc::Global;
 
-/// An image, a path, and the answer.
+// An image, a path, and the answer.
 type Part<'a> = (&'a str, &'a str, &'a str);
 
 // Looks what `peek` answers to images of a file, which have the name `I`, and paths.

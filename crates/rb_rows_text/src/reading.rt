@@ -52,6 +52,10 @@ fn spelled(alloc: Global, file: &FileTree, placed: &[Placed]) -> Result<Found, A
 }
 
 /// Reads the text, and spells what is read.
+///
+/// # Errors
+///
+/// Want of memory.
 pub fn outcome(alloc: Global, text: &[u8]) -> Result<Found, Fail> {
     let placed = lex(alloc, text)?;
     if placed.len() >= 1 << 32 {
@@ -64,6 +68,10 @@ pub fn outcome(alloc: Global, text: &[u8]) -> Result<Found, Fail> {
 }
 
 /// The front, so many parts, and the back.
+///
+/// # Errors
+///
+/// Want of memory.
 pub fn repeated(
     alloc: Global,
     front: &[u8],
@@ -94,6 +102,10 @@ fn unmarked(alloc: Global, row: &[u8]) -> Result<(Vec<u8>, Found), AllocError> {
 }
 
 /// Checks that a row without its mark has the answer that its mark gives.
+///
+/// # Errors
+///
+/// Want of memory; another answer ends the test.
 pub fn expect(rt: &impl Abort, alloc: Global, row: &[u8]) -> Result<(), Fail> {
     let (text, wanted) = unmarked(alloc, row)?;
     let found = outcome(alloc, text.as_slice())?;
@@ -102,6 +114,10 @@ pub fn expect(rt: &impl Abort, alloc: Global, row: &[u8]) -> Result<(), Fail> {
 }
 
 /// Checks each line of a table.
+///
+/// # Errors
+///
+/// Want of memory; another answer ends the test.
 pub fn expect_each(rt: &impl Abort, alloc: Global, rows: &str) -> Result<(), Fail> {
     for row in rows.split('\n') {
         expect(rt, alloc, row.as_bytes())?;

@@ -40,6 +40,10 @@ fn reprinted(
 }
 
 /// Reads a text at a type, and prints what is read: whether it has this text.
+///
+/// # Errors
+///
+/// Want of memory.
 pub fn outcome(
     alloc: Global,
     ty: Ty,
@@ -78,6 +82,10 @@ fn is_due(alloc: Global, ty: Ty, row: &[u8]) -> Result<bool, AllocError> {
 }
 
 /// Checks each line of a table.
+///
+/// # Errors
+///
+/// Want of memory; another answer ends the test.
 pub fn expect_each(rt: &impl Abort, alloc: Global, ty: Ty, rows: &str) -> Result<(), AllocError> {
     for row in rows.split('\n') {
         assert!(rt; is_due(alloc, ty, row.as_bytes())?, "{row}");

@@ -87,6 +87,8 @@ const TEXTS: &[(Ty, &str)] = &[
     (Ty::Int(64), "18446744073709551615"),
 ];
 
+// Each line is a value of its type, or is refused at the byte behind `~` (no value is spelled) or `!` (a node, a number
+// or constructor, that does not fit).
 #[test]
 fn each_line(rt: HostRuntime) -> Result<(), Fail> {
     for &(ty, rows) in TEXTS {

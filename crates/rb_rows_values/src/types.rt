@@ -53,6 +53,10 @@ fn data(alloc: Global, name: &[u8], cons: &[(&[u8], &[Ty])]) -> Result<DataDecl,
 }
 
 /// The types, in this order.
+///
+/// # Errors
+///
+/// Want of memory.
 pub fn types(alloc: Global) -> Result<Vec<DataDecl>, AllocError> {
     let mut types = Vec::new(alloc);
     for &(name, cons) in TYPES {
