@@ -4,9 +4,9 @@
 use rb_rows_calls::rows::{ImageRow, expect_held};
 use rb_rows_calls::surprise::Surprise;
 
-// Words (`E` is the file, `I` the image), file, image (none where no image is read), and answer: the status, then lines,
-// each ended by `;`. A table has at most four examples, since what a table costs to prove grows faster than it, and is
-// named for its first.
+// Words (`E` is the file, `I` the image), file, image (none where no image is read), and answer: the status, then
+// lines, each ended by `;`. A table has at most four examples, since what a table costs to prove grows faster than it,
+// and is named for its first.
 const FROM_ASSEMBLED: [ImageRow; 4] = [
     // assembled
     (
