@@ -5,7 +5,7 @@ ghost use Rattle.std.specs.Prelude.{◌≡◌, ◌<◌, List, [], ◌∷◌, ◌
 ghost use Rattle.rb_core.specs.declared.types.DataDecl.{DataDecl};
 ghost use Rattle.rb_core.specs.declared.types.Ty.TheVariants.{Named};
 ghost use Rattle.rb_core.specs.declared.program.Fun.{Fun};
-ghost use Rattle.rb_core.specs.Typing.{and_then, arguments, clause_rule, clauses, field_types, fits, integer_operand, operands, operator_type, params_of, param_types, result_type, rule_of, type_of, variable_type};
+ghost use Rattle.rb_core.specs.Typing.{and_then, arguments, clause_rule, clauses, field_types, as_wanted, integer_operand, operands, operator_type, params_of, param_types, result_type, rule_of, type_of, variable_type};
 ghost use Rattle.rb_check.specs.inner.Answers.{AnswersTyping, binders, wanted_types};
 
 use crate::pattern::bind_whole;
@@ -111,7 +111,7 @@ fn type_call(
     ensures answers { AnswersTyping result (and_then
         (arguments at (map (rule_of program.now.types program.now.funs) parts.now)
         (param_types program.now.funs fun) (binders scope.old))
-        (λ typed. fits at wanted (result_type program.now.funs fun))) }
+        (λ typed. as_wanted at wanted (result_type program.now.funs fun))) }
     ensures scope { OnOk result (scope.new ≡ scope.old) }
 {
     type_arguments(
@@ -136,7 +136,7 @@ fn type_build(
 ) -> Result<Ty, TypeFault>
     ensures answers { AnswersTyping result (and_then
         (arguments at (map (rule_of program.now.types program.now.funs) parts.now)
-        (field_types program.now.types con) (binders scope.old)) (λ typed. fits at wanted (Named con.ty))) }
+        (field_types program.now.types con) (binders scope.old)) (λ typed. as_wanted at wanted (Named con.ty))) }
     ensures scope { OnOk result (scope.new ≡ scope.old) }
 {
     let fields = types_of_fields(program.types.as_slice(), con);
@@ -182,7 +182,7 @@ fn type_binary(
     ensures answers { AnswersTyping result (and_then
         (operands op (rule_of program.now.types program.now.funs a.now)
         (rule_of program.now.types program.now.funs b.now) wanted (binders scope.old))
-        (λ t. fits at wanted (operator_type op t))) }
+        (λ t. as_wanted at wanted (operator_type op t))) }
     ensures scope { OnOk result (scope.new ≡ scope.old) }
 {
     let first = type_integer(program, a, wanted_of_operand(op, wanted), scope)?;

@@ -1,7 +1,7 @@
 //! Single types: what holds a number, and whether a found type is the wanted one.
 
 ghost use Rattle.std.specs.Prelude.{◌≡◌, ◌≤◌};
-ghost use Rattle.rb_core.specs.Typing.{fits, holds, integer, least_width, number, number_type};
+ghost use Rattle.rb_core.specs.Typing.{as_wanted, type_holds, integer, least_width, number, number_type};
 ghost use Rattle.rb_check.specs.inner.Answers.{AnswersTyping};
 
 use rb_core::types::Ty;
@@ -30,7 +30,7 @@ pub fn number_type(n: u64) -> Ty
 
 /// Whether values of `ty` may be the number `n`.
 pub fn can_hold(ty: Ty, n: u64) -> bool
-    ensures { result ≡ holds ty n }
+    ensures { result ≡ type_holds ty n }
 {
     match ty {
         Ty::Int(bits) => bits >= 64 || n < 1 << bits,
@@ -63,7 +63,7 @@ pub fn type_number(at: u32, n: u64, wanted: Option<Ty>) -> Result<Ty, TypeFault>
 ///
 /// `Mismatch` where another type is wanted.
 pub fn fit(at: u32, wanted: Option<Ty>, found: Ty) -> Result<Ty, TypeFault>
-    ensures { AnswersTyping result (fits at wanted found) }
+    ensures { AnswersTyping result (as_wanted at wanted found) }
 {
     match wanted {
         None => Ok(found),

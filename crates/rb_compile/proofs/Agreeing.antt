@@ -25,7 +25,7 @@ use Rattle.rb_core.specs.declared.expression.Expr.TheOpen as E
 use Rattle.rb_core.specs.declared.expression.Expr.TheFolds.{fold-roll-Expr, fold_out-Clause}
 use Rattle.rb_core.specs.Matching.{bindings, matches_of}
 use Rattle.rb_core.specs.declared.typing.TypeFault.TheVariants.{Arity}
-use Rattle.rb_core.specs.Typing.{Typing, and_then, bound_type, clause_rule, clauses, each_argument, field_types, fits, integer, integer_operand, operand_wanted, operator_type, param_types, pattern_binders, result_type, rule_of, type_of}
+use Rattle.rb_core.specs.Typing.{Typing, and_then, bound_type, clause_rule, clauses, each_argument, field_types, as_wanted, integer, integer_operand, operand_wanted, operator_type, param_types, pattern_binders, result_type, rule_of, type_of}
 use Rattle.rb_core.specs.Inference.{Inference, binders, clause_inferred, first_clause_type, inferred_type, match_type, operands_type, width_of, with_binder}
 use Rattle.rb_core.specs.Coverage.{branch_sites, part_sites, site_of, sites}
 use Rattle.rb_core.specs.Meaning.{Calls, Meaning, PartsOutcome, after, all_of, at_end, at_part, built, clause_meaning, combined, cut_to, first_of, first_wanted, later_wanted, meaning_of, parts_after, done, then_do, then_with, value_or}
@@ -191,20 +191,20 @@ module _ (types : List DataDecl) (funs : List Fun) where
   pub same_typing : (e : Expr) → SameTyping e
   same_typing = induction SameTyping (record {
     num = λ at n wanted s s' h. type-Num types funs at n wanted s ∙ sym (type-Num types funs at n wanted s');
-    var = λ at x wanted s s' h. type-Var types funs at x wanted s ∙ ap (fits at wanted) (h x (subst (λ l. Contains l x) (sym (variables-Var at x)) (Contains-push [] x))) ∙ sym (type-Var types funs at x wanted s');
+    var = λ at x wanted s s' h. type-Var types funs at x wanted s ∙ ap (as_wanted at wanted) (h x (subst (λ l. Contains l x) (sym (variables-Var at x)) (Contains-push [] x))) ∙ sym (type-Var types funs at x wanted s');
     call = λ at g es each wanted s s' h. type-Call types funs at g es wanted s
-        ∙ ap (λ r. and_then (if length (map (rule_of types funs) es) == length (param_types funs g) then r else Err (Arity at (length (param_types funs g)) (length (map (rule_of types funs) es)))) (λ (typed : Unit {0}). fits at wanted (result_type funs g)))
+        ∙ ap (λ r. and_then (if length (map (rule_of types funs) es) == length (param_types funs g) then r else Err (Arity at (length (param_types funs g)) (length (map (rule_of types funs) es)))) (λ (typed : Unit {0}). as_wanted at wanted (result_type funs g)))
         (each_same es each (param_types funs g) s s' (λ x i. h x (fewer _ _ _ (variables-Call at g es) (λ y j. j) x i))) ∙ sym (type-Call types funs at g es wanted s');
     build = λ at c es each wanted s s' h. type-Build types funs at c es wanted s
-        ∙ ap (λ r. and_then (if length (map (rule_of types funs) es) == length (field_types types c) then r else Err (Arity at (length (field_types types c)) (length (map (rule_of types funs) es)))) (λ (typed : Unit {0}). fits at wanted (Named c.ty)))
+        ∙ ap (λ r. and_then (if length (map (rule_of types funs) es) == length (field_types types c) then r else Err (Arity at (length (field_types types c)) (length (map (rule_of types funs) es)))) (λ (typed : Unit {0}). as_wanted at wanted (Named c.ty)))
         (each_same es each (field_types types c) s s' (λ x i. h x (fewer _ _ _ (variables-Build at c es) (λ y j. j) x i))) ∙ sym (type-Build types funs at c es wanted s');
     binary = λ at op a b ha hb wanted s s' h.
         let first = ap (λ r. and_then r (integer (rule_of types funs a).at)) (ha (operand_wanted op wanted) s s' (λ x i. h x (left (variables_in a) (variables_in b) _ (variables-Binary at op a b) x i))) in
         let both = then_same (integer_operand (rule_of types funs a) (operand_wanted op wanted) s) (integer_operand (rule_of types funs a) (operand_wanted op wanted) s') (λ t. type_of types funs b (Some t) s) (λ t. type_of types funs b (Some t) s')
         first (λ t. hb (Some t) s s' (λ x i. h x (right (variables_in a) (variables_in b) _ (variables-Binary at op a b) x i))) in
-        type-Binary types funs at op a b wanted s ∙ ap (λ r. and_then r (λ t. fits at wanted (operator_type op t))) both ∙ sym (type-Binary types funs at op a b wanted s');
+        type-Binary types funs at op a b wanted s ∙ ap (λ r. and_then r (λ t. as_wanted at wanted (operator_type op t))) both ∙ sym (type-Binary types funs at op a b wanted s');
     to = λ at bits a ha wanted s s' h. type-To types funs at bits a wanted s
-        ∙ ap (λ r. and_then (and_then r (integer (rule_of types funs a).at)) (λ t. fits at wanted (Int bits))) (ha None s s' (λ x i. h x (fewer _ _ _ (variables-To at bits a) (λ y j. j) x i))) ∙ sym (type-To types funs at bits a wanted s');
+        ∙ ap (λ r. and_then (and_then r (integer (rule_of types funs a).at)) (λ t. as_wanted at wanted (Int bits))) (ha None s s' (λ x i. h x (fewer _ _ _ (variables-To at bits a) (λ y j. j) x i))) ∙ sym (type-To types funs at bits a wanted s');
     bound = λ at x t a b ha hb wanted s s' h. type-Let types funs at x t a b wanted s
         ∙ then_same (type_of types funs a (Some t) s) (type_of types funs a (Some t) s') (λ u. type_of types funs b wanted (with_binder s x t)) (λ u. type_of types funs b wanted (with_binder s' x t))
         (ha (Some t) s s' (λ y i. h y (left (variables_in a) (variables_in b) _ (variables-Let at x t a b) y i)))

@@ -20,7 +20,7 @@ use Rattle.rb_core.specs.declared.expression.Expr.{Expr}
 use Rattle.rb_core.specs.Matching.{matches_of, bindings}
 use Rattle.rb_core.specs.Typing.{binder_of}
 use Rattle.rb_core.specs.Inference.{binders}
-use Rattle.rb_core.specs.Meaning.{Meaning, Calls, after, at_end, then_do, PartsOutcome, at_part, parts_after, first_wanted, later_wanted, all_of, at_parts_end, then_with, first_of, meaning_of, clause_meaning, argument_bindings, body_of, call_within, call_of}
+use Rattle.rb_core.specs.Meaning.{Meaning, Calls, after, at_end, then_do, PartsOutcome, at_part, parts_after, first_wanted, later_wanted, all_of, at_parts_end, then_with, first_of, meaning_of, clause_meaning, argument_bindings, body_outcome, call_within, call_of}
 use Rattle.rb_core.specs.inner.Evaluation.{IsWithinCalls, IsPartsWithinCalls}
 use Rattle.rb_core.proofs.ExpressionLaws.{Each, EachBody, induction}
 use Rattle.rb_core.proofs.MeaningForms.{clause_meaning-is, meaning-Num, meaning-Var, meaning-Call, meaning-Build, meaning-Binary, meaning-To, meaning-Let, meaning-Match}
@@ -110,7 +110,7 @@ module _ (p : Program) (c c' : Calls) (bounded : (g n : ℕ) (vs : List Value) �
   })
 
 module _ (p : Program) where
-  body_alike : (o : Option Fun) (c c' : Calls) (g n : ℕ) (vs : List Value) → ((g n : ℕ) (vs : List Value) → IsWithinCalls n (c g n vs).end) → ((g m : ℕ) (vs : List Value) → m ≤ n → c g m vs ≡ c' g m vs) → body_of p c o g n vs ≡ body_of p c' o g n vs
+  body_alike : (o : Option Fun) (c c' : Calls) (g n : ℕ) (vs : List Value) → ((g n : ℕ) (vs : List Value) → IsWithinCalls n (c g n vs).end) → ((g m : ℕ) (vs : List Value) → m ≤ n → c g m vs ≡ c' g m vs) → body_outcome p c o g n vs ≡ body_outcome p c' o g n vs
   body_alike None c c' g n vs b h = refl
   body_alike (Some f) c c' g n vs b h = alike p c c' b n h g f.body (Some f.result) (map binder_of f.params) n (argument_bindings f.params vs) (le_refl n)
 
@@ -124,12 +124,12 @@ module _ (p : Program) where
       (λ h m ws lt. let a : m ≤ k = omega arith in let b : m ≤ k' = omega arith in enough k k' h m ws a b)
 
   -- with calls left, a call is the function's body with one call less
-  pub call-runs : (g n : ℕ) (vs : List Value) → call_of p g (suc n) vs ≡ body_of p (call_of p) (slice_get p.funs g) g n vs
+  pub call-runs : (g n : ℕ) (vs : List Value) → call_of p g (suc n) vs ≡ body_outcome p (call_of p) (slice_get p.funs g) g n vs
   call-runs g n vs = body_alike (slice_get p.funs g) (call_within p n) (call_of p) g n vs (call-bounded p n) (λ h m ws lt. enough n m h m ws lt (le_refl m))
 
 -- the same, at a bound on the nesting
 pub call_within-runs : (p : Program) (k g left : ℕ) (vs : List Value) → 0 < left → left ≤ k
-    → call_within p k g left vs ≡ body_of p (call_within p (k - 1)) (slice_get p.funs g) g (left - 1) vs
+    → call_within p k g left vs ≡ body_outcome p (call_within p (k - 1)) (slice_get p.funs g) g (left - 1) vs
 call_within-runs p k g zero vs lt le = absurd (omega arith)
 call_within-runs p zero g (suc left) vs lt le = absurd (omega arith)
 call_within-runs p (suc k) g (suc left) vs lt le =

@@ -19,7 +19,7 @@ use Rattle.rb_core.specs.declared.expression.Expr.{Expr}
 use Rattle.rb_core.specs.Matching.{matches_of, bindings}
 use Rattle.rb_core.specs.Typing.{binder_of}
 use Rattle.rb_core.specs.Inference.{binders}
-use Rattle.rb_core.specs.Meaning.{Meaning, Calls, at_end, then_do, PartsOutcome, at_part, first_wanted, later_wanted, all_of, at_parts_end, then_with, first_of, meaning_of, clause_meaning, argument_bindings, body_of, call_within}
+use Rattle.rb_core.specs.Meaning.{Meaning, Calls, at_end, then_do, PartsOutcome, at_part, first_wanted, later_wanted, all_of, at_parts_end, then_with, first_of, meaning_of, clause_meaning, argument_bindings, body_outcome, call_within}
 use Rattle.rb_core.specs.inner.Evaluation.{IsWithinCalls, IsPartsWithinCalls}
 use Rattle.rb_core.proofs.ExpressionLaws.{Each, EachBody, induction}
 use Rattle.rb_core.proofs.MeaningForms.{clause_meaning-is, meaning-Num, meaning-Var, meaning-Call, meaning-Build, meaning-Binary, meaning-To, meaning-Let, meaning-Match}
@@ -100,7 +100,7 @@ module _ (p : Program) (calls : Calls) (bounded : (g n : ℕ) (vs : List Value) 
   })
 
 module _ (p : Program) where
-  bounded_body : (o : Option Fun) (calls : Calls) (g n : ℕ) (vs : List Value) → ((g n : ℕ) (vs : List Value) → IsWithinCalls n (calls g n vs).end) → IsWithinCalls n (body_of p calls o g n vs).end
+  bounded_body : (o : Option Fun) (calls : Calls) (g n : ℕ) (vs : List Value) → ((g n : ℕ) (vs : List Value) → IsWithinCalls n (calls g n vs).end) → IsWithinCalls n (body_outcome p calls o g n vs).end
   bounded_body None calls g n vs h = le_refl n
   bounded_body (Some f) calls g n vs h = fewer p calls h g f.body (Some f.result) (map binder_of f.params) n (argument_bindings f.params vs)
 

@@ -15,7 +15,7 @@ use Rattle.rb_core.specs.declared.pattern.Pat.{Pat}
 use Rattle.rb_core.specs.declared.expression.Op.{Op}
 use Rattle.rb_core.specs.declared.expression.Clause.{Clause}
 use Rattle.rb_core.specs.declared.expression.Expr.{Expr}
-use Rattle.rb_core.specs.Typing.{Typing, and_then, same_type, fits, holds, number, integer, distinct_binders, twice_at, repeated, binder_of, field_types, subpatterns, pattern_params, pattern_binders, arguments, param_types, result_type, operand_wanted, operator_type, integer_operand, operands, clauses, rule_of, clause_rule, type_of, variable_type}
+use Rattle.rb_core.specs.Typing.{Typing, and_then, same_type, as_wanted, type_holds, number, integer, distinct_binders, twice_at, repeated, binder_of, field_types, subpatterns, pattern_params, pattern_binders, arguments, param_types, result_type, operand_wanted, operator_type, integer_operand, operands, clauses, rule_of, clause_rule, type_of, variable_type}
 use Rattle.rb_core.specs.Inference.{Inference, binders, all_binders, operands_type, match_type, inferred_type, clause_inferred, binders_step}
 use Rattle.rb_core.proofs.PatternLaws as PL
 use Rattle.rb_core.proofs.ExpressionLaws as EL
@@ -44,17 +44,17 @@ chosen true a t f e = (refl, cc)
 chosen false a t f e = cc
 
 -- what fits is what was found, and is what was wanted
-fits-found : (at : ℕ) (wanted : Option Ty) (found t : Ty) → fits at wanted found ≡ Ok t → found ≡ t
+fits-found : (at : ℕ) (wanted : Option Ty) (found t : Ty) → as_wanted at wanted found ≡ Ok t → found ≡ t
 fits-found at None found t e = cc
 fits-found at (Some w) found t e =
     let c = chosen (same_type w found) w t _ e in sym (same_type-is w found c.0) ∙ c.1
 
-fits-wanted : (at : ℕ) (w found t : Ty) → fits at (Some w) found ≡ Ok t → w ≡ t
+fits-wanted : (at : ℕ) (w found t : Ty) → as_wanted at (Some w) found ≡ Ok t → w ≡ t
 fits-wanted at w found t e = (chosen (same_type w found) w t _ e).1
 
 number-is : (at n : ℕ) (wanted : Option Ty) (t : Ty) → number at n wanted ≡ Ok t → unwrap_or wanted (Int 64) ≡ t
 number-is at n None t e = cc
-number-is at n (Some w) t e = (chosen (holds w n) w t _ e).1
+number-is at n (Some w) t e = (chosen (type_holds w n) w t _ e).1
 
 integer-is : (at : ℕ) (u t : Ty) → integer at u ≡ Ok t → u ≡ t
 integer-is at (Int n) t e = cc
@@ -108,7 +108,7 @@ module _ (types : List DataDecl) where
         let one : record { at = at; var = x; ty = t } ∷ [] ≡ ps = let h = sym (pattern-Var types at x t) ∙ e in cc in
         rw (← one) (sym (binders-Var at x t));
     num = λ at n t ps e.
-        let none : [] ≡ ps = (chosen (holds t n) [] ps _ (sym (pattern-Num types at n t) ∙ e)).1 in rw (← none) (sym (binders-Num at n t));
+        let none : [] ≡ ps = (chosen (type_holds t n) [] ps _ (sym (pattern-Num types at n t) ∙ e)).1 in rw (← none) (sym (binders-Num at n t));
     con = λ at c qs each t ps e.
         let typed = constructed (same_type t (Named c.ty)) _ _ ps (sym (pattern-Con types at c qs t) ∙ e) in
         let counted = constructed (length (map (pattern_params types) qs) == length (field_types types c)) _ _ ps typed.1 in
@@ -162,17 +162,17 @@ module _ (types : List DataDecl) (funs : List Fun) where
     num = λ at n w scope t e. number-is at n (Some w) t (sym (type-Num types funs at n (Some w) scope) ∙ e);
     var = λ at x w scope t e. fits-wanted at w (variable_type x scope) t (sym (type-Var types funs at x (Some w) scope) ∙ e);
     call = λ at g es each w scope t e.
-        fits-wanted at w (result_type funs g) t (came (arguments at (map (rule_of types funs) es) (param_types funs g) scope) (λ done. fits at (Some w) (result_type funs g)) t
+        fits-wanted at w (result_type funs g) t (came (arguments at (map (rule_of types funs) es) (param_types funs g) scope) (λ done. as_wanted at (Some w) (result_type funs g)) t
         (sym (type-Call types funs at g es (Some w) scope) ∙ e)).then_is;
     build = λ at c es each w scope t e.
-        fits-wanted at w (Named c.ty) t (came (arguments at (map (rule_of types funs) es) (field_types types c) scope) (λ done. fits at (Some w) (Named c.ty)) t
+        fits-wanted at w (Named c.ty) t (came (arguments at (map (rule_of types funs) es) (field_types types c) scope) (λ done. as_wanted at (Some w) (Named c.ty)) t
         (sym (type-Build types funs at c es (Some w) scope) ∙ e)).then_is;
     binary = λ at op a b ha hb w scope t e.
-        let parts = came (operands op (rule_of types funs a) (rule_of types funs b) (Some w) scope) (λ u. fits at (Some w) (operator_type op u)) t
+        let parts = came (operands op (rule_of types funs a) (rule_of types funs b) (Some w) scope) (λ u. as_wanted at (Some w) (operator_type op u)) t
         (sym (type-Binary types funs at op a b (Some w) scope) ∙ e) in
         fits-wanted at w (operator_type op parts.from) t parts.then_is;
     to = λ at bits a ha w scope t e.
-        fits-wanted at w (Int bits) t (came (integer_operand (rule_of types funs a) None scope) (λ u. fits at (Some w) (Int bits)) t
+        fits-wanted at w (Int bits) t (came (integer_operand (rule_of types funs a) None scope) (λ u. as_wanted at (Some w) (Int bits)) t
         (sym (type-To types funs at bits a (Some w) scope) ∙ e)).then_is;
     bound = λ at x u a b ha hb w scope t e.
         hb w _ t (came (ty a (Some u) scope) (λ v. ty b (Some w) (scope ++ record { var = x; ty = u } ∷ [])) t (sym (type-Let types funs at x u a b (Some w) scope) ∙ e)).then_is;
@@ -223,21 +223,21 @@ module _ (types : List DataDecl) (funs : List Fun) where
     var = λ at x wanted scope t e. inferred-Var types funs wanted scope at x ∙ fits-found at wanted (variable_type x scope) t (sym (type-Var types funs at x wanted scope) ∙ e);
     call = λ at g es each wanted scope t e.
         inferred-Call types funs wanted scope at g es
-        ∙ fits-found at wanted (result_type funs g) t (came (arguments at (map (rule_of types funs) es) (param_types funs g) scope) (λ done. fits at wanted (result_type funs g)) t
+        ∙ fits-found at wanted (result_type funs g) t (came (arguments at (map (rule_of types funs) es) (param_types funs g) scope) (λ done. as_wanted at wanted (result_type funs g)) t
         (sym (type-Call types funs at g es wanted scope) ∙ e)).then_is;
     build = λ at c es each wanted scope t e.
         inferred-Build types funs wanted scope at c es
-        ∙ fits-found at wanted (Named c.ty) t (came (arguments at (map (rule_of types funs) es) (field_types types c) scope) (λ done. fits at wanted (Named c.ty)) t
+        ∙ fits-found at wanted (Named c.ty) t (came (arguments at (map (rule_of types funs) es) (field_types types c) scope) (λ done. as_wanted at wanted (Named c.ty)) t
         (sym (type-Build types funs at c es wanted scope) ∙ e)).then_is;
     binary = λ at op a b ha hb wanted scope t e.
-        let parts = came (operands op (rule_of types funs a) (rule_of types funs b) wanted scope) (λ u. fits at wanted (operator_type op u)) t
+        let parts = came (operands op (rule_of types funs a) (rule_of types funs b) wanted scope) (λ u. as_wanted at wanted (operator_type op u)) t
         (sym (type-Binary types funs at op a b wanted scope) ∙ e) in
         inferred-Binary types funs wanted scope at op a b
         ∙ ap (operator_type op) (operands-type op a b wanted scope parts.from ha parts.first_is)
         ∙ fits-found at wanted (operator_type op parts.from) t parts.then_is;
     to = λ at bits a ha wanted scope t e.
         inferred-To types funs wanted scope at bits a
-        ∙ fits-found at wanted (Int bits) t (came (integer_operand (rule_of types funs a) None scope) (λ u. fits at wanted (Int bits)) t
+        ∙ fits-found at wanted (Int bits) t (came (integer_operand (rule_of types funs a) None scope) (λ u. as_wanted at wanted (Int bits)) t
         (sym (type-To types funs at bits a wanted scope) ∙ e)).then_is;
     bound = λ at x u a b ha hb wanted scope t e.
         inferred-Let types funs wanted scope at x u a b

@@ -23,7 +23,7 @@ use Rattle.rb_core.specs.declared.expression.Expr.{Expr}
 use Rattle.rb_core.specs.Matching.{matches_of, bindings}
 use Rattle.rb_core.specs.Typing.{binder_of}
 use Rattle.rb_core.specs.Inference.{binders}
-use Rattle.rb_core.specs.Meaning.{Meaning, Calls, after, at_end, then_do, PartsOutcome, at_part, parts_after, first_wanted, later_wanted, all_of, at_parts_end, then_with, first_of, meaning_of, clause_meaning, argument_bindings, body_of, call_within, call_of}
+use Rattle.rb_core.specs.Meaning.{Meaning, Calls, after, at_end, then_do, PartsOutcome, at_part, parts_after, first_wanted, later_wanted, all_of, at_parts_end, then_with, first_of, meaning_of, clause_meaning, argument_bindings, body_outcome, call_within, call_of}
 use Rattle.rb_core.specs.Outcomes.{BeginsWith, GoesOn, ExtendsOutcome}
 use Rattle.rb_core.proofs.ExpressionLaws.{Each, EachBody, induction}
 use Rattle.rb_core.proofs.MeaningForms.{clause_meaning-is, meaning-Num, meaning-Var, meaning-Call, meaning-Build, meaning-Binary, meaning-To, meaning-Let, meaning-Match}
@@ -136,7 +136,7 @@ module _ (more : ℕ) where
     })
 
   module _ (p : Program) where
-    body_longer : (calls : Calls) → ((g n : ℕ) (vs : List Value) → ExtendsOutcome more (calls g n vs) (calls g (n + more) vs)) → (o : Option Fun) (g n : ℕ) (vs : List Value) → ExtendsOutcome more (body_of p calls o g n vs) (body_of p calls o g (n + more) vs)
+    body_longer : (calls : Calls) → ((g n : ℕ) (vs : List Value) → ExtendsOutcome more (calls g n vs) (calls g (n + more) vs)) → (o : Option Fun) (g n : ℕ) (vs : List Value) → ExtendsOutcome more (body_outcome p calls o g n vs) (body_outcome p calls o g (n + more) vs)
     body_longer calls longer None g n vs = (refl, refl)
     body_longer calls longer (Some f) g n vs = goes_on p calls longer g f.body (Some f.result) (map binder_of f.params) n (argument_bindings f.params vs)
 

@@ -13,7 +13,7 @@ use Rattle.rb_core.specs.declared.expression.Op.{Op}
 use Rattle.rb_core.specs.declared.expression.Clause.{Clause}
 use Rattle.rb_core.specs.declared.expression.Expr.{Expr}
 use Rattle.rb_core.specs.declared.expression.Expr as X
-use Rattle.rb_core.specs.Typing.{Typing, and_then, same_type, fits, holds, number, integer, operand_wanted, operator_type, integer_operand, operands, variable_type, field_types, rule_of, clause_rule, clauses, pattern_binders, type_of, arguments, each_argument, param_types, result_type}
+use Rattle.rb_core.specs.Typing.{Typing, and_then, same_type, as_wanted, type_holds, number, integer, operand_wanted, operator_type, integer_operand, operands, variable_type, field_types, rule_of, clause_rule, clauses, pattern_binders, type_of, arguments, each_argument, param_types, result_type}
 use Rattle.rb_core.specs.Inference.{with_binder, operands_type, inferred_type, binders, match_type, clause_inferred}
 use Rattle.rb_core.specs.Clauses.{wanted_of, PatternIsTyped}
 use Rattle.rb_core.proofs.TypingLemmas.{type-Num, type-Var, type-Call, type-Build, type-Binary, type-To, type-Let, type-Match, type-Clause}
@@ -46,7 +46,7 @@ same_type-is (Int n) (Named t) h = cc
 same_type-is (Named t) (Int n) h = cc
 same_type-is (Named t) (Named s) h = ap Named (eqb-true t s h)
 
-pub fits_found : (at : ℕ) (wanted : Option Ty) (found t : Ty) → fits at wanted found ≡ Ok t → found ≡ t
+pub fits_found : (at : ℕ) (wanted : Option Ty) (found t : Ty) → as_wanted at wanted found ≡ Ok t → found ≡ t
 fits_found at None found t e = ok-same e
 fits_found at (Some w) found t e = let c = chosen (same_type w found) w t _ e in sym (same_type-is w found c.0) ∙ c.1
 
@@ -55,14 +55,14 @@ integer_is at (Int n) t e = (n, sym (ok-same e), ok-same e)
 integer_is at (Named s) t e = cc
 
 -- the integer type that a number is typed as
-held_number : (n : ℕ) (w : Ty) → holds w n ≡ true → (bits : ℕ) × (w ≡ Int bits) × (n < 2 ^ bits)
+held_number : (n : ℕ) (w : Ty) → type_holds w n ≡ true → (bits : ℕ) × (w ≡ Int bits) × (n < 2 ^ bits)
 held_number n (Int bits) h = let lt : n < 2 ^ bits = grind (arith, nat_tests, h) in (bits, refl, lt)
 held_number n (Named t) h = cc
 
 number_typed : (at n : ℕ) (wanted : Option Ty) (t : Ty) → n < 2 ^ 64 → number at n wanted ≡ Ok t → (bits : ℕ) × (t ≡ Int bits) × (n < 2 ^ bits) × (unwrap_or wanted (Int 64) ≡ t)
 number_typed at n None t lt e = (64, sym (ok-same e), lt, ok-same e)
 number_typed at n (Some w) t lt e =
-    let c = chosen (holds w n) w t _ e in let h = held_number n w c.0 in (h.0, sym c.1 ∙ h.1, h.2, c.1)
+    let c = chosen (type_holds w n) w t _ e in let h = held_number n w c.0 in (h.0, sym c.1 ∙ h.1, h.2, c.1)
 
 module _ (types : List DataDecl) (funs : List Fun) where
   pub typed-Num : (at n : ℕ) (wanted : Option Ty) (scope : List Binder) (t : Ty) → n < 2 ^ 64 → type_of types funs (X.Num at n) wanted scope ≡ Ok t
@@ -111,7 +111,7 @@ module _ (types : List DataDecl) (funs : List Fun) where
       × (type_of types funs a (operand_wanted op wanted) scope ≡ Ok (Int n)) × (type_of types funs b (Some (Int n)) scope ≡ Ok (Int n))
       × (unwrap_or (operand_wanted op wanted) (Int n) ≡ Int n) × (operator_type op (Int n) ≡ t)
   typed-Binary at op a b wanted scope t e =
-      let h = came (operands op (rule_of types funs a) (rule_of types funs b) wanted scope) (λ u. fits at wanted (operator_type op u)) t (sym (type-Binary types funs at op a b wanted scope) ∙ e) in
+      let h = came (operands op (rule_of types funs a) (rule_of types funs b) wanted scope) (λ u. as_wanted at wanted (operator_type op u)) t (sym (type-Binary types funs at op a b wanted scope) ∙ e) in
       let p = operands_int op a b wanted scope h.from h.first_is in (
         p.0,
         p.2 ∙ p.1,
@@ -124,7 +124,7 @@ module _ (types : List DataDecl) (funs : List Fun) where
   pub typed-Call : (at g : ℕ) (es : List Expr) (wanted : Option Ty) (scope : List Binder) (t : Ty) → type_of types funs (X.Call at g es) wanted scope ≡ Ok t
       → (length (map (rule_of types funs) es) ≡ length (param_types funs g)) × (each_argument (map (rule_of types funs) es) (param_types funs g) scope ≡ Ok tt) × (result_type funs g ≡ t)
   typed-Call at g es wanted scope t e =
-      let h = came {A = Unit {0}} (arguments at (map (rule_of types funs) es) (param_types funs g) scope) (λ _. fits at wanted (result_type funs g)) t (sym (type-Call types funs at g es wanted scope) ∙ e) in
+      let h = came {A = Unit {0}} (arguments at (map (rule_of types funs) es) (param_types funs g) scope) (λ _. as_wanted at wanted (result_type funs g)) t (sym (type-Call types funs at g es wanted scope) ∙ e) in
       let args = constructed (length (map (rule_of types funs) es) == length (param_types funs g)) _ _ h.from h.first_is in
       (eqb-true _ _ args.0, args.1, fits_found at wanted (result_type funs g) t h.then_is)
 
@@ -132,7 +132,7 @@ module _ (types : List DataDecl) (funs : List Fun) where
   pub typed-Build : (at : ℕ) (c : ConRef) (es : List Expr) (wanted : Option Ty) (scope : List Binder) (t : Ty) → type_of types funs (X.Build at c es) wanted scope ≡ Ok t
       → (length (map (rule_of types funs) es) ≡ length (field_types types c)) × (each_argument (map (rule_of types funs) es) (field_types types c) scope ≡ Ok tt) × (Named c.ty ≡ t)
   typed-Build at c es wanted scope t e =
-      let h = came {A = Unit {0}} (arguments at (map (rule_of types funs) es) (field_types types c) scope) (λ _. fits at wanted (Named c.ty)) t (sym (type-Build types funs at c es wanted scope) ∙ e) in
+      let h = came {A = Unit {0}} (arguments at (map (rule_of types funs) es) (field_types types c) scope) (λ _. as_wanted at wanted (Named c.ty)) t (sym (type-Build types funs at c es wanted scope) ∙ e) in
       let args = constructed (length (map (rule_of types funs) es) == length (field_types types c)) _ _ h.from h.first_is in
       (eqb-true _ _ args.0, args.1, fits_found at wanted (Named c.ty) t h.then_is)
 
@@ -153,7 +153,7 @@ module _ (types : List DataDecl) (funs : List Fun) where
   pub typed-To : (at bits : ℕ) (a : Expr) (wanted : Option Ty) (scope : List Binder) (t : Ty) → type_of types funs (X.To at bits a) wanted scope ≡ Ok t
       → (n : ℕ) × (type_of types funs a None scope ≡ Ok (Int n)) × (Int bits ≡ t)
   typed-To at bits a wanted scope t e =
-      let h = came (integer_operand (rule_of types funs a) None scope) (λ u. fits at wanted (Int bits)) t (sym (type-To types funs at bits a wanted scope) ∙ e) in
+      let h = came (integer_operand (rule_of types funs a) None scope) (λ u. as_wanted at wanted (Int bits)) t (sym (type-To types funs at bits a wanted scope) ∙ e) in
       let found = came (type_of types funs a None scope) (integer (rule_of types funs a).at) h.from h.first_is in
       let whole = integer_is (rule_of types funs a).at found.from h.from found.then_is in
       (whole.0, found.first_is ∙ ap (λ u. Ok u) (whole.2 ∙ whole.1), fits_found at wanted (Int bits) t h.then_is)

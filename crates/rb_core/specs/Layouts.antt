@@ -54,7 +54,7 @@ provenances tree = map (λ l. l.provenance) (leaves tree)
 
 -- what is written in an item, a part or a list of them: how many items and how many parts there are, nested
 -- ones included, and whether each list in it is short
-pub record Written : Type 0 where
+pub record ItemCounts : Type 0 where
   pub items : ℕ
   pub parts : ℕ
   pub short : Bool
@@ -65,7 +65,7 @@ is_short xs = nat_lt (length xs) (2 ^ 32)
 
 -- what is written in a list, from what is written in each of its members, with `items` more items and `parts`
 -- more parts counted round them; whether the list itself is short counts too
-abbrev pub written_round : ℕ → ℕ → List Written → Written
+abbrev pub written_round : ℕ → ℕ → List ItemCounts → ItemCounts
 written_round items parts ws = record {
   items = items + sum_by (λ w. w.items) ws;
   parts = parts + sum_by (λ w. w.parts) ws;
@@ -73,12 +73,12 @@ written_round items parts ws = record {
 }
 
 -- what is written in a path: no item and no part, in one list
-abbrev pub written_path : List ℕ → Written
+abbrev pub written_path : List ℕ → ItemCounts
 written_path path = record { items = 0; parts = 0; short = is_short path }
 
 -- what is written in one layer of what a part holds: of a pointer that of the items of its block, of a number
 -- nothing, and of each other a path
-abbrev pub kind_step : PartKind-F Written Written Written → Written
+abbrev pub kind_step : PartKind-F ItemCounts ItemCounts ItemCounts → ItemCounts
 kind_step (I.Const n) = written_path []
 kind_step (I.Whole path) = written_path path
 kind_step (I.Slice path from bits) = written_path path
@@ -86,24 +86,24 @@ kind_step (I.PartKind::Word path word) = written_path path
 kind_step (I.Pointer align items) = written_round 0 0 items
 
 -- what is written in one layer of a part: that of what it holds, and the part itself
-abbrev pub part_step : PartDecl-F Written Written Written → Written
+abbrev pub part_step : PartDecl-F ItemCounts ItemCounts ItemCounts → ItemCounts
 part_step p = record { items = p.kind.items; parts = p.kind.parts + 1; short = p.kind.short }
 
 -- what is written in one layer of an item: of a word that of its parts, of the words of a field its path; and
 -- the item itself
-abbrev pub item_step : LayItem-F Written Written Written → Written
+abbrev pub item_step : LayItem-F ItemCounts ItemCounts ItemCounts → ItemCounts
 item_step (I.LayItem::Word width parts) = written_round 1 0 parts
 item_step (I.Inline path) = record { items = 1; parts = 0; short = is_short path }
 
 -- what is written in an item, with the items and parts that are nested in it
-abbrev pub written : LayItem → Written
-written = fold-LayItem Written Written Written item_step kind_step part_step
+abbrev pub counts_in : LayItem → ItemCounts
+counts_in = fold-LayItem ItemCounts ItemCounts ItemCounts item_step kind_step part_step
 
 -- the items of a leaf are short: so are their list and each list in them, and both their items and their
 -- parts, nested ones included, are fewer than 2^32
 abbrev pub leaf_is_short : List LayItem → Bool
 leaf_is_short items =
-    let all = written_round 0 0 (map written items) in
+    let all = written_round 0 0 (map counts_in items) in
     all.short && (nat_lt all.items (2 ^ 32) && nat_lt all.parts (2 ^ 32))
 
 -- what stands under `else` is short, or a split has no `else`

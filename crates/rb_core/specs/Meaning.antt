@@ -251,9 +251,9 @@ argument_bindings (p ∷ ps) (v ∷ vs) = record { var = p.var; value = v } ∷ 
 
 -- what the body of function g does at its result type, with so many calls left and its parameters bound to
 -- the arguments vs; where the program has no such function, it is done with 0
-abbrev pub body_of : Program → Calls → Option Fun → ℕ → ℕ → List Value → Outcome
-body_of p calls None g left vs = done (Num 0) left
-body_of p calls (Some f) g left vs =
+abbrev pub body_outcome : Program → Calls → Option Fun → ℕ → ℕ → List Value → Outcome
+body_outcome p calls None g left vs = done (Num 0) left
+body_outcome p calls (Some f) g left vs =
     meaning_of p calls g f.body (Some f.result) (map binder_of f.params) left (argument_bindings f.params vs)
 
 -- what a call of function g does, with so many calls left, of which it takes one, and the arguments vs, where
@@ -261,7 +261,7 @@ body_of p calls (Some f) g left vs =
 abbrev pub call_within : Program → ℕ → Calls
 call_within p k g zero vs = spent
 call_within p zero g (suc left) vs = spent
-call_within p (suc k) g (suc left) vs = body_of p (call_within p k) (slice_get p.funs g) g left vs
+call_within p (suc k) g (suc left) vs = body_outcome p (call_within p k) (slice_get p.funs g) g left vs
 
 -- what a call of function g does, with n calls left and the arguments vs: calls nest no deeper than there are
 -- calls, so n bounds both

@@ -47,14 +47,14 @@ same_type (Named t) (Int n) = false
 same_type (Named t) (Named s) = t == s
 
 -- the type that is found, if it is the wanted one or none is wanted; else that another is found at this token
-abbrev pub fits : ℕ → Option Ty → Ty → Typing Ty
-fits at None found = Ok found
-fits at (Some wanted) found = if same_type wanted found then Ok wanted else Err (Mismatch at wanted found)
+abbrev pub as_wanted : ℕ → Option Ty → Ty → Typing Ty
+as_wanted at None found = Ok found
+as_wanted at (Some wanted) found = if same_type wanted found then Ok wanted else Err (Mismatch at wanted found)
 
 -- whether a number is of a type: an integer type of n bits holds the numbers below 2^n, and a data type none
-abbrev pub holds : Ty → ℕ → Bool
-holds (Int bits) n = nat_lt n (2 ^ bits)
-holds (Named t) n = false
+abbrev pub type_holds : Ty → ℕ → Bool
+type_holds (Int bits) n = nat_lt n (2 ^ bits)
+type_holds (Named t) n = false
 
 -- the first of `more` widths, from `width` on, in which a number fits, or the width after them
 unfoldable pub width_from : ℕ → ℕ → ℕ → ℕ
@@ -147,7 +147,7 @@ fields_match at ps ts = if length ps == length ts then subpatterns ps ts else Er
 abbrev pub pattern_step : List DataDecl → Pat-F PatternRule → PatternRule
 pattern_step types (P.Wild at) t = Ok []
 pattern_step types (P.Var at x) t = Ok (record { at = at; var = x; ty = t } ∷ [])
-pattern_step types (P.Num at n) t = if holds t n then Ok [] else Err (Mismatch at t (number_type n))
+pattern_step types (P.Num at n) t = if type_holds t n then Ok [] else Err (Mismatch at t (number_type n))
 pattern_step types (P.Con at c ps) t =
     if same_type t (Named c.ty) then fields_match at ps (field_types types c) else Err (Mismatch at t (Named c.ty))
 
@@ -176,7 +176,7 @@ ClauseRule = Ty → Option Ty → List Binder → Typing Ty
 -- the type of a number: the wanted type, if it holds the number, else a fault; u64 where none is wanted
 abbrev pub number : ℕ → ℕ → Option Ty → Typing Ty
 number at n None = Ok (Int 64)
-number at n (Some wanted) = if holds wanted n then Ok wanted else Err (Mismatch at wanted (number_type n))
+number at n (Some wanted) = if type_holds wanted n then Ok wanted else Err (Mismatch at wanted (number_type n))
 
 -- each argument typed with the type in its place wanted, from left to right up to where the arguments or the
 -- types end, or their first fault
@@ -259,15 +259,15 @@ clause_step types c scrutinee wanted scope =
 -- what one layer of an expression is typed as, from the rules of its parts
 abbrev pub answer_step : List DataDecl → List Fun → Expr-F Rule ClauseRule → Option Ty → List Binder → Typing Ty
 answer_step types funs (E.Num at n) wanted scope = number at n wanted
-answer_step types funs (E.Var at x) wanted scope = fits at wanted (variable_type x scope)
+answer_step types funs (E.Var at x) wanted scope = as_wanted at wanted (variable_type x scope)
 answer_step types funs (E.Call at g es) wanted scope =
-    and_then (arguments at es (param_types funs g) scope) (λ typed. fits at wanted (result_type funs g))
+    and_then (arguments at es (param_types funs g) scope) (λ typed. as_wanted at wanted (result_type funs g))
 answer_step types funs (E.Build at c es) wanted scope =
-    and_then (arguments at es (field_types types c) scope) (λ typed. fits at wanted (Named c.ty))
+    and_then (arguments at es (field_types types c) scope) (λ typed. as_wanted at wanted (Named c.ty))
 answer_step types funs (E.Binary at op a b) wanted scope =
-    and_then (operands op a b wanted scope) (λ t. fits at wanted (operator_type op t))
+    and_then (operands op a b wanted scope) (λ t. as_wanted at wanted (operator_type op t))
 answer_step types funs (E.To at bits a) wanted scope =
-    and_then (integer_operand a None scope) (λ t. fits at wanted (Int bits))
+    and_then (integer_operand a None scope) (λ t. as_wanted at wanted (Int bits))
 answer_step types funs (E.Let at x ty a b) wanted scope =
     and_then (a.answer (Some ty) scope) (λ t. b.answer wanted (scope ++ record { var = x; ty = ty } ∷ []))
 answer_step types funs (E.Match at e cs) wanted scope =

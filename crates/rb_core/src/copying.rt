@@ -3,7 +3,7 @@
 
 ghost use Rattle.std.specs.Prelude.{◌≡◌, ◌+◌, ◌<◌, ◌≤◌, IfOk};
 ghost use Rattle.rb_core.specs.Values.{node_count};
-ghost use Rattle.rb_core.specs.inner.Copying.{Enters, Leaves};
+ghost use Rattle.rb_core.specs.inner.Copying.{Enters, GoesUp};
 
 use crate::seq::Seq;
 use crate::value::Value;
@@ -78,7 +78,7 @@ fn enter<'a>(
 // by that in its own, up to the next value to copy; where no frame is left, the whole is copied.
 #[tactic(auto, using(crate::proofs::CopyingLemmas::frame_rules))]
 fn leave<'a>(copied: Value, frames: &mut Vec<Frame<'a>>) -> Result<Turn<'a>, AllocError>
-    ensures { IfOk result (Leaves copied frames.old.items frames.new.items) }
+    ensures { IfOk result (GoesUp copied frames.old.items frames.new.items) }
 {
     let mut value = copied;
     while let Some(mut frame) = frames.pop() {

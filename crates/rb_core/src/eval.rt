@@ -5,7 +5,7 @@
 ghost use Rattle.std.specs.Prelude.{◌≡◌, ◌≤◌, [], ℕ, IfOk, OnOk, map, slice_get};
 ghost use Rattle.rb_core.specs.declared.expression.Expr as X;
 ghost use Rattle.rb_core.specs.Meaning.{call_of, call_within, meaning_of, all_of};
-ghost use Rattle.rb_core.specs.inner.Evaluation.{GivesOutcome, GivesParts, IsWithinCalls, IsPartsWithinCalls, EndsAs, EndsAsFirst};
+ghost use Rattle.rb_core.specs.inner.Evaluation.{GivesOutcome, GivesParts, IsWithinCalls, IsPartsWithinCalls, EvaluatesTo, EndsAsFirst};
 
 use crate::environment::{Frame, bind_arguments, scope_of, value_of};
 use crate::expression::{Clause, Expr, Op};
@@ -111,7 +111,7 @@ fn eval_expr(
     frame: &mut Frame,
     log: &mut Seq<Event>,
 ) -> Result<SourceEnd, AllocError>
-    ensures gives { IfOk result (EndsAs context.entry frame.old expr.now log.old log.new) }
+    ensures gives { IfOk result (EvaluatesTo context.entry frame.old expr.now log.old log.new) }
     ensures fewer { IfOk result (IsWithinCalls context.entry.calls) }
     ensures frame { OnOk result (frame.new ≡ frame.old) }
 {
@@ -147,7 +147,7 @@ fn eval_invoke(
     log: &mut Seq<Event>,
 ) -> Result<SourceEnd, AllocError>
     ensures gives { (at : ℕ) → IfOk result
-        (EndsAs context.entry frame.old (X.Call at fun parts.now) log.old log.new) }
+        (EvaluatesTo context.entry frame.old (X.Call at fun parts.now) log.old log.new) }
     ensures fewer { IfOk result (IsWithinCalls context.entry.calls) }
     ensures frame { OnOk result (frame.new ≡ frame.old) }
 {
@@ -181,7 +181,7 @@ fn eval_build(
     log: &mut Seq<Event>,
 ) -> Result<SourceEnd, AllocError>
     ensures gives { (at : ℕ) → IfOk result
-        (EndsAs context.entry frame.old (X.Build at con parts.now) log.old log.new) }
+        (EvaluatesTo context.entry frame.old (X.Build at con parts.now) log.old log.new) }
     ensures fewer { IfOk result (IsWithinCalls context.entry.calls) }
     ensures frame { OnOk result (frame.new ≡ frame.old) }
 {
@@ -209,7 +209,7 @@ fn eval_binary(
     log: &mut Seq<Event>,
 ) -> Result<SourceEnd, AllocError>
     ensures gives { (at : ℕ) → IfOk result
-        (EndsAs context.entry frame.old (X.Binary at op a.now b.now) log.old log.new) }
+        (EvaluatesTo context.entry frame.old (X.Binary at op a.now b.now) log.old log.new) }
     ensures fewer { IfOk result (IsWithinCalls context.entry.calls) }
     ensures frame { OnOk result (frame.new ≡ frame.old) }
 {
@@ -248,7 +248,7 @@ fn eval_to(
     log: &mut Seq<Event>,
 ) -> Result<SourceEnd, AllocError>
     ensures gives { (at : ℕ) → IfOk result
-        (EndsAs context.entry frame.old (X.To at bits a.now) log.old log.new) }
+        (EvaluatesTo context.entry frame.old (X.To at bits a.now) log.old log.new) }
     ensures fewer { IfOk result (IsWithinCalls context.entry.calls) }
     ensures frame { OnOk result (frame.new ≡ frame.old) }
 {
@@ -277,7 +277,7 @@ fn eval_let(
     log: &mut Seq<Event>,
 ) -> Result<SourceEnd, AllocError>
     ensures gives { (at : ℕ) → IfOk result
-        (EndsAs context.entry frame.old (X.Let at binder.var binder.ty a.now b.now) log.old log.new) }
+        (EvaluatesTo context.entry frame.old (X.Let at binder.var binder.ty a.now b.now) log.old log.new) }
     ensures fewer { IfOk result (IsWithinCalls context.entry.calls) }
     ensures frame { OnOk result (frame.new ≡ frame.old) }
 {
@@ -313,7 +313,7 @@ fn eval_match(
     log: &mut Seq<Event>,
 ) -> Result<SourceEnd, AllocError>
     ensures gives { IfOk result
-        (EndsAs context.entry frame.old (X.Match at scrutinee.now clauses.now) log.old log.new) }
+        (EvaluatesTo context.entry frame.old (X.Match at scrutinee.now clauses.now) log.old log.new) }
     ensures fewer { IfOk result (IsWithinCalls context.entry.calls) }
     ensures frame { OnOk result (frame.new ≡ frame.old) }
 {

@@ -2,7 +2,7 @@
 use Rattle.std.proofs.Common.{◌≡◌, ℕ, List, [], ◌∷◌, ◌++◌, Some, None, Ok, Err, refl}
 use Rattle.rb_edge.specs.declared.named.NamedBytes.{NamedBytes}
 use Rattle.rb_edge.specs.Faults.{one_more}
-use Rattle.rb_edge.specs.History.{Reading, Course, going, ended, failed, begun, missed, told_end, broken}
+use Rattle.rb_edge.specs.History.{Reading, Course, going, ended, failed, fresh_reading, missed, told_end, broken}
 use Rattle.rb_edge.specs.MemSource.{SourceState, held_in, after_open, after_read_into}
 use Rattle.rb_edge.specs.MemSink.{SinkState, after_write}
 
@@ -52,7 +52,7 @@ no-room-to-read = refl
 fails-to-read : after_read_into (before 5 [] (seven [] going)) (0 ∷ []) ≡ (Err (record {}), 0 ∷ [], record (before 6 [] (seven [] failed)) { faults = 1 })
 fails-to-read = refl
 
-stays-failed : told_end (broken (begun (7 ∷ []))) ≡ missed (7 ∷ [])
+stays-failed : told_end (broken (fresh_reading (7 ∷ []))) ≡ missed (7 ∷ [])
 stays-failed = refl
 
 -- a sink with room for four bytes, where call 5 fails, which said what it took

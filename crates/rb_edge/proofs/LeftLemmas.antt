@@ -3,7 +3,7 @@ use Rattle.std.proofs.Common.{◌≡◌, ◌≢◌, ◌≤◌, ◌<◌, ◌+◌,
 use Rattle.std.proofs.lemmas.Bool.{le-leb}
 use Rattle.std.specs.declared.vec.Vec.{Vec}
 use Rattle.std.specs.declared.alloc.Global.{Global}
-use Rattle.rb_edge.specs.History.{Reading, going, ended, failed, begun, handed, told_end, broken, on_last, after_read}
+use Rattle.rb_edge.specs.History.{Reading, going, ended, failed, fresh_reading, handed, told_end, broken, on_last, after_read}
 use Rattle.rb_edge.specs.Whole.{Begins, ReadsOnce, read_to}
 use Rattle.rb_edge.specs.inner.Left.{ReadsOn, goes_on}
 use Rattle.rb_edge.specs.declared.whole.SourceFault.{SourceFault}
@@ -49,16 +49,16 @@ take_front (suc n) (x ∷ xs) ys within = ap (λ (zs : List ℕ). x ∷ zs) (tak
 
 -- A file that is opened and then read -------------------------------------------------------
 
-made : (name bytes : List ℕ) (b : Bool) → (if b then told_end (handed bytes (begun name)) else handed bytes (begun name))
+made : (name bytes : List ℕ) (b : Bool) → (if b then told_end (handed bytes (fresh_reading name)) else handed bytes (fresh_reading name))
     ≡ record { name = name; bytes = bytes; course = if b then ended else going }
 made name bytes true = refl
 made name bytes false = refl
 
 module _ {S : Type 0} (tells : S → Bool) (held : S → List ℕ → Option (List ℕ)) (left : S → List ℕ) (readings : S → List Reading) (old mid new : S)
-    (name : List ℕ) (limit : ℕ) (opened : readings mid ≡ readings old ++ begun name ∷ []) (same : tells mid ≡ tells old)
+    (name : List ℕ) (limit : ℕ) (opened : readings mid ≡ readings old ++ fresh_reading name ∷ []) (same : tells mid ≡ tells old)
     (is_held : IsTrue (tells old) → held old name ≡ Some (left mid)) where
-  came : (r : Result (Vec ℕ Global) SourceFault) (on : ReadsOn tells left readings mid new limit r) → readings new ≡ readings old ++ goes_on limit on.bytes r (begun name) ∷ []
-  came r on = on.on ∙ ap (λ (rs : List Reading). on_last (goes_on limit on.bytes r) rs) opened ∙ on_last_snoc (goes_on limit on.bytes r) (readings old) (begun name)
+  came : (r : Result (Vec ℕ Global) SourceFault) (on : ReadsOn tells left readings mid new limit r) → readings new ≡ readings old ++ goes_on limit on.bytes r (fresh_reading name) ∷ []
+  came r on = on.on ∙ ap (λ (rs : List Reading). on_last (goes_on limit on.bytes r) rs) opened ∙ on_last_snoc (goes_on limit on.bytes r) (readings old) (fresh_reading name)
 
   front : (r : Result (Vec ℕ Global) SourceFault) (on : ReadsOn tells left readings mid new limit r) → IsTrue (tells old) → Begins (held old name) on.bytes
   front r on t = subst (λ (o : Option (List ℕ)). Begins o on.bytes) (sym (is_held t)) (left new, on.left_so (subst (λ (b : Bool). IsTrue b) (sym same) t))

@@ -2,7 +2,7 @@
 -- been.
 use Rattle.std.specs.Prelude.{ℕ, List, [], ◌∷◌, ◌++◌}
 use Rattle.rb_edge.specs.Faults.{one_more}
-use Rattle.rb_edge.specs.History.{Reading, begun, missed, broken, on_last}
+use Rattle.rb_edge.specs.History.{Reading, fresh_reading, missed, broken, on_last}
 
 -- what contracts see of a source of files of the system
 pub record SourceCounts : Type 0 where
@@ -13,7 +13,7 @@ pub record SourceCounts : Type 0 where
 
 -- the source after a name was opened: one reading more, of which nothing is handed out yet
 abbrev pub after_opening : SourceCounts → List ℕ → SourceCounts
-after_opening s name = record s { readings = s.readings ++ begun name ∷ [] }
+after_opening s name = record s { readings = s.readings ++ fresh_reading name ∷ [] }
 
 -- the source after the opening of a name failed: one reading more, which failed, and one fault more
 abbrev pub after_miss : SourceCounts → List ℕ → SourceCounts

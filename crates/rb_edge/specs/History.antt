@@ -18,8 +18,8 @@ pub record Reading : Type 0 where
   pub course : Course
 
 -- the reading of a file of that name as it is opened: no byte is handed out yet
-abbrev pub begun : List ℕ → Reading
-begun name = record { name = name; bytes = []; course = going }
+abbrev pub fresh_reading : List ℕ → Reading
+fresh_reading name = record { name = name; bytes = []; course = going }
 
 -- the reading of a file of that name whose opening failed
 abbrev pub missed : List ℕ → Reading

@@ -7,7 +7,7 @@ use Rattle.rb_edge.specs.declared.source.Failed.{Failed}
 use Rattle.rb_edge.specs.Calls.{fails_at, next_call}
 use Rattle.rb_edge.specs.Faults.{one_more}
 use Rattle.rb_edge.specs.History as history
-use Rattle.rb_edge.specs.History.{Reading, begun, missed, broken, on_last}
+use Rattle.rb_edge.specs.History.{Reading, fresh_reading, missed, broken, on_last}
 
 -- a source in memory between two calls
 pub record SourceState : Type 0 where
@@ -38,9 +38,9 @@ bytes_in None = []
 bytes_in (Some file) = file.bytes
 
 -- the bytes of the opened file, by its index among the files; none where no file is open, or none has that index
-abbrev pub bytes_of : List NamedBytes → Option ℕ → List ℕ
-bytes_of files None = []
-bytes_of files (Some i) = bytes_in (slice_get files i)
+abbrev pub opened_bytes : List NamedBytes → Option ℕ → List ℕ
+opened_bytes files None = []
+opened_bytes files (Some i) = bytes_in (slice_get files i)
 
 -- the bytes of the first file of that name; None where no file has it
 abbrev pub held_in : List NamedBytes → List ℕ → Option (List ℕ)
@@ -61,7 +61,7 @@ abbrev pub opening_of : SourceState → List ℕ → Option (List ℕ) → Resul
 opening_of s name None = (Err (record {}), served s [] (s.readings ++ missed name ∷ []))
 opening_of s name (Some bytes) =
     if fails_at s.fail s.calls then (Err (record {}), faulted s [] (s.readings ++ missed name ∷ []))
-    else (Ok tt, served s bytes (s.readings ++ begun name ∷ []))
+    else (Ok tt, served s bytes (s.readings ++ fresh_reading name ∷ []))
 
 -- what opening a name answers, and the source after it
 abbrev pub after_open : SourceState → List ℕ → Result (Unit {0}) Failed × SourceState

@@ -3,7 +3,7 @@
 //! came. Both are kept in a log, as events, each a number, its kind, with bytes.
 
 ghost use Rattle.std.specs.Prelude.{◌≡◌, ℕ, List, [], ◌∷◌, ◌++◌};
-ghost use Rattle.rb_edge.specs.History.{begun, missed, handed, told_end, broken, on_last, after_read, no_account, after_take, after_break};
+ghost use Rattle.rb_edge.specs.History.{fresh_reading, missed, handed, told_end, broken, on_last, after_read, no_account, after_take, after_break};
 
 use crate::log::Log;
 use std::marker::Model;
@@ -56,7 +56,7 @@ impl Readings {
 
     /// Adds the reading of a name that is opened now.
     pub fn begin(&mut self, name: &[u8])
-        ensures { self.new ≡ self.old ++ begun name.now ∷ [] }
+        ensures { self.new ≡ self.old ++ fresh_reading name.now ∷ [] }
     {
         self.log.note(BEGUN, name);
     }

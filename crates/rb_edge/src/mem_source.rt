@@ -3,10 +3,10 @@
 ghost use Rattle.std.specs.Prelude.{◌≡◌, ◌≤◌, ◌<◌, ◌+◌, ◌++◌, ℕ, List, [], ◌∷◌, Bool, true, Option, Some, None, MatchOption, IsTrue, IfOk, OnOk, OnErr, IsErr, Ok, Err, take, drop, length, slice_get};
 ghost use Rattle.std.specs.Option.{option_map};
 ghost use Rattle.rb_edge.specs.Faults.{Rose};
-ghost use Rattle.rb_edge.specs.History.{Reading, begun, missed, broken, on_last};
+ghost use Rattle.rb_edge.specs.History.{Reading, fresh_reading, missed, broken, on_last};
 ghost use Rattle.rb_edge.specs.History as history;
 ghost use Rattle.rb_edge.specs.Source.{HoldsTheSame, GivesBytes, FailsToOpen};
-ghost use Rattle.rb_edge.specs.MemSource.{new_source, held_in, bytes_of, after_open, after_read_into};
+ghost use Rattle.rb_edge.specs.MemSource.{new_source, held_in, opened_bytes, after_open, after_read_into};
 
 use crate::calls::is_failing;
 use crate::history::Readings;
@@ -39,7 +39,7 @@ pub struct MemSource {
 
 impl Model for MemSource {
     ghost use Rattle.std.specs.Prelude.{◌≤◌, drop, length};
-    ghost use Rattle.rb_edge.specs.MemSource.{SourceState, bytes_of};
+    ghost use Rattle.rb_edge.specs.MemSource.{SourceState, opened_bytes};
 
     ghost Value = { SourceState };
 
@@ -48,12 +48,12 @@ impl Model for MemSource {
       step = s.step;
       fail = s.fail;
       calls = s.calls;
-      left = drop s.at (bytes_of s.files s.opened);
+      left = drop s.at (opened_bytes s.files s.opened);
       readings = s.readings;
       faults = s.faults;
     } };
 
-    ghost invariant = { λ s. (1 ≤ s.step) × (s.at ≤ length (bytes_of s.files s.opened)) };
+    ghost invariant = { λ s. (1 ≤ s.step) × (s.at ≤ length (opened_bytes s.files s.opened)) };
 }
 
 impl MemSource {
@@ -92,7 +92,7 @@ fn index_of(files: &[NamedBytes], name: &[u8]) -> Option<usize>
 
 // The bytes of the file of that index; no bytes where it is `None` or no file has it.
 fn bytes_at(files: &Seq<NamedBytes>, opened: Option<usize>) -> &[u8]
-    ensures { result.now ≡ bytes_of files.now opened }
+    ensures { result.now ≡ opened_bytes files.now opened }
 {
     match opened {
         None => &[],

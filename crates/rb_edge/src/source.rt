@@ -2,7 +2,7 @@
 
 ghost use Rattle.std.specs.Prelude.{◌≡◌, ◌≤◌, ℕ, List, [], ◌∷◌, ◌++◌, take, Bool, Option, Some, None, length, IsTrue, IfOk, OnOk, OnErr, IsErr};
 ghost use Rattle.rb_edge.specs.Faults.{Rose};
-ghost use Rattle.rb_edge.specs.History.{Reading, begun, missed, broken, on_last, after_read};
+ghost use Rattle.rb_edge.specs.History.{Reading, fresh_reading, missed, broken, on_last, after_read};
 ghost use Rattle.rb_edge.specs.Source.{HoldsTheSame, GivesBytes, FailsToOpen};
 
 use thiserror::Error;
@@ -41,7 +41,7 @@ pub trait Source {
         ensures same { HoldsTheSame tells held self.old self.new }
         ensures later { faults self.old ≤ faults self.new }
 
-        ensures begun { OnOk result (readings self.new ≡ readings self.old ++ begun name.now ∷ []) }
+        ensures begun { OnOk result (readings self.new ≡ readings self.old ++ fresh_reading name.now ∷ []) }
         ensures missed { OnErr result (readings self.new
             ≡ readings self.old ++ missed name.now ∷ []) }
 

@@ -98,7 +98,7 @@ module _ (plan : Plan) (funs : List CodeFun) (lawful : IsLawful funs) (all : All
   -- a call with one call less
   inside : (k : ℕ) → Related plan (call_within plan.program k) (enter funs k) → (clean : Bool) (g : ℕ) (f : Fun) (vs : List Value) (ws : List ℕ) (v : World) → slice_get plan.program.funs g ≡ Some f → IsGood v.memory
       → Reps plan v.memory clean (types_of f) vs ws
-      → Does plan v.switches (from (M.body_of funs g) (enter funs k) 0 (first_slots funs g ws) v) v.memory (Source.body_of plan.program (call_within plan.program k) (slice_get plan.program.funs g) g v.left vs)
+      → Does plan v.switches (from (M.body_of funs g) (enter funs k) 0 (first_slots funs g ws) v) v.memory (Source.body_outcome plan.program (call_within plan.program k) (slice_get plan.program.funs g) g v.left vs)
       (GivesValue plan clean f.result (from (M.body_of funs g) (enter funs k) 0 (first_slots funs g ws) v))
   inside k rel clean g f vs ws v is good reps =
       let c = all g f is in
@@ -107,8 +107,8 @@ module _ (plan : Plan) (funs : List CodeFun) (lawful : IsLawful funs) (all : All
       let out = λ (b : List Instr) (slots : ℕ). from b (enter funs k) 0 (ws ++ replicate (slots - length ws) 0) v in
       let same : out (M.body_of funs g) (slots_in (slice_get funs g)) ≡ out c.0.body c.0.slots = ap (λ (b : List Instr). out b (slots_in (slice_get funs g))) body ∙ ap (λ k'. out c.0.body k') (ap slots_in c.1) in
       let d = c.2.does (call_within plan.program k) (enter funs k) (from c.0.body (enter funs k)) law rel clean vs ws v good reps in
-      subst (λ o. Does plan v.switches (out (M.body_of funs g) (slots_in (slice_get funs g))) v.memory (Source.body_of plan.program (call_within plan.program k) o g v.left vs) (GivesValue plan clean f.result (out (M.body_of funs g) (slots_in (slice_get funs g))))) (sym is)
-      (subst (λ r. Does plan v.switches r v.memory (Source.body_of plan.program (call_within plan.program k) (Some f) g v.left vs) (GivesValue plan clean f.result r)) (sym same) d)
+      subst (λ o. Does plan v.switches (out (M.body_of funs g) (slots_in (slice_get funs g))) v.memory (Source.body_outcome plan.program (call_within plan.program k) o g v.left vs) (GivesValue plan clean f.result (out (M.body_of funs g) (slots_in (slice_get funs g))))) (sym is)
+      (subst (λ r. Does plan v.switches r v.memory (Source.body_outcome plan.program (call_within plan.program k) (Some f) g v.left vs) (GivesValue plan clean f.result r)) (sym same) d)
 
   at_depth : (k : ℕ) → Related plan (call_within plan.program k) (enter funs k) → (clean : Bool) (g : ℕ) (f : Fun) (vs : List Value) (ws : List ℕ) (w : World) → slice_get plan.program.funs g ≡ Some f → IsGood w.memory
       → Reps plan w.memory clean (types_of f) vs ws → (left : ℕ)

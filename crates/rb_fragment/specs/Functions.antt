@@ -3,7 +3,7 @@ use Rattle.std.specs.Prelude.{◌≡◌, ℕ, ◌+◌, ◌-◌, Bool, List, [], 
 use Rattle.rb_core.specs.declared.value.Value.{Value}
 use Rattle.rb_core.specs.declared.program.Param.{Param}
 use Rattle.rb_core.specs.declared.program.Fun.{Fun}
-use Rattle.rb_core.specs.Meaning.{Calls, body_of, call_of}
+use Rattle.rb_core.specs.Meaning.{Calls, body_outcome, call_of}
 use Rattle.rb_bytes.specs.Memory.{Memory, IsGood}
 use Rattle.rb_target.specs.declared.code.CodeFun.{CodeFun}
 use Rattle.rb_target.specs.Laws.{Law}
@@ -48,7 +48,7 @@ pub record Compiles (plan : Plan) (g : ℕ) (f : Fun) (q : CodeFun) : Type 0 whe
       → (clean : Bool) (vs : List Value) (ws : List ℕ) (w : World) → IsGood w.memory
       → Reps plan w.memory clean (types_of f) vs ws
       → Does plan w.switches (next 0 (ws ++ replicate (q.slots - length ws) 0) w) w.memory
-      (body_of plan.program calls (Some f) g w.left vs)
+      (body_outcome plan.program calls (Some f) g w.left vs)
       (GivesValue plan clean f.result (next 0 (ws ++ replicate (q.slots - length ws) 0) w))
 
 -- each function of the program has code with its number that does what it does

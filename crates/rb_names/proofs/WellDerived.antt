@@ -18,7 +18,7 @@ use Rattle.rb_core.specs.declared.layout_decl.PartKind.{PartKind}
 use Rattle.rb_core.specs.declared.layout_decl.PartKind.TheVariants as K
 use Rattle.rb_core.specs.declared.layout_decl.LayTree.TheVariants as S
 use Rattle.rb_core.specs.Layouts as lay
-use Rattle.rb_core.specs.Layouts.{WrittenLeaf, leaves, provenances, is_short, written, written_path, leaf_is_short, is_short_layout}
+use Rattle.rb_core.specs.Layouts.{WrittenLeaf, leaves, provenances, is_short, counts_in, written_path, leaf_is_short, is_short_layout}
 use Rattle.rb_core.specs.Values.{fields_in, fields_of_con}
 use Rattle.rb_core.specs.WellNumbered.{IsWellNumbered, below_step, is_constructor, layout_is_numbered, may_be_below, numbered_pattern_step, Below, provenance_is_numbered}
 use Rattle.rb_core.proofs.PatternLaws.{fold-Wild}
@@ -49,14 +49,14 @@ most = 600
 small : most < 2 ^ 32
 small = omega arith
 
-record Few (n : ℕ) (c : lay.Written) : Type 0 where
+record Few (n : ℕ) (c : lay.ItemCounts) : Type 0 where
   few : counted c ≤ n
   short : c.short ≡ true
 
-few-as : (n : ℕ) (c d : lay.Written) → c ≡ d → Few n d → Few n c
+few-as : (n : ℕ) (c d : lay.ItemCounts) → c ≡ d → Few n d → Few n c
 few-as n c d e f = subst (Few n) (sym e) f
 
-module _ {A : Type 0} (f : A → lay.Written) (n : ℕ) where
+module _ {A : Type 0} (f : A → lay.ItemCounts) (n : ℕ) where
   sum-few : (xs : List A) → Each (λ x. Few n (f x)) xs → sum_by (λ x. counted (f x)) xs ≤ n * length xs
   sum-few [] h = omega arith
   sum-few (x ∷ xs) h = let one = h.0.few in omega (arith, sum-few xs h.1, one, sum_by-cons (λ x. counted (f x)) x xs)
@@ -72,11 +72,11 @@ part-few o l n kind f =
     few-as (n + 1) _ _ (counted-part (part o l kind)) (record { few = (let h = f.few in omega (arith, h)); short = f.short })
 
 word-few : (width n : ℕ) (parts : List PartDecl) → length parts ≤ most → Each (λ p. (part_counted p).short ≡ true) parts → sum_by (λ p. counted (part_counted p)) parts ≤ n
-    → Few (n + 1) (written (I.Word width parts))
+    → Few (n + 1) (counts_in (I.Word width parts))
 word-few width n parts long good h =
     few-as (n + 1) _ _ (counted-Word width parts) (record { few = omega (arith, counted-all part_counted parts, h); short = short-round most small 1 0 part_counted parts long good })
 
-one-part : (l n : ℕ) (kind : PartKind) → Few n (kind_counted kind) → Few (n + 1 + 1) (written (whole_word l kind))
+one-part : (l n : ℕ) (kind : PartKind) → Few n (kind_counted kind) → Few (n + 1 + 1) (counts_in (whole_word l kind))
 one-part l n kind f =
     let p = part-few 0 l n kind f in
     let few = p.few in
@@ -91,42 +91,42 @@ content-few w = by w.word
 
 -- Blocks -----------------------------------------------------------------------------------------
 
-pointer-few : (align n : ℕ) (items : List LayItem) → length items ≤ most → Each (λ i. (written i).short ≡ true) items → sum_by (λ i. counted (written i)) items ≤ n
+pointer-few : (align n : ℕ) (items : List LayItem) → length items ≤ most → Each (λ i. (counts_in i).short ≡ true) items → sum_by (λ i. counted (counts_in i)) items ≤ n
     → Few n (kind_counted (K.Pointer align items))
 pointer-few align n items long good h =
-    few-as n _ _ (counted-Pointer align items) (record { few = omega (arith, counted-all written items, h); short = short-round most small 0 0 written items long good })
+    few-as n _ _ (counted-Pointer align items) (record { few = omega (arith, counted-all counts_in items, h); short = short-round most small 0 0 counts_in items long good })
 
-fields-few : (ws : List FieldWord) → Each (λ i. Few 2 (written i)) (map field_item ws)
+fields-few : (ws : List FieldWord) → Each (λ i. Few 2 (counts_in i)) (map field_item ws)
 fields-few [] = tt
 fields-few (w ∷ ws) = (one-part w.width 0 (content w) (content-few w), fields-few ws)
 
 -- the items of a block
 record IsBlock (n : ℕ) (items : List LayItem) : Type 0 where
   long : length items ≤ 64
-  few : sum_by (λ i. counted (written i)) items ≤ n
-  good : Each (λ i. (written i).short ≡ true) items
+  few : sum_by (λ i. counted (counts_in i)) items ≤ n
+  good : Each (λ i. (counts_in i).short ≡ true) items
 
 fields-block : (ws : List FieldWord) → length ws ≤ 64 → IsBlock 128 (map field_item ws)
 fields-block ws le =
     let same : length (map field_item ws) ≡ length ws = length-of-map field_item ws in
-    let sum = sum-few written 2 (map field_item ws) (fields-few ws) in
-    record { long = omega (arith, same, le); few = omega (arith, sum, same, le); good = each-short written 2 (map field_item ws) (fields-few ws) }
+    let sum = sum-few counts_in 2 (map field_item ws) (fields-few ws) in
+    record { long = omega (arith, same, le); few = omega (arith, sum, same, le); good = each-short counts_in 2 (map field_item ws) (fields-few ws) }
 
-group-few : (g : List FieldWord) → length g ≤ 64 → Few 130 (written (group_item g))
+group-few : (g : List FieldWord) → length g ≤ 64 → Few 130 (counts_in (group_item g))
 group-few g le =
     let b = fields-block g le in
     let long = b.long in
     one-part 64 128 (K.Pointer 8 (map field_item g)) (pointer-few 8 128 (map field_item g) (omega (arith, long)) b.good b.few)
 
-groups-few : (gs : List (List FieldWord)) → flat.Each IsGroup gs → Each (λ i. Few 130 (written i)) (map group_item gs)
+groups-few : (gs : List (List FieldWord)) → flat.Each IsGroup gs → Each (λ i. Few 130 (counts_in i)) (map group_item gs)
 groups-few [] h = tt
 groups-few (g ∷ gs) h = (group-few g h.0.1, groups-few gs h.1)
 
 groups-block : (gs : List (List FieldWord)) → flat.Each IsGroup gs → length gs ≤ 4 → IsBlock 520 (map group_item gs)
 groups-block gs h le =
     let same : length (map group_item gs) ≡ length gs = length-of-map group_item gs in
-    let sum = sum-few written 130 (map group_item gs) (groups-few gs h) in
-    record { long = omega (arith, same, le); few = omega (arith, sum, same, le); good = each-short written 130 (map group_item gs) (groups-few gs h) }
+    let sum = sum-few counts_in 130 (map group_item gs) (groups-few gs h) in
+    record { long = omega (arith, same, le); few = omega (arith, sum, same, le); good = each-short counts_in 130 (map group_item gs) (groups-few gs h) }
 
 block-few : (ws : List FieldWord) → length ws ≤ 256 → IsBlock 520 (block_items ws)
 block-few ws le = by (nat_le (length ws) 64) refl
@@ -202,7 +202,7 @@ leaf-short form k ws le =
     let long = are.long in
     let word = word-few (form_width form) 522 (form_parts form k ws) (omega (arith, long)) are.good are.few in
     let few = word.few in
-    few-short most small (leaf_items form k ws) (omega arith) (omega (arith, few, sum_by-cons (λ (i : LayItem). counted (written i)) (I.Word (form_width form) (form_parts form k ws)) []))
+    few-short most small (leaf_items form k ws) (omega arith) (omega (arith, few, sum_by-cons (λ (i : LayItem). counted (counts_in i)) (I.Word (form_width form) (form_parts form k ws)) []))
     (word.short, tt)
 
 -- Provenances ------------------------------------------------------------------------------------

@@ -12,7 +12,7 @@ use Rattle.rb_core.specs.declared.layout_decl.LayItem.TheViews as V
 use Rattle.rb_core.specs.declared.layout_decl.LayItem.TheOpen as item
 use Rattle.rb_core.specs.declared.layout_decl.LayItem.TheFolds.{fold-PartKind, fold-PartDecl, fold-roll-LayItem, fold-roll-PartKind, fold_out-PartDecl}
 use Rattle.rb_core.specs.Layouts as lay
-use Rattle.rb_core.specs.Layouts.{is_short, written, written_round, written_path, kind_step, part_step, item_step, leaf_is_short}
+use Rattle.rb_core.specs.Layouts.{is_short, counts_in, written_round, written_path, kind_step, part_step, item_step, leaf_is_short}
 use Rattle.rb_syntax.specs.declared.token.Token.TheVariants as tok
 use Rattle.rb_syntax.specs.declared.token.Word.TheVariants as word
 use Rattle.rb_syntax.specs.declared.token.Symbol.TheVariants as symbol
@@ -28,55 +28,55 @@ use Rattle.rb_names.proofs.WellLists.{Each, each-passes, both, length-of-map, al
 use Rattle.rb_names.proofs.WellProvenances.{at_level-of, short-of}
 
 -- an item, a kind and a part as they are counted
-abbrev pub kind_counted : PartKind → lay.Written
-kind_counted = fold-PartKind lay.Written lay.Written lay.Written item_step kind_step part_step
+abbrev pub kind_counted : PartKind → lay.ItemCounts
+kind_counted = fold-PartKind lay.ItemCounts lay.ItemCounts lay.ItemCounts item_step kind_step part_step
 
-abbrev pub part_counted : PartDecl → lay.Written
-part_counted = fold-PartDecl lay.Written lay.Written lay.Written item_step kind_step part_step
+abbrev pub part_counted : PartDecl → lay.ItemCounts
+part_counted = fold-PartDecl lay.ItemCounts lay.ItemCounts lay.ItemCounts item_step kind_step part_step
 
-pub counted-Word : (bits : ℕ) (parts : List PartDecl) → written (I.Word bits parts) ≡ written_round 1 0 (map part_counted parts)
+pub counted-Word : (bits : ℕ) (parts : List PartDecl) → counts_in (I.Word bits parts) ≡ written_round 1 0 (map part_counted parts)
 unfolding I.roll-LayItem denote.Hole.Carrier.roll
-counted-Word bits parts = fold-roll-LayItem lay.Written lay.Written lay.Written item_step kind_step part_step (item.LayItem::Word bits parts)
+counted-Word bits parts = fold-roll-LayItem lay.ItemCounts lay.ItemCounts lay.ItemCounts item_step kind_step part_step (item.LayItem::Word bits parts)
 
-counted-Inline : (path : List ℕ) → written (I.Inline path) ≡ item_step (item.Inline path)
+counted-Inline : (path : List ℕ) → counts_in (I.Inline path) ≡ item_step (item.Inline path)
 unfolding I.roll-LayItem denote.Hole.Carrier.roll
-counted-Inline path = fold-roll-LayItem lay.Written lay.Written lay.Written item_step kind_step part_step (item.Inline path)
+counted-Inline path = fold-roll-LayItem lay.ItemCounts lay.ItemCounts lay.ItemCounts item_step kind_step part_step (item.Inline path)
 
 pub counted-part : (p : PartDecl) → part_counted p ≡ record { items = (kind_counted p.kind).items; parts = (kind_counted p.kind).parts + 1; short = (kind_counted p.kind).short }
-counted-part p = fold_out-PartDecl lay.Written lay.Written lay.Written item_step kind_step part_step p
+counted-part p = fold_out-PartDecl lay.ItemCounts lay.ItemCounts lay.ItemCounts item_step kind_step part_step p
 
 pub counted-Const : (c : ℕ) → kind_counted (K.Const c) ≡ written_path []
 unfolding V.roll-PartKind denote.Hole.Carrier.roll
-counted-Const c = fold-roll-PartKind lay.Written lay.Written lay.Written item_step kind_step part_step (item.Const c)
+counted-Const c = fold-roll-PartKind lay.ItemCounts lay.ItemCounts lay.ItemCounts item_step kind_step part_step (item.Const c)
 
 pub counted-Whole : (path : List ℕ) → kind_counted (K.Whole path) ≡ written_path path
 unfolding V.roll-PartKind denote.Hole.Carrier.roll
-counted-Whole path = fold-roll-PartKind lay.Written lay.Written lay.Written item_step kind_step part_step (item.Whole path)
+counted-Whole path = fold-roll-PartKind lay.ItemCounts lay.ItemCounts lay.ItemCounts item_step kind_step part_step (item.Whole path)
 
 counted-Slice : (path : List ℕ) (first bits : ℕ) → kind_counted (K.Slice path first bits) ≡ written_path path
 unfolding V.roll-PartKind denote.Hole.Carrier.roll
-counted-Slice path first bits = fold-roll-PartKind lay.Written lay.Written lay.Written item_step kind_step part_step (item.Slice path first bits)
+counted-Slice path first bits = fold-roll-PartKind lay.ItemCounts lay.ItemCounts lay.ItemCounts item_step kind_step part_step (item.Slice path first bits)
 
 pub counted-PartWord : (path : List ℕ) (j : ℕ) → kind_counted (K.Word path j) ≡ written_path path
 unfolding V.roll-PartKind denote.Hole.Carrier.roll
-counted-PartWord path j = fold-roll-PartKind lay.Written lay.Written lay.Written item_step kind_step part_step (item.PartKind::Word path j)
+counted-PartWord path j = fold-roll-PartKind lay.ItemCounts lay.ItemCounts lay.ItemCounts item_step kind_step part_step (item.PartKind::Word path j)
 
-pub counted-Pointer : (align : ℕ) (items : List LayItem) → kind_counted (K.Pointer align items) ≡ written_round 0 0 (map written items)
+pub counted-Pointer : (align : ℕ) (items : List LayItem) → kind_counted (K.Pointer align items) ≡ written_round 0 0 (map counts_in items)
 unfolding V.roll-PartKind denote.Hole.Carrier.roll
-counted-Pointer align items = fold-roll-PartKind lay.Written lay.Written lay.Written item_step kind_step part_step (item.Pointer align items)
+counted-Pointer align items = fold-roll-PartKind lay.ItemCounts lay.ItemCounts lay.ItemCounts item_step kind_step part_step (item.Pointer align items)
 
-abbrev pub counted : lay.Written → ℕ
+abbrev pub counted : lay.ItemCounts → ℕ
 counted c = c.items + c.parts
 
 -- items and parts in all
-pub counted-all : {A : Type 0} (f : A → lay.Written) (xs : List A)
-    → sum_by (λ (c : lay.Written). c.items) (map f xs) + sum_by (λ (c : lay.Written). c.parts) (map f xs) ≡ sum_by (λ x. counted (f x)) xs
+pub counted-all : {A : Type 0} (f : A → lay.ItemCounts) (xs : List A)
+    → sum_by (λ (c : lay.ItemCounts). c.items) (map f xs) + sum_by (λ (c : lay.ItemCounts). c.parts) (map f xs) ≡ sum_by (λ x. counted (f x)) xs
 counted-all f [] = refl
 counted-all f (x ∷ xs) = omega (
   arith,
   counted-all f xs,
-  sum_by-cons (λ (c : lay.Written). c.items) (f x) (map f xs),
-  sum_by-cons (λ (c : lay.Written). c.parts) (f x) (map f xs),
+  sum_by-cons (λ (c : lay.ItemCounts). c.items) (f x) (map f xs),
+  sum_by-cons (λ (c : lay.ItemCounts). c.parts) (f x) (map f xs),
   sum_by-cons (λ x. counted (f x)) x xs,
 )
 
@@ -85,12 +85,12 @@ same x = Ok x
 
 module _ (total : ℕ) (small : total < 2 ^ 32) where
   -- what is counted so behind these tokens, in these
-  record Counts (c : lay.Written) (ws rest : List Written) : Type 0 where
+  record Counts (c : lay.ItemCounts) (ws rest : List Written) : Type 0 where
     right : Right total rest
     count : counted c + length (tokens_in rest) ≤ length (tokens_in ws)
     short : c.short ≡ true
 
-  counts-as : (c d : lay.Written) (ws vs rest : List Written) → c ≡ d → ws ≡ vs → Counts d vs rest → Counts c ws rest
+  counts-as : (c d : lay.ItemCounts) (ws vs rest : List Written) → c ≡ d → ws ≡ vs → Counts d vs rest → Counts c ws rest
   counts-as c d ws vs rest e f k = rw (e, f) k
 
   -- Paths.
@@ -129,7 +129,7 @@ module _ (total : ℕ) (small : total < 2 ^ 32) where
   -- Items and kinds of parts.
 
   abbrev pub OfItem : LayItem → Type 0
-  OfItem i = (written i).short ≡ true
+  OfItem i = (counts_in i).short ≡ true
 
   abbrev OfPart : PartDecl → Type 0
   OfPart p = (part_counted p).short ≡ true
@@ -141,7 +141,7 @@ module _ (total : ℕ) (small : total < 2 ^ 32) where
   part_at l p rest = part_written p l rest
 
   abbrev ItemsOf : ℕ → LayItem → Type 0
-  ItemsOf l = Fine total LayItem LayItem same (λ i. counted (written i)) OfItem (item_at l)
+  ItemsOf l = Fine total LayItem LayItem same (λ i. counted (counts_in i)) OfItem (item_at l)
 
   abbrev PartsOf : ℕ → PartDecl → Type 0
   PartsOf l = Fine total PartDecl PartDecl same (λ p. counted (part_counted p)) OfPart (part_at l)
@@ -185,10 +185,10 @@ module _ (total : ℕ) (small : total < 2 ^ 32) where
   each-item l [] h = tt
   each-item l (i ∷ items) h = (h.0 l, each-item l items h.1)
 
-  pub short-round : {A : Type 0} (items parts : ℕ) (f : A → lay.Written) (xs : List A) → length xs ≤ total → Each (λ x. (f x).short ≡ true) xs
+  pub short-round : {A : Type 0} (items parts : ℕ) (f : A → lay.ItemCounts) (xs : List A) → length xs ≤ total → Each (λ x. (f x).short ≡ true) xs
       → (written_round items parts (map f xs)).short ≡ true
   short-round items parts f xs h g = both _ _ (short-of total small (map f xs) (omega (arith, h, length-of-map f xs)))
-      (each-passes f (λ (c : lay.Written). c.short) xs g)
+      (each-passes f (λ (c : lay.ItemCounts). c.short) xs g)
 
   kind-pointer : (align : ℕ) (items : List LayItem) → induction.Each ItemFine items → KindFine (K.Pointer align items)
   kind-pointer align items h l rest r =
@@ -198,13 +198,13 @@ module _ (total : ℕ) (small : total < 2 ^ 32) where
       kind-Pointer align items l rest ∙ ap (λ us. node l ∷ token (tok.Symbol symbol.Arrow) ∷ token (tok.Num align) ∷ token (tok.Symbol symbol.OpenBrace)
       ∷ any_with comma us close) (at_level-of lay_item_written (suc l) items) in
       let s = right-as total e r in
-      let a = are-any total LayItem LayItem same (λ i. counted (written i)) OfItem (item_at (suc l)) comma items (each-item (suc l) items h) close
+      let a = are-any total LayItem LayItem same (λ i. counted (counts_in i)) OfItem (item_at (suc l)) comma items (each-item (suc l) items h) close
       (off-token total _ _ (off-token total _ _ (off-token total _ _ (off-node total _ _ s)))) in
       let v = a.well items (all-ok items) in
       counts-as _ _ _ _ rest (counted-Pointer align items) e (record {
         right = off-token total _ _ a.right;
-        count = omega (arith, v.few, counted-all written items);
-        short = short-round 0 0 written items (omega (arith, a.count, s.fits)) v.good;
+        count = omega (arith, v.few, counted-all counts_in items);
+        short = short-round 0 0 counts_in items (omega (arith, a.count, s.fits)) v.good;
       })
 
   part-fine : (l : ℕ) (p : PartDecl) → KindFine p.kind → PartsOf l p
@@ -229,8 +229,8 @@ module _ (total : ℕ) (small : total < 2 ^ 32) where
       let a = are-any total PartDecl PartDecl same (λ p. counted (part_counted p)) OfPart (part_at l) comma parts (each-part l parts h) close
       (off-token total _ _ (off-token total _ _ (off-token total _ _ s))) in
       let v = a.well parts (all-ok parts) in
-      is-as total LayItem LayItem same (λ i. counted (written i)) OfItem (item_at l) (I.Word bits parts) rest vs e (off-token total _ _ a.right) (omega (arith, a.count))
-      (λ q f. subst (λ (x : LayItem). (counted (written x) + length (tokens_in rest) < length (tokens_in vs)) × OfItem x) (ok-is (I.Word bits parts) q f)
+      is-as total LayItem LayItem same (λ i. counted (counts_in i)) OfItem (item_at l) (I.Word bits parts) rest vs e (off-token total _ _ a.right) (omega (arith, a.count))
+      (λ q f. subst (λ (x : LayItem). (counted (counts_in x) + length (tokens_in rest) < length (tokens_in vs)) × OfItem x) (ok-is (I.Word bits parts) q f)
       (rw (counted-Word bits parts) (
         omega (arith, v.few, counted-all part_counted parts),
         short-round 1 0 part_counted parts (omega (arith, a.count, s.fits)) v.good,
@@ -241,8 +241,8 @@ module _ (total : ℕ) (small : total < 2 ^ 32) where
       let vs : List Written = token (tok.Reserved word.Inline) ∷ path_written path rest in
       let s : Right total vs = right-as total (item-Inline path l rest) r in
       let p = path-of path rest (off-token total _ _ s) in
-      is-as total LayItem LayItem same (λ i. counted (written i)) OfItem (item_at l) (I.Inline path) rest vs (item-Inline path l rest) p.right (omega (arith, p.count))
-      (λ q f. subst (λ (x : LayItem). (counted (written x) + length (tokens_in rest) < length (tokens_in vs)) × OfItem x) (ok-is (I.Inline path) q f)
+      is-as total LayItem LayItem same (λ i. counted (counts_in i)) OfItem (item_at l) (I.Inline path) rest vs (item-Inline path l rest) p.right (omega (arith, p.count))
+      (λ q f. subst (λ (x : LayItem). (counted (counts_in x) + length (tokens_in rest) < length (tokens_in vs)) × OfItem x) (ok-is (I.Inline path) q f)
       (rw (counted-Inline path) (omega (arith, p.count, p.some), p.short)))
 
   item-fine : (i : LayItem) → ItemFine i
@@ -270,16 +270,16 @@ module _ (total : ℕ) (small : total < 2 ^ 32) where
   below_limit n h = let k : n < 2 ^ 32 = omega (arith, h, small) in grind (arith, common_steps, k)
 
   -- items that come to so few with what stands in them
-  pub few-short : (items : List LayItem) → length items ≤ total → sum_by (λ i. counted (written i)) items ≤ total → Each OfItem items → leaf_is_short items ≡ true
+  pub few-short : (items : List LayItem) → length items ≤ total → sum_by (λ i. counted (counts_in i)) items ≤ total → Each OfItem items → leaf_is_short items ≡ true
   few-short items long few good =
-      both _ _ (short-round 0 0 written items long good)
-      (both _ _ (below_limit (0 + sum_by (λ (c : lay.Written). c.items) (map written items)) (omega (arith, few, counted-all written items)))
-      (below_limit (0 + sum_by (λ (c : lay.Written). c.parts) (map written items)) (omega (arith, few, counted-all written items))))
+      both _ _ (short-round 0 0 counts_in items long good)
+      (both _ _ (below_limit (0 + sum_by (λ (c : lay.ItemCounts). c.items) (map counts_in items)) (omega (arith, few, counted-all counts_in items)))
+      (below_limit (0 + sum_by (λ (c : lay.ItemCounts). c.parts) (map counts_in items)) (omega (arith, few, counted-all counts_in items))))
 
   pub leaf-well : (l : ℕ) (items : List LayItem) (rest : List Written) → Right total (some_with comma (map (item_at l) items) rest)
       → Leaf items (some_with comma (map (item_at l) items) rest) rest
   leaf-well l items rest r =
-      let a = are-some total LayItem LayItem same (λ i. counted (written i)) OfItem (item_at l) comma items (all-fine l items) rest r in
+      let a = are-some total LayItem LayItem same (λ i. counted (counts_in i)) OfItem (item_at l) comma items (all-fine l items) rest r in
       let v = a.1.well items (all-ok items) in record {
         right = a.1.right;
         count = omega (arith, a.0, a.1.count);

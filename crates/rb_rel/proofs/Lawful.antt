@@ -7,7 +7,7 @@ use Rattle.rb_core.specs.declared.pattern.Pat.TheOpen as P
 use Rattle.rb_core.specs.declared.pattern.Pat.TheOpen.{Pat-F}
 use Rattle.rb_core.specs.declared.pattern.Pat.TheFolds.{fold-Pat}
 use Rattle.rb_core.specs.Values.{are_of, fields_of}
-use Rattle.rb_core.specs.Typing.{holds}
+use Rattle.rb_core.specs.Typing.{type_holds}
 use Rattle.rb_core.specs.WellNumbered.{is_provenance}
 use Rattle.rb_core.specs.declared.types.DataDecl.{DataDecl}
 use Rattle.rb_layout.specs.declared.layout.Leaf.{Leaf}
@@ -41,7 +41,7 @@ is_named t (Named s) = s == t
 abbrev pub fits_step : List DataDecl → Pat-F (Ty → Bool) → Ty → Bool
 fits_step types (P.Wild at) ty = true
 fits_step types (P.Var at x) ty = true
-fits_step types (P.Num at n) ty = holds ty n
+fits_step types (P.Num at n) ty = type_holds ty n
 fits_step types (P.Con at c ps) ty = is_named c.ty ty && are_of ps (fields_of types c)
 
 -- a pattern is of a type

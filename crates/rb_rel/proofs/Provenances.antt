@@ -13,7 +13,7 @@ use Rattle.rb_core.specs.declared.pattern.Pat.{Pat, out-Pat, Wild, Var, Num, Con
 use Rattle.rb_core.specs.declared.pattern.Pat.TheVariants.{outs-Con}
 use Rattle.rb_core.specs.declared.typing.TypeFault.{TypeFault}
 use Rattle.rb_core.specs.declared.typing.TypeFault.TheVariants.{Mismatch, Arity}
-use Rattle.rb_core.specs.Typing.{Typing, and_then, same_type, holds, number_type, field_types, also_bound, subpatterns, fields_match, pattern_params, distinct_binders}
+use Rattle.rb_core.specs.Typing.{Typing, and_then, same_type, type_holds, number_type, field_types, also_bound, subpatterns, fields_match, pattern_params, distinct_binders}
 use Rattle.rb_core.specs.TypedPrograms.{first_fault, provenance_fault}
 use Rattle.rb_core.specs.Values.{all_of_types, are_of, fields_of}
 use Rattle.rb_core.specs.WellNumbered.{pattern_is_numbered, is_constructor, Below, below_step, is_provenance}
@@ -77,7 +77,7 @@ module _ (types : List DataDecl) where
   typed_fits = induction Fits (record {
     wild = λ at ty bs n e. ap (λ (f : Ty → Bool). f ty) (fold-Wild (Ty → Bool) (fits_step types) at);
     var = λ at x ty bs n e. ap (λ (f : Ty → Bool). f ty) (fold-Var (Ty → Bool) (fits_step types) at x);
-    num = λ at k ty bs n e. fits-Num types at k ty ∙ (chosen-ok (holds ty k) (Ok []) (Mismatch at ty (number_type k)) bs (sym (pattern-Num types at k ty) ∙ e)).0;
+    num = λ at k ty bs n e. fits-Num types at k ty ∙ (chosen-ok (type_holds ty k) (Ok []) (Mismatch at ty (number_type k)) bs (sym (pattern-Num types at k ty) ∙ e)).0;
     con = con_fits;
   })
 

@@ -12,7 +12,7 @@ use Rattle.rb_core.specs.declared.types.ConRef.{ConRef}
 use Rattle.rb_core.specs.declared.types.DataDecl.{DataDecl}
 use Rattle.rb_core.specs.declared.pattern.Pat.{Pat, Wild, Var, Con}
 use Rattle.rb_core.specs.Matching.{matches_of, is_con, is_number, all_pass}
-use Rattle.rb_core.specs.Typing.{holds}
+use Rattle.rb_core.specs.Typing.{type_holds}
 use Rattle.rb_core.specs.Values.{is_of_type, of_type_step, all_of_types, are_of, fields_of, fields_in, subs_in, sub_at, part_from}
 use Rattle.rb_core.proofs.PatternLaws.{Each, induction}
 use Rattle.rb_core.proofs.MatchingForms.{matches-Num, matches-Con}
@@ -88,7 +88,7 @@ module _ (types : List DataDecl) where
       type-out v ty ∙ layer_typed c ps each (out-Value v) v ty refl b.0 b.1 (sym (matches-Con v at c ps) ∙ mv)
       (λ k o e. s k o (ap (λ (os : List Open). slice_get os k) (opens-Con types at c ps ty) ∙ e))
 
-  num_typed : (n : ℕ) (x : Value-F Value) (ty : Ty) → holds ty n ≡ true → is_number n x ≡ true → L x ty ≡ true
+  num_typed : (n : ℕ) (x : Value-F Value) (ty : Ty) → type_holds ty n ≡ true → is_number n x ≡ true → L x ty ≡ true
   num_typed n (V.Con k vs) ty f m = absurd cc
   num_typed n (V.Num a) (Named t) f m = absurd cc
   num_typed n (V.Num a) (Int bits) f m = ap (λ k. nat_lt k (2 ^ bits)) (sym (same_nat n a m)) ∙ f

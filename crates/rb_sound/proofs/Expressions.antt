@@ -30,7 +30,7 @@ use Rattle.rb_core.specs.declared.expression.Expr.{Expr}
 use Rattle.rb_core.specs.declared.expression.Expr as X
 use Rattle.rb_core.specs.Values.{is_of_type, are_of, fields_of}
 use Rattle.rb_core.specs.Matching.{matches_of, bindings, chosen_clause, next_clause}
-use Rattle.rb_core.specs.Typing.{Typing, fits, holds, number, integer, variable_type, distinct_binders, field_types, pattern_params, pattern_binders, each_argument, arguments, param_types, result_type, operand_wanted, operator_type, integer_operand, operands, clauses, clause_rule, rule_of, type_of}
+use Rattle.rb_core.specs.Typing.{Typing, as_wanted, type_holds, number, integer, variable_type, distinct_binders, field_types, pattern_params, pattern_binders, each_argument, arguments, param_types, result_type, operand_wanted, operator_type, integer_operand, operands, clauses, clause_rule, rule_of, type_of}
 use Rattle.rb_core.specs.Inference.{width_of, with_binder, binders, operands_type, match_type, inferred_type, clause_inferred}
 use Rattle.rb_core.specs.Coverage.{SitedBranch, part_sites, branch_sites, sites, AreExhaustive}
 use Rattle.rb_core.specs.Meaning.{Meaning, Calls, op_value, done, spent, after, at_end, then_do, PartsOutcome, at_part, parts_after, all_of, at_parts_end, then_with, built, first_of, meaning_of, clause_meaning, with_value}
@@ -69,7 +69,7 @@ bit_fits true = refl
 bit_fits false = refl
 
 module _ (types : List DataDecl) where
-  number_is : (n : ℕ) (t : Ty) → holds t n ≡ true → IsOf types (Num n) t
+  number_is : (n : ℕ) (t : Ty) → type_holds t n ≡ true → IsOf types (Num n) t
   number_is n (Int bits) h = is_of_type-Num types n (Int bits) ∙ h
   number_is n (Named t) h = cc
 
@@ -155,7 +155,7 @@ module _ (types : List DataDecl) where
   snoc_types (w ∷ vs) [] v t h k = cc
   snoc_types (w ∷ vs) (u ∷ ts) v t h k = let hs = both (is_of_type types w u) _ h in and_true _ _ hs.0 (snoc_types vs ts v t hs.1 k)
 
-fits_found : (at : ℕ) (wanted : Option Ty) (found t : Ty) → fits at wanted found ≡ Ok t → found ≡ t
+fits_found : (at : ℕ) (wanted : Option Ty) (found t : Ty) → as_wanted at wanted found ≡ Ok t → found ≡ t
 fits_found at None found t e = ok-same e
 fits_found at (Some w) found t e = let c = chosen (Rattle.rb_core.specs.Typing.same_type w found) w t _ e in sym (same_type-is w found c.0) ∙ c.1
 
@@ -310,11 +310,11 @@ module _ (p : Program) (calls : Calls) (sound : (g n : ℕ) (vs : List Value) �
     where
       of_wanted : (o : Option Ty) → number at n o ≡ Ok t → IsOf p.types (Num n) t
       of_wanted None e = subst (λ u. IsOf p.types (Num n) u) (ok-same e) (is_of_type-Num p.types n (Int 64) ∙ sym (whole-Num p.types at n) ∙ whole)
-      of_wanted (Some w) e = let h = chosen (holds w n) w t _ e in subst (λ u. IsOf p.types (Num n) u) h.1 (number_is p.types n w h.0)
+      of_wanted (Some w) e = let h = chosen (type_holds w n) w t _ e in subst (λ u. IsOf p.types (Num n) u) h.1 (number_is p.types n w h.0)
 
   call_sound : (at g : ℕ) (es : List Expr) → Each Sound es → Sound (X.Call at g es)
   call_sound at g es each wanted scope left env t typed whole covered agree =
-      let h = came {A = Unit {0}} (arguments at (map (rule_of p.types p.funs) es) (param_types p.funs g) scope) (λ _. fits at wanted (result_type p.funs g)) t (sym (type-Call p.types p.funs at g es wanted scope) ∙ typed) in
+      let h = came {A = Unit {0}} (arguments at (map (rule_of p.types p.funs) es) (param_types p.funs g) scope) (λ _. as_wanted at wanted (result_type p.funs g)) t (sym (type-Call p.types p.funs at g es wanted scope) ∙ typed) in
       let args = constructed (length (map (rule_of p.types p.funs) es) == length (param_types p.funs g)) _ _ h.from h.first_is in
       same t (result_type p.funs g) _ _ (meaning-Call p calls f wanted scope left env at g es) (fits_found at wanted (result_type p.funs g) t h.then_is)
       (runs_with p.types (param_types p.funs g) (result_type p.funs g) _ _
@@ -324,7 +324,7 @@ module _ (p : Program) (calls : Calls) (sound : (g n : ℕ) (vs : List Value) �
 
   build_sound : (at : ℕ) (c : ConRef) (es : List Expr) → Each Sound es → Sound (X.Build at c es)
   build_sound at c es each wanted scope left env t typed whole covered agree =
-      let h = came {A = Unit {0}} (arguments at (map (rule_of p.types p.funs) es) (field_types p.types c) scope) (λ _. fits at wanted (Named c.ty)) t (sym (type-Build p.types p.funs at c es wanted scope) ∙ typed) in
+      let h = came {A = Unit {0}} (arguments at (map (rule_of p.types p.funs) es) (field_types p.types c) scope) (λ _. as_wanted at wanted (Named c.ty)) t (sym (type-Build p.types p.funs at c es wanted scope) ∙ typed) in
       let args = constructed (length (map (rule_of p.types p.funs) es) == length (field_types p.types c)) _ _ h.from h.first_is in
       let ws = both (is_some (fields_of p.types c)) _ (sym (whole-Build p.types at c es) ∙ whole) in
       same t (Named c.ty) _ _ (meaning-Build p calls f wanted scope left env at c es) (fits_found at wanted (Named c.ty) t h.then_is)
@@ -335,7 +335,7 @@ module _ (p : Program) (calls : Calls) (sound : (g n : ℕ) (vs : List Value) �
 
   binary_sound : (at : ℕ) (op : Op) (a b : Expr) → Sound a → Sound b → Sound (X.Binary at op a b)
   binary_sound at op a b ha hb wanted scope left env t typed whole covered agree =
-      let h = came (operands op (rule_of p.types p.funs a) (rule_of p.types p.funs b) wanted scope) (λ u. fits at wanted (operator_type op u)) t (sym (type-Binary p.types p.funs at op a b wanted scope) ∙ typed) in
+      let h = came (operands op (rule_of p.types p.funs a) (rule_of p.types p.funs b) wanted scope) (λ u. as_wanted at wanted (operator_type op u)) t (sym (type-Binary p.types p.funs at op a b wanted scope) ∙ typed) in
       let parts = operands_int p.types p.funs op a b wanted scope h.from h.first_is in
       let ws = both (is_whole p.types a) _ (sym (whole-Binary p.types at op a b) ∙ whole) in
       let cs = exhaustive-append p.types (sites p.types p.funs a scope) _ (subst (AreExhaustive p.types) (sites-Binary p.types p.funs at op a b scope) covered) in
@@ -350,7 +350,7 @@ module _ (p : Program) (calls : Calls) (sound : (g n : ℕ) (vs : List Value) �
 
   to_sound : (at bits : ℕ) (a : Expr) → Sound a → Sound (X.To at bits a)
   to_sound at bits a ha wanted scope left env t typed whole covered agree =
-      let h = came (integer_operand (rule_of p.types p.funs a) None scope) (λ _. fits at wanted (Int bits)) t (sym (type-To p.types p.funs at bits a wanted scope) ∙ typed) in
+      let h = came (integer_operand (rule_of p.types p.funs a) None scope) (λ _. as_wanted at wanted (Int bits)) t (sym (type-To p.types p.funs at bits a wanted scope) ∙ typed) in
       let found = came (type_of p.types p.funs a None scope) (integer (rule_of p.types p.funs a).at) h.from h.first_is in
       same t (Int bits) _ _ (meaning-To p calls f wanted scope left env at bits a) (fits_found at wanted (Int bits) t h.then_is)
       (runs_do p.types found.from (Int bits) _ _ (ha None scope left env found.from found.first_is (sym (whole-To p.types at bits a) ∙ whole) (subst (AreExhaustive p.types) (sites-To p.types p.funs at bits a scope) covered) agree)

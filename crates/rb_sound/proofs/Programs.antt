@@ -13,7 +13,7 @@ use Rattle.rb_core.specs.declared.program.Program.{Program}
 use Rattle.rb_core.specs.Typing.{Typing, and_then, binder_of, twice_at, repeated, distinct_binders, params_of, param_types, result_of, result_type, type_of}
 use Rattle.rb_core.specs.TypedPrograms.{IsTyped, first_fault, layout_fault, function_fault}
 use Rattle.rb_core.specs.Coverage.{AreExhaustive, function_sites, sites_of}
-use Rattle.rb_core.specs.Meaning.{Calls, body_of, call_within, call_of}
+use Rattle.rb_core.specs.Meaning.{Calls, body_outcome, call_within, call_of}
 use Rattle.rb_core.proofs.ValueLaws.{is_of_type-Num}
 use Rattle.rb_core.proofs.InferenceAgreement.{wanted-is_found}
 use Rattle.rb_sound.specs.Words.{HasWords}
@@ -63,7 +63,7 @@ module _ (p : Program) (typed : IsTyped p) (covered : AreExhaustive p.types (sit
       let same = wanted-is_found p.types p.funs f.body f.result h.from ok.0 h.then_is in
       ap (type_of p.types p.funs f.body (Some f.result)) (twice_are (repeated f.params) f.params h.from h.first_is) ∙ h.then_is ∙ ap (λ t. Ok t) (sym same)
 
-  body_sound : (calls : Calls) → AreSound calls → (o : Option Fun) (g left : ℕ) (vs : List Value) → slice_get p.funs g ≡ o → AreOfTypes p.types vs (map (λ q. q.ty) (params_of o)) → RunsAs p.types (result_of o) (body_of p calls o g left vs)
+  body_sound : (calls : Calls) → AreSound calls → (o : Option Fun) (g left : ℕ) (vs : List Value) → slice_get p.funs g ≡ o → AreOfTypes p.types vs (map (λ q. q.ty) (params_of o)) → RunsAs p.types (result_of o) (body_outcome p calls o g left vs)
   body_sound calls sound None g left vs is h = done_runs p.types (Int 64) (Num 0) left (is_of_type-Num p.types 0 (Int 64))
   body_sound calls sound (Some f) g left vs is h =
       typed_sound p calls sound g f.body (Some f.result) (map binder_of f.params) left _ f.result (body_typed g f is) (whole_bodies p typed.numbered words g f is) (covered_at p p.funs g f covered is) (arguments_agree p.types f.params vs h)

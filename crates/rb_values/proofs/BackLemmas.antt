@@ -14,7 +14,7 @@ use Rattle.rb_core.specs.declared.types.Ty.TheVariants.{Int, Named}
 use Rattle.rb_core.specs.declared.types.Con.{Con}
 use Rattle.rb_core.specs.declared.types.ConRef.{ConRef}
 use Rattle.rb_core.specs.declared.types.DataDecl.{DataDecl}
-use Rattle.rb_core.specs.Typing.{holds}
+use Rattle.rb_core.specs.Typing.{type_holds}
 use Rattle.rb_core.specs.Values.{fields_of_con, fields_in, all_of_types, are_of, is_of_type, node_count}
 use Rattle.rb_core.specs.WellNumbered.{is_distinct, is_upper, is_between, is_type, con_names, con_is_numbered, type_is_numbered}
 use Rattle.rb_core.proofs.ValueLaws.{Each, induction, is_of_type-Num, is_of_type-Con, fold-Num, fold-Con}
@@ -257,7 +257,7 @@ module _ (types : List DataDecl) where
   number-spelled : (n : ℕ) → Claim (Num n)
   number-spelled n (Int bits) known e at =
       let wide = both (nat_le 1 bits) (nat_le bits 64) known in
-      let held : holds (Int bits) n ≡ true = sym (is_of_type-Num types n (Int bits)) ∙ e in
+      let held : type_holds (Int bits) n ≡ true = sym (is_of_type-Num types n (Int bits)) ∙ e in
       let small : n < 2 ^ 64 = omega (arith, ltb-true n (2 ^ bits) held, pow_mono (leb-true bits 64 wide.1)) in
       record {
         term = number at n;

@@ -7,7 +7,7 @@ use Rattle.rb_core.specs.declared.types.Ty.{Ty}
 use Rattle.rb_core.specs.declared.types.Ty.TheVariants.{Int, Named}
 use Rattle.rb_core.specs.declared.types.ConRef.{ConRef}
 use Rattle.rb_core.specs.declared.types.DataDecl.{DataDecl}
-use Rattle.rb_core.specs.Typing.{holds}
+use Rattle.rb_core.specs.Typing.{type_holds}
 use Rattle.rb_core.specs.Values.{fields_of, all_of_types, are_of, is_of_type, node_count}
 use Rattle.rb_core.proofs.ValueLaws.{is_of_type-Num, is_of_type-Con, node_count-Num, node_count-Con}
 use Rattle.rb_values.specs.declared.fault.ValueFault.{ValueFault}
@@ -55,7 +55,7 @@ named-type types (Int bits) name c e = cc
 named-type types (Named t) name c e = in-type t name (slice_get types t) c e
 
 module _ (types : List DataDecl) where
-  of-integer : (n : ℕ) (ty : Ty) → holds ty n ≡ true → is_of_type types (Num n) ty ≡ true
+  of-integer : (n : ℕ) (ty : Ty) → type_holds ty n ≡ true → is_of_type types (Num n) ty ≡ true
   of-integer n (Int bits) h = is_of_type-Num types n (Int bits) ∙ h
   of-integer n (Named t) h = cc
 
@@ -87,7 +87,7 @@ module _ (types : List DataDecl) where
 
   mutual
     pub is-of_type : (t : Term) (ty : Ty) → misfits types t ty ≡ [] → is_of_type types (value_of types t ty) ty ≡ true
-    is-of_type (number at n) ty e = of-integer n ty (fits-one (holds ty n) at [] e).0
+    is-of_type (number at n) ty e = of-integer n ty (fits-one (type_holds ty n) at [] e).0
     is-of_type (build at name fields) ty e =
         let f = fits at name fields ty e in
         let vs : List Value = values_of types fields f.tys in

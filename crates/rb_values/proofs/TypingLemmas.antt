@@ -8,7 +8,7 @@ use Rattle.rb_core.specs.declared.value.Value as val
 use Rattle.rb_core.specs.declared.types.Ty.{Ty}
 use Rattle.rb_core.specs.declared.types.ConRef.{ConRef}
 use Rattle.rb_core.specs.declared.types.DataDecl.{DataDecl}
-use Rattle.rb_core.specs.Typing.{holds}
+use Rattle.rb_core.specs.Typing.{type_holds}
 use Rattle.rb_values.specs.declared.typing.Frame.{Frame}
 use Rattle.rb_values.specs.declared.sign.Sign.TheVariants as sign
 use Rattle.rb_values.specs.Terms.{Term, Terms, number, build, none, also, term_count}
@@ -188,7 +188,7 @@ module _ (types : List DataDecl) (root : Ty) where
       values_are = λ z. absurd (some-none p (sym e ∙ z));
     }
 
-    pub misfit : (at n : ℕ) (ty : Ty) → f ≡ None → Some ty ≡ expected types root os → holds ty n ≡ false → IsTypedAs types root (complete (number at n) os) fs nm (Some at) vs
+    pub misfit : (at n : ℕ) (ty : Ty) → f ≡ None → Some ty ≡ expected types root os → type_holds ty n ≡ false → IsTypedAs types root (complete (number at n) os) fs nm (Some at) vs
     misfit at n ty e t b = record {
       frames_are = h.frames_are;
       name_is = h.name_is;
@@ -196,7 +196,7 @@ module _ (types : List DataDecl) (root : Ty) where
       values_are = λ z. absurd (some-none at z);
     }
 
-    pub fit : (at n : ℕ) (ty : Ty) (new : List Value) → f ≡ None → Some ty ≡ expected types root os → holds ty n ≡ true → new ≡ vs ++ Num n ∷ []
+    pub fit : (at n : ℕ) (ty : Ty) (new : List Value) → f ≡ None → Some ty ≡ expected types root os → type_holds ty n ≡ true → new ≡ vs ++ Num n ∷ []
         → IsTypedAs types root (complete (number at n) os) fs nm f new
     fit at n ty new e t b g = record {
       frames_are = h.frames_are;

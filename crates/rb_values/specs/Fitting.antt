@@ -12,7 +12,7 @@ use Rattle.rb_core.specs.declared.types.Ty.TheVariants.{Int, Named}
 use Rattle.rb_core.specs.declared.types.Con.{Con}
 use Rattle.rb_core.specs.declared.types.ConRef.{ConRef}
 use Rattle.rb_core.specs.declared.types.DataDecl.{DataDecl}
-use Rattle.rb_core.specs.Typing.{holds}
+use Rattle.rb_core.specs.Typing.{type_holds}
 use Rattle.rb_core.specs.Values.{fields_of}
 use Rattle.rb_values.specs.Terms.{Term, Terms, number, build, none, also, term_count}
 
@@ -45,7 +45,7 @@ misfits_of at count each (Some tys) = if count == length tys then each tys else 
 -- integer type that holds it, and below a name that does not fit nothing is tried
 abbrev mutual
   pub misfits : List DataDecl → Term → Ty → List ℕ
-  misfits types (number at n) ty = if holds ty n then [] else at ∷ []
+  misfits types (number at n) ty = if type_holds ty n then [] else at ∷ []
   misfits types (build at name fields) ty =
       misfits_of at (term_count fields) (misfits_each types fields) (con_fields types (con_named types ty name))
 

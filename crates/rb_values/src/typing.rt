@@ -47,7 +47,7 @@ pub struct Typing {
 
 // Whether values of a type may be this number.
 fn holds(ty: Ty, n: u64) -> bool
-    ensures { result ≡ typing.holds ty n }
+    ensures { result ≡ typing.type_holds ty n }
 {
     match ty {
         Ty::Int(bits) => bits >= 64 || n < 1 << bits,

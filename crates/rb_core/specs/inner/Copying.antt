@@ -39,7 +39,7 @@ Enters v old new (Next first) =
 -- whole, which is v itself where the stack has no frame; or the value `next` is the one to copy next, the stack
 -- `new` with it is still the same whole, and it and what remains behind holes have no more nodes than what
 -- remained had
-abbrev pub Leaves : Value → List Frame → List Frame → Turn → Type 0
-Leaves v old new (Copied w) = w ≡ plugged old v
-Leaves v old new (Next next) =
+abbrev pub GoesUp : Value → List Frame → List Frame → Turn → Type 0
+GoesUp v old new (Copied w) = w ≡ plugged old v
+GoesUp v old new (Next next) =
     (plugged new next.now ≡ plugged old v) × (node_count next.now + remaining new ≤ remaining old)

@@ -43,8 +43,8 @@ pub record GivesParts (o : PartsOutcome) (old new : List Event) (end : PartsEnd)
 
 -- an expression, evaluated in a context c with the variables of a frame f, has this end, and makes the log
 -- `old` the log `new`, as its meaning has it
-abbrev pub EndsAs : Context → Frame → Expr → List Event → List Event → SourceEnd → Type 0
-EndsAs c f e old new end = (k : ℕ) → c.calls ≤ k
+abbrev pub EvaluatesTo : Context → Frame → Expr → List Event → List Event → SourceEnd → Type 0
+EvaluatesTo c f e old new end = (k : ℕ) → c.calls ≤ k
     → GivesOutcome (meaning_of c.program.now (call_within c.program.now k) f.fun e c.wanted f.scope c.calls f.values)
     old new end
 
