@@ -5,8 +5,8 @@ use Rattle.rb_core.specs.declared.program.Program.{Program}
 use Rattle.rb_core.specs.declared.expression.Expr.{Expr}
 use Rattle.rb_core.specs.declared.expression.Expr.TheOpen as E
 use Rattle.rb_core.specs.declared.expression.Expr.TheOpen.{Expr-F}
-use Rattle.rb_core.specs.declared.expression.Expr.TheFolds.{fold-Expr, fold-Clause}
-use Rattle.rb_core.specs.declared.expression.Clause.{Clause, Clause-F}
+use Rattle.rb_core.specs.declared.expression.Expr.TheFolds.{fold-Expr}
+use Rattle.rb_core.specs.declared.expression.Clause.{Clause-F}
 
 -- each of these truth values is true; it holds where there are none, too
 abbrev pub all_true : List Bool → Bool
@@ -24,17 +24,13 @@ words_step (E.To at bits a) = a
 words_step (E.Let at x t a b) = a && b
 words_step (E.Match at e cs) = e && all_true cs
 
--- one level of `clause_has_words`: its body is asked, and its pattern is not
+-- one level of a clause, in a match: its body is asked, and its pattern is not
 abbrev pub words_clause : Clause-F Bool Bool → Bool
 words_clause c = c.body
 
 -- each number in an expression, patterns apart, has at most 64 bits
 abbrev pub has_words : Expr → Bool
 has_words = fold-Expr Bool Bool words_step words_clause
-
--- each number in the body of a clause, patterns apart, has at most 64 bits
-abbrev pub clause_has_words : Clause → Bool
-clause_has_words = fold-Clause Bool Bool words_step words_clause
 
 -- each number in the body of a function, patterns apart, has at most 64 bits
 abbrev pub body_has_words : Fun → Bool

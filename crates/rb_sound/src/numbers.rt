@@ -1,7 +1,8 @@
 //! The numbers of a program that is held in memory, each of which is a `u64`.
 
 ghost use Rattle.std.specs.Prelude.{◌≡◌, ◌^◌, map, true, nat_lt};
-ghost use Rattle.rb_sound.specs.Words.{all_true, has_words, clause_has_words, body_has_words, HasWords};
+ghost use Rattle.rb_sound.specs.Words.{all_true, has_words, body_has_words, HasWords};
+ghost use Rattle.rb_sound.specs.inner.Words.{clause_has_words};
 
 use rb_core::expression::{Clause, Expr};
 use rb_core::program::{Fun, Program};

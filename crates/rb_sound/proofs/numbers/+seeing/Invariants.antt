@@ -1,5 +1,6 @@
 use Rattle.std.proofs.Common.{◌≡◌, drop, map}
-use Rattle.rb_sound.specs.Words.{all_true, has_words, clause_has_words}
+use Rattle.rb_sound.specs.Words.{all_true, has_words}
+use Rattle.rb_sound.specs.inner.Words.{clause_has_words}
 use Rattle.rb_sound.proofs.numbers.+seeing.Given as goal
 
 abbrev pub invariant-see_expressions-loop-expr : goal.invariant-see_expressions-loop-expr
