@@ -2,8 +2,8 @@
 //! What is read back is what was written here.
 
 use rb_edge::{
-    CountLedger, Failed, FileSource, Ledger, MemSink, MemSource, Name, NamedBytes, NoLedger,
-    SourceFault, Seq, Sink, Source, StdSink, Steps, Words, read_whole, write_whole,
+    CountLedger, Failed, FileSource, Ledger, MemSink, MemSource, Name, NamedBytes, NoLedger, Seq,
+    Sink, Source, SourceFault, StdSink, Steps, Words, read_whole, write_whole,
 };
 use std::alloc::{AllocError, Global};
 use std::io::Write;
