@@ -48,9 +48,9 @@ use Rattle.rb_fragment.proofs.Adding.{Adds-refl, Adds-trans}
 use Rattle.rb_fragment.proofs.Holds.{AllBelow-more, AreGiven-more, AreGiven-append, Holds-append, IsOfLocal-append, slots_at-kept}
 use Rattle.rb_fragment.proofs.Pieces.{piece_none}
 use Rattle.rb_fetch.specs.Finding.{IsPlanOf, leaf_count, leaves_within}
-use Rattle.rb_match.specs.Choosing.{Binds}
+use Rattle.rb_match.specs.Choosing.{Binds, BindsPattern}
 use Rattle.rb_match.specs.inner.Asking.{leaf_in}
-use Rattle.rb_match.specs.inner.Binding.{is_unbound, IsOnlyLeaf, BindsAt, BindsParts, FieldsMatch, BindsFields, FieldMatches, BindsField, fields_bound}
+use Rattle.rb_match.specs.inner.Binding.{is_unbound, IsOnlyLeaf, BindsParts, FieldsMatch, BindsFields, FieldMatches, BindsField, fields_bound}
 use Rattle.rb_match.proofs.Unbound.{unbound_binds}
 use Rattle.rb_match.proofs.Edges.{same-nat}
 
@@ -76,14 +76,14 @@ none_bound plan pat t words old scope bound = record {
 binders-at : (types : List DataDecl) (t : Ty) → (Ty → List Binder) → List Binder
 binders-at types t f = f t
 
-pub wild_binds : (agreed : LaidOut) (t : Ty) (at : ℕ) (words : List ℕ) (old : Sheet) → BindsAt agreed t (Wild at) words old old []
+pub wild_binds : (agreed : LaidOut) (t : Ty) (at : ℕ) (words : List ℕ) (old : Sheet) → BindsPattern agreed t (Wild at) words old old []
 wild_binds agreed t at words old = λ plan of all count. none_bound plan (Wild at) t words old (ap (λ (f : Ty → List Binder). f t) (fold-Wild (Ty → List Binder) (binders_step plan.program.types) at)) (λ v. bindings-Wild v at)
 
-pub num_binds : (agreed : LaidOut) (t : Ty) (at n : ℕ) (words : List ℕ) (old : Sheet) → BindsAt agreed t (Num at n) words old old []
+pub num_binds : (agreed : LaidOut) (t : Ty) (at n : ℕ) (words : List ℕ) (old : Sheet) → BindsPattern agreed t (Num at n) words old old []
 num_binds agreed t at n words old = λ plan of all count. none_bound plan (Num at n) t words old (ap (λ (f : Ty → List Binder). f t) (fold-Num (Ty → List Binder) (binders_step plan.program.types) at n)) (λ v. bindings-Num v at n)
 
 -- a variable has the value's own slots
-pub var_binds : (agreed : LaidOut) (t : Ty) (at x : ℕ) (words : List ℕ) (old : Sheet) → BindsAt agreed t (Var at x) words old old (record { var = x; ty = t; slots = words } ∷ [])
+pub var_binds : (agreed : LaidOut) (t : Ty) (at x : ℕ) (words : List ℕ) (old : Sheet) → BindsPattern agreed t (Var at x) words old old (record { var = x; ty = t; slots = words } ∷ [])
 var_binds agreed t at x words old = λ plan of all count. record {
   adds = Adds-refl plan old;
   scope = sym (ap (λ (f : Ty → List Binder). f t) (fold-Var (Ty → List Binder) (binders_step plan.program.types) at x));
@@ -94,7 +94,7 @@ var_binds agreed t at x words old = λ plan of all count. record {
 }
 
 -- a field without variables
-field_none : (agreed : LaidOut) (t leaf : ℕ) (words : List ℕ) (sub : Pat) (field : Ty) (i : ℕ) (old : Sheet) → BindsAt agreed field sub words old old [] → ((plan : Plan) → (binders plan.program.types sub field ≡ []) × ((v : Value) → bindings sub v ≡ []))
+field_none : (agreed : LaidOut) (t leaf : ℕ) (words : List ℕ) (sub : Pat) (field : Ty) (i : ℕ) (old : Sheet) → BindsPattern agreed field sub words old old [] → ((plan : Plan) → (binders plan.program.types sub field ≡ []) × ((v : Value) → bindings sub v ≡ []))
     → BindsField agreed t leaf words sub field i old old []
 field_none agreed t leaf words sub field i old b none = λ plan of all count.
     let n = none plan in
@@ -107,7 +107,7 @@ field_none agreed t leaf words sub field i old b none = λ plan of all count.
           nothing plan old (mend_at plan.layouts t leaf (i ∷ []) + binding_bound plan.program.types plan.layouts field sub) (λ s m. IsGood m × Rep plan m clean (Named t) v (slots_at s words)) (λ s m. Holds plan clean s m [] bs) (λ s m pre. subst (λ l. Holds plan clean s m [] l) (sym (parts.3 ∙ n.1 parts.0)) tt);
     }
 
-pub unbound_binds_at : (agreed : LaidOut) (t : Ty) (pat : Pat) (words : List ℕ) (old : Sheet) → is_unbound pat ≡ true → BindsAt agreed t pat words old old []
+pub unbound_binds_at : (agreed : LaidOut) (t : Ty) (pat : Pat) (words : List ℕ) (old : Sheet) → is_unbound pat ≡ true → BindsPattern agreed t pat words old old []
 unbound_binds_at agreed t pat words old none = λ plan of all count. let n = unbound_binds pat none in none_bound plan pat t words old (n.0 plan.program.types t) n.1
 
 pub field_unbound : (agreed : LaidOut) (t leaf : ℕ) (words : List ℕ) (sub : Pat) (field : Ty) (i : ℕ) (old : Sheet) → is_unbound sub ≡ true → BindsField agreed t leaf words sub field i old old []
@@ -115,7 +115,7 @@ field_unbound agreed t leaf words sub field i old none = let n = unbound_binds s
 
 -- a field that is fetched, and then bound
 pub field_binds : (agreed : LaidOut) (t leaf : ℕ) (words : List ℕ) (sub : Pat) (field : Ty) (i : ℕ) (old mid new : Sheet) (slots : List ℕ) (bound : List Local)
-    → FetchesPart agreed t leaf (i ∷ []) field words old mid slots → BindsAt agreed field sub slots mid new bound → BindsField agreed t leaf words sub field i old new bound
+    → FetchesPart agreed t leaf (i ∷ []) field words old mid slots → BindsPattern agreed field sub slots mid new bound → BindsField agreed t leaf words sub field i old new bound
 field_binds agreed t leaf words sub field i old mid new slots bound fetches binds = λ plan of all count.
     let g = fetches plan of all count in
     let b = binds plan of g.given g.count in
@@ -270,7 +270,7 @@ mends_in agreed agrees flat = λ plan of t.
 
 -- a constructor
 pub con_binds : (agreed : LaidOut) (t : Ty) (at : ℕ) (c : ConRef) (subs : List Pat) (leaf : ℕ) (words : List ℕ) (old new : Sheet) (bound : List Local) → MendsIn agreed → t ≡ Named c.ty → IsOnlyLeaf agreed c.ty (Con at c subs) leaf
-    → BindsFields agreed c.ty leaf words subs (field_types agreed.covered.program.types c) 0 old new bound → BindsAt agreed t (Con at c subs) words old new bound
+    → BindsFields agreed c.ty leaf words subs (field_types agreed.covered.program.types c) 0 old new bound → BindsPattern agreed t (Con at c subs) words old new bound
 con_binds agreed t at c subs leaf words old new bound mends named only fields = λ plan of all count.
     let types_is : field_types agreed.covered.program.types c ≡ field_types plan.program.types c = ap (λ (g : Rattle.rb_core.specs.declared.program.Program.Program). field_types g.types c) (sym of.program) in
     let f = fields plan of all (count ∙ ap (words_of plan) named) in

@@ -34,7 +34,8 @@ use Rattle.rb_match.specs.declared.knowledge.Known.{Known}
 use Rattle.rb_match.specs.declared.knowledge.Spot.{Spot}
 use Rattle.rb_match.specs.Bounding.{binding_bound, binding_look, choosing_look, is_plain}
 use Rattle.rb_match.specs.inner.Asking.{AreSpots}
-use Rattle.rb_match.specs.inner.Binding.{AreSeen, BindsAt, BindsSaved, BindsSpot, BindsSpots, FieldMatches, FieldsMatch, SavesTogether, fields_bound, is_unbound}
+use Rattle.rb_match.specs.Choosing.{BindsPattern}
+use Rattle.rb_match.specs.inner.Binding.{AreSeen, BindsSaved, BindsSpot, BindsSpots, FieldMatches, FieldsMatch, SavesTogether, fields_bound, is_unbound}
 use Rattle.rb_match.specs.inner.Knowing.{FollowsSaved, seen}
 use Rattle.rb_match.specs.inner.Saving.{Anything, GivesSpots, IsSpotAt, IsThere}
 use Rattle.rb_match.proofs.Unbound.{unbound_binds}
@@ -71,7 +72,7 @@ spot_unbound agreed spots known sub field i old none = let n = unbound_binds sub
 
 -- a field that is saved, bound from its spot
 pub spot_binds : (agreed : LaidOut) (spots : List Spot) (known : List Known) (sub : Pat) (field : Ty) (i k : ℕ) (spot : Spot) (old new : Sheet) (bound : List Local) → slice_get spots k ≡ Some spot → spot.position ≡ i ∷ [] → spot.ty ≡ field → FollowsSaved known k
-    → BindsAt agreed field sub spot.slots old new bound → BindsSpot agreed spots known sub field i old new bound
+    → BindsPattern agreed field sub spot.slots old new bound → BindsSpot agreed spots known sub field i old new bound
 spot_binds agreed spots known sub field i k spot old new bound at place of_type follows binds = λ plan n of are.
     let b = binds plan of (are.below k spot at) (are.count k spot at ∙ ap (words_of plan) of_type) in
     record {
@@ -96,10 +97,10 @@ spot_binds agreed spots known sub field i k spot old new bound at place of_type 
     }
 
 pub spot_found : (agreed : LaidOut) (spots : List Spot) (known : List Known) (sub : Pat) (field : Ty) (i k : ℕ) (spot d : Spot) (old new : Sheet) (bound : List Local) → IsSpotAt spots (i ∷ []) field k → spot ≡ get_or spots k d → FollowsSaved known k
-    → BindsAt agreed field sub (get_or spots k d).slots old new bound → BindsSpot agreed spots known sub field i old new bound
+    → BindsPattern agreed field sub (get_or spots k d).slots old new bound → BindsSpot agreed spots known sub field i old new bound
 spot_found agreed spots known sub field i k spot d old new bound (there, is, place, of) same follows binds =
     let e : there ≡ spot = item-is spots k there d is ∙ sym same in
-    spot_binds agreed spots known sub field i k spot old new bound (is ∙ ap Some e) (ap (λ (x : Spot). x.position) (sym e) ∙ place) (ap (λ (x : Spot). x.ty) (sym e) ∙ of) follows (subst (λ (x : Spot). BindsAt agreed field sub x.slots old new bound) (sym same) binds)
+    spot_binds agreed spots known sub field i k spot old new bound (is ∙ ap Some e) (ap (λ (x : Spot). x.position) (sym e) ∙ place) (ap (λ (x : Spot). x.ty) (sym e) ∙ of) follows (subst (λ (x : Spot). BindsPattern agreed field sub x.slots old new bound) (sym same) binds)
 
 pub spots_none : (agreed : LaidOut) (spots : List Spot) (known : List Known) (fields : List Ty) (i : ℕ) (old : Sheet) → BindsSpots agreed spots known [] fields i old old []
 spots_none agreed spots known fields i old = λ plan n of are. record {
@@ -164,7 +165,7 @@ deep_look plan t deep =
 
 -- a constructor with several leaves: spots for its fields, the ways of its leaves, and what they save is bound
 pub deep_binds : (agreed : LaidOut) (t : Ty) (token : ℕ) (c : ConRef) (subs : List Pat) (words : List ℕ) (spots : List Spot) (known : List Known) (old mid b new : Sheet) (bound : List Local) → is_plain agreed.layouts c.ty ≡ false → t ≡ Named c.ty
-    → GivesSpots agreed old mid spots → SavesTogether agreed c words spots known mid b → BindsSpots agreed spots known subs (field_types agreed.covered.program.types c) 0 b new bound → BindsAt agreed t (Con token c subs) words old new bound
+    → GivesSpots agreed old mid spots → SavesTogether agreed c words spots known mid b → BindsSpots agreed spots known subs (field_types agreed.covered.program.types c) 0 b new bound → BindsPattern agreed t (Con token c subs) words old new bound
 deep_binds agreed t token c subs words spots known old mid b new bound deep named gives saves binds = λ plan of all count.
     let types_is : field_types agreed.covered.program.types c ≡ field_types plan.program.types c = ap (λ (g : Rattle.rb_core.specs.declared.program.Program.Program). field_types g.types c) (sym of.program) in
     let g = gives plan of in

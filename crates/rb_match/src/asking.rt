@@ -20,7 +20,7 @@ ghost use Rattle.rb_match.specs.inner.Opening.{Asks};
 
 use crate::deep::ask_deep;
 use crate::knowledge::{Edge, Known, Subject, Test, copy_known, with_known};
-use crate::place::{is_looked_at, place_of};
+use crate::place::{is_looked_at, place_of_part};
 use crate::spots::{Whole, has_spot_below, is_within};
 use rb_core::pattern::Pat;
 use rb_core::seq::Seq;
@@ -506,7 +506,7 @@ pub fn ask<'a>(
 {
     let (words, spots) = (subject.words, subject.spots);
     let (known, position) = (test.known, test.position);
-    let place = place_of(alloc, agreed, graph.ty, words, spots, known, position)?;
+    let place = place_of_part(alloc, agreed, graph.ty, words, spots, known, position)?;
     let types = agreed.covered().program().types.as_slice();
     if !is_looked_at(types, graph.ty, graph.pats, position, place.ty) {
         return Err(AllocError);

@@ -13,7 +13,7 @@ ghost use Rattle.rb_core.specs.declared.types.Ty.TheVariants.{Named};
 ghost use Rattle.rb_target.specs.Growth.{Grows};
 ghost use Rattle.rb_fetch.specs.Finding.{leaf_count};
 ghost use Rattle.rb_match.specs.Choosing.{BindsPattern};
-ghost use Rattle.rb_match.specs.inner.Binding.{IsLeftOut, IsOnly, IsOnlyLeaf, BindsAt, BindsDeep, BindsFields, BindsField, BindsSpot, BindsSpots, SavesTogether};
+ghost use Rattle.rb_match.specs.inner.Binding.{IsLeftOut, IsOnly, IsOnlyLeaf, BindsDeep, BindsFields, BindsField, BindsSpot, BindsSpots, SavesTogether};
 ghost use Rattle.rb_match.specs.Bounding.{is_plain};
 ghost use Rattle.rb_match.specs.inner.Knowing.{FollowsSaved};
 ghost use Rattle.rb_match.specs.inner.Saving.{IsSpotAt};
@@ -108,7 +108,7 @@ fn bind_at(
     words: &[usize],
     pat: &Pat,
 ) -> Result<Seq<Local>, AllocError>
-    ensures binds { IfOk result (λ bound. BindsAt agreed.now ty pat.now words.now body.old body.new bound) }
+    ensures binds { IfOk result (λ bound. BindsPattern agreed.now ty pat.now words.now body.old body.new bound) }
     ensures grows { OnOk result (Grows body.old.code body.new.code) }
 {
     match pat {

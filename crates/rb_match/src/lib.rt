@@ -53,9 +53,9 @@
 //! ([`spots`]). The look finds the leaf; on the way of leaf 1 the field `.1` is taken and copied into its spot, and
 //! an open jump leads on ([`saving`]). Of leaf 0 nothing is saved: its edge is the look's own, and if several such
 //! leaves led on to one node, the look would not tell them apart.
-//! The edge of leaf 1 knows one fact more: that this spot holds its part. Where the edges
-//! of several leaves meet, what all of them saved is known, since the spots are the same; so
-//! [`place::place_of`] begins at the nearest saved part at or above a position, and reads fields from there downward.
+//! The edge of leaf 1 knows one fact more: that this spot holds its part. Where the edges of several leaves meet,
+//! what all of them saved is known, since the spots are the same; so [`place::place_of_part`] begins at the nearest
+//! saved part at or above a position, and reads fields from there downward.
 //!
 //! A look at such a type costs the switches that find its leaf and those that rebuild, which is half of what
 //! the bound allows a match at such a place. The other half is left to binding, which looks again where a

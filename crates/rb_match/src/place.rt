@@ -213,7 +213,7 @@ fn place_inside(
 ///
 /// Want of memory, or a part on the way to the position whose leaf is not known or has taken the
 /// next field apart.
-pub fn place_of(
+pub fn place_of_part(
     alloc: Global,
     agreed: &Agreed,
     ty: Ty,

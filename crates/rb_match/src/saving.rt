@@ -112,7 +112,7 @@ fn is_in(slots: &[usize], slot: usize) -> bool
 }
 
 // Whether two lists have no slot in common.
-fn are_apart(slots: &[usize], others: &[usize]) -> bool
+fn slots_are_apart(slots: &[usize], others: &[usize]) -> bool
     ensures { result ≡ true → SlotsAreApart slots.now others.now }
 {
     for slot in slots {
@@ -150,7 +150,7 @@ fn save_part(
     ensures grows { OnOk result (Grows body.old.code body.new.code) }
 {
     let into = spot.slots.as_slice();
-    if !are_apart(into, value.words) {
+    if !slots_are_apart(into, value.words) {
         return Err(AllocError);
     }
     let slots = fetch_part(alloc, body, agreed, value, path, spot.ty)?;

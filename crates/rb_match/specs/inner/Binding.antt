@@ -36,7 +36,7 @@ use Rattle.rb_fragment.specs.Plan.{Plan, Rep, words_of}
 use Rattle.rb_fragment.specs.Slots.{AllBelow, IsOneOf}
 use Rattle.rb_fetch.specs.Finding.{IsPlanOf, leaf_count}
 use Rattle.rb_matrix.specs.Apart.{PatternsAreApart}
-use Rattle.rb_match.specs.Choosing.{Binds}
+use Rattle.rb_match.specs.Choosing.{BindsPattern}
 use Rattle.rb_bytes.specs.Memory.{Memory}
 use Rattle.rb_core.specs.declared.types.ConRef.{ConRef}
 use Rattle.rb_core.specs.declared.value.Value.{out-Value}
@@ -76,12 +76,6 @@ unbound_step (P.Con at c bs) = all_unbound bs
 -- whether a pattern has no variable
 abbrev pub is_unbound : Pat → Bool
 is_unbound = fold-Pat Bool unbound_step
-
--- the appended code, run on the words of a value of type t that the pattern matches, binds the pattern's variables
-abbrev pub BindsAt : LaidOut → Ty → Pat → List ℕ → Sheet → Sheet → List Local → Type 0
-BindsAt agreed t pat words old new bound =
-    (plan : Plan) → IsPlanOf agreed plan → AllBelow old.slots words → length words ≡ words_of plan t
-    → Binds plan pat t words old new bound
 
 -- where the value has this leaf of data type t, the appended code leaves what some patterns bind in slots that are
 -- new or the value's own, with at most `most` switches; `Parts` says of a value which bindings are asked of the
@@ -183,7 +177,7 @@ BindsSpot agreed spots known sub field i old new bound =
 abbrev pub BindsDeep : LaidOut → Ty → ConRef → List ℕ → List Pat → List Ty → Sheet → Sheet → List Local → Type 0
 BindsDeep agreed t c words subs fields old new bound =
     (token : ℕ) → fields ≡ field_types agreed.covered.program.types c
-    → BindsAt agreed t (Con token c subs) words old new bound
+    → BindsPattern agreed t (Con token c subs) words old new bound
 
 -- Sizes: each part of a pattern weighs less than what it is part of ------------------------------
 

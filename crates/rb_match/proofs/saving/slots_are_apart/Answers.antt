@@ -3,7 +3,7 @@ use Rattle.std.proofs.lemmas.Option.{slice_get-get_or}
 use Rattle.rb_fragment.specs.Slots.{SlotsAreApart}
 use Rattle.rb_fragment.proofs.MakingAll.{take_all}
 use Rattle.rb_match.proofs.SavedParts.{apart_more}
-use Rattle.rb_match.proofs.saving.are_apart.Goals as goal
+use Rattle.rb_match.proofs.saving.slots_are_apart.Goals as goal
 
 pub loop-slot-preserved : goal.loop-slot-preserved
 loop-slot-preserved c =
