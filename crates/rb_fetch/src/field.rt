@@ -5,12 +5,12 @@
 //! is a data type by number, and `leaf` a leaf by its number in the layout of that type.
 
 ghost use Rattle.std.specs.Prelude.{◌≡◌, Some, IfOk, IfSome, OnOk, slice_get};
-ghost use Rattle.std.specs.Option.{option_copied};
 ghost use Rattle.rb_target.specs.Growth.{Grows};
 ghost use Rattle.rb_fetch.specs.Fields.{FetchesField, ReadsField};
 ghost use Rattle.rb_fetch.specs.inner.Fields as fields;
 ghost use Rattle.rb_fetch.specs.inner.Placing.{IsAgreedLeaf};
 
+use crate::heads::leaf_at;
 use crate::place::{Wanted, find_part};
 use crate::rebuild::{DEPTH, fetch_field_at};
 use crate::slice::int_read;
@@ -19,7 +19,7 @@ use rb_core::seq::Seq;
 use rb_core::types::Ty;
 use rb_fragment::reads::Read;
 use rb_layout::agreed::Agreed;
-use rb_layout::layout::{Layout, Leaf};
+use rb_layout::layout::Leaf;
 use rb_layout::positions::type_at;
 use rb_rel::words::word_count;
 use rb_target::body::Body;
@@ -59,16 +59,6 @@ pub fn field_reads(
             let reads = word_reads(alloc, leaf, field, path, words, count)?;
             Ok(reads)
         }
-    }
-}
-
-// The leaf with this number in a type's layout; None where there is none.
-fn leaf_at(layouts: &[Layout], ty: u32, leaf: usize) -> Option<&Leaf>
-    ensures { option_copied result ≡ fields.leaf_at layouts.now ty leaf }
-{
-    match layouts.get(ty as usize) {
-        None => None,
-        Some(layout) => layout.leaves.get(leaf),
     }
 }
 
