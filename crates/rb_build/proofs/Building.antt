@@ -20,8 +20,7 @@ use Rattle.rb_fragment.specs.Owing.{Does, Ends}
 use Rattle.rb_fragment.specs.Fragments.{Applies, Comes}
 use Rattle.rb_fragment.proofs.Laying.{event_fits, event_over}
 use Rattle.rb_fragment.proofs.Moves.{one-from}
-use Rattle.rb_fetch.specs.Choosing.{AreAsShown}
-use Rattle.rb_fetch.specs.Constructing.{Constructs, IsConstructed}
+use Rattle.rb_fetch.specs.Constructing.{AreAsShown, Constructs, IsConstructed}
 use Rattle.rb_build.specs.Building.{Builds}
 
 module _ (plan : Plan) (con : ConRef) (vs : List Value) (out : Run) (w : World) (Ok : Value → World → Type 0) (Same : World → Type 0) where

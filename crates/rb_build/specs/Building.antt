@@ -15,7 +15,7 @@ use Rattle.rb_fragment.specs.declared.held.Held.{Held}
 use Rattle.rb_fragment.specs.Plan.{Plan}
 use Rattle.rb_fragment.specs.Holding.{AllGiven, held_type}
 use Rattle.rb_fragment.specs.Fragments.{Applies}
-use Rattle.rb_fetch.specs.Choosing.{AreAsShown}
+use Rattle.rb_fetch.specs.Constructing.{AreAsShown}
 use Rattle.rb_fetch.specs.Finding.{IsPlanOf}
 
 -- In every plan of the agreed program, the code from old to new does what the source's construction by con does, over

@@ -27,7 +27,7 @@ use Rattle.rb_fragment.specs.Fragments.{AnyValues, Emits, EmitsAll, calling}
 use Rattle.rb_fragment.proofs.Arguments.{applied}
 use Rattle.rb_fragment.proofs.Calling.{call_applies}
 use Rattle.rb_fragment.proofs.Holds.{AreGiven-more}
-use Rattle.rb_fetch.specs.Choosing.{AreAsShown}
+use Rattle.rb_fetch.specs.Constructing.{AreAsShown}
 use Rattle.rb_fetch.specs.Finding.{IsPlanOf}
 use Rattle.rb_build.specs.Building.{Builds}
 use Rattle.rb_fetch.specs.Fetching.{PlanIsSound}

@@ -43,7 +43,7 @@ use Rattle.rb_fragment.specs.Owing.{Does, Ends}
 use Rattle.rb_fragment.specs.Plan.{Plan, Rep, cost_of}
 use Rattle.rb_fragment.specs.declared.held.Held.{Held}
 use Rattle.rb_fragment.specs.declared.held.Local.{Local}
-use Rattle.rb_fetch.specs.Choosing.{AreAsShown}
+use Rattle.rb_fetch.specs.Constructing.{AreAsShown}
 use Rattle.rb_compile.specs.inner.Shown.{shown_body, shown_of, shown_step}
 
 -- Values --------------------------------------------------------------------------------------------

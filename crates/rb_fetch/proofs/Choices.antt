@@ -40,7 +40,8 @@ use Rattle.rb_fetch.specs.declared.choice.Choices.{Choices}
 use Rattle.rb_fetch.specs.declared.choice.Way.{Way}
 use Rattle.rb_fetch.specs.declared.heads.Place.{Place}
 use Rattle.rb_fetch.specs.declared.known.Seen.{Seen}
-use Rattle.rb_fetch.specs.Choosing.{AreAsShown, ChoosesLeaf, TakesWay}
+use Rattle.rb_fetch.specs.Constructing.{AreAsShown}
+use Rattle.rb_fetch.specs.inner.Choice.{ChoosesLeaf, TakesWay}
 use Rattle.rb_fetch.specs.Finding.{IsPlanOf}
 use Rattle.rb_fetch.specs.inner.Choosing.{AreLeavesOf, AreOpen, ChoosesFrom, ChoosesWays, Follows, HasAll, HasParts, ChoiceIsReady, IsWayAt, PartsGiven, PartsHold, TakesOneWay, holes_from, left_of, parts_from, root_con}
 use Rattle.rb_fetch.specs.inner.Heads.{bare_paths, leaves_beside, leaves_for, shown_heads}

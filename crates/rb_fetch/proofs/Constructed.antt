@@ -15,7 +15,7 @@ use Rattle.rb_fragment.specs.declared.held.Held.{Held}
 use Rattle.rb_fragment.specs.Arms.{AreHoles, AreOfOneWay}
 use Rattle.rb_compose.specs.Making.{MakesLeaf}
 use Rattle.rb_fetch.specs.declared.choice.Choices.{Choices}
-use Rattle.rb_fetch.specs.Choosing.{ChoosesLeaf}
+use Rattle.rb_fetch.specs.inner.Choice.{ChoosesLeaf}
 use Rattle.rb_fetch.specs.Constructing.{Constructs, IsConstructed}
 use Rattle.rb_fetch.specs.inner.Choosing.{parts_from}
 use Rattle.rb_fetch.specs.inner.Constructing.{IsAlone, WaysMeet}

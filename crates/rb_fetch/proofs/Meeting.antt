@@ -54,8 +54,8 @@ use Rattle.rb_rel.specs.Switches.{choose_of}
 use Rattle.rb_fetch.specs.declared.choice.Choices.{Choices}
 use Rattle.rb_fetch.specs.declared.choice.Way.{Way}
 use Rattle.rb_fetch.specs.declared.construct.Met.{Met}
-use Rattle.rb_fetch.specs.Choosing.{AreAsShown, Chooses, IsWay}
-use Rattle.rb_fetch.specs.Constructing.{IsConstructed}
+use Rattle.rb_fetch.specs.inner.Choice.{Chooses, IsWay}
+use Rattle.rb_fetch.specs.Constructing.{AreAsShown, IsConstructed}
 use Rattle.rb_fetch.specs.inner.Constructing.{ArmIsMade, ArmsAreMade, EmitsArm, EmitsArms, IsMet, IsShared, WaysMeet, MakesArm, MakesNumber, Reaches, met_in, moved, moved_from, moved_to}
 
 -- What a run owes ----------------------------------------------------------------------------------

@@ -49,8 +49,7 @@ use Rattle.rb_fragment.proofs.Adding.{Adds-refl, Adds-trans}
 use Rattle.rb_fragment.proofs.Holds.{AllBelow-more, AllGiven-append, AllGiven-more, AreHeld-append, AreHeld-kept, slots_at-kept}
 use Rattle.rb_fragment.proofs.Moves.{one-from}
 use Rattle.rb_fragment.proofs.Pieces.{piece_frame, piece_none, piece_seq, piece_weaken}
-use Rattle.rb_fetch.specs.Choosing.{AreAsShown}
-use Rattle.rb_fetch.specs.Constructing.{Constructs, IsConstructed}
+use Rattle.rb_fetch.specs.Constructing.{AreAsShown, Constructs, IsConstructed}
 use Rattle.rb_fetch.specs.Fields.{FetchesField}
 use Rattle.rb_fetch.specs.Positions.{PositionAt, found_at, mend_under}
 use Rattle.rb_fetch.specs.inner.Fields.{leaf_at, leaf_within}

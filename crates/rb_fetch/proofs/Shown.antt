@@ -17,7 +17,7 @@ use Rattle.rb_layout.specs.Positions.{layout_of, leaf_of, root_type}
 use Rattle.rb_rel.specs.Switches.{Head, heads_below, heads_of, leaves_in}
 use Rattle.rb_rel.proofs.Lists.{and_true, get-append, get-map}
 use Rattle.rb_rel.proofs.Reading.{same_nat}
-use Rattle.rb_fetch.specs.Choosing.{AreAsShown}
+use Rattle.rb_fetch.specs.Constructing.{AreAsShown}
 use Rattle.rb_fetch.specs.inner.Choosing.{HasAll, HasCon, root_con}
 use Rattle.rb_fetch.specs.inner.Heads.{behind, head_behind, head_under, heads_behind, known_con, leaf_by, leaf_known, leaves_beside, leaves_for, sole}
 use Rattle.rb_fetch.proofs.Chosen.{begins, matched_leaf}

@@ -2,12 +2,13 @@
 -- what is shown of one is a pattern that it matches; a wildcard shows nothing. A representation is clean where all
 -- bits are 0 that stand in no part of a word. A plan has a program and its layouts, and a sheet is a function's code
 -- so far.
-use Rattle.std.specs.Prelude.{◌≡◌, ℕ, ◌+◌, ◌≤◌, List, map, length, Bool, Some}
+use Rattle.std.specs.Prelude.{◌≡◌, ℕ, ◌+◌, ◌≤◌, List, map, length, Bool, true, Some}
 use Rattle.rb_core.specs.declared.value.Value.{Value, Con}
 use Rattle.rb_core.specs.declared.types.Ty.{Ty}
 use Rattle.rb_core.specs.declared.types.Ty.TheVariants.{Named}
 use Rattle.rb_core.specs.declared.types.ConRef.{ConRef}
 use Rattle.rb_core.specs.declared.pattern.Pat.{Pat}
+use Rattle.rb_core.specs.Matching.{all_pass, matches_of}
 use Rattle.rb_core.specs.Values.{fields_of}
 use Rattle.rb_bytes.specs.Memory.{IsGood}
 use Rattle.rb_target.specs.declared.instr.Instr.{Instr}
@@ -23,8 +24,11 @@ use Rattle.rb_fragment.specs.Adding.{Adds}
 use Rattle.rb_fragment.specs.Holding.{AllGiven, AreHeld, held_type}
 use Rattle.rb_fragment.specs.Slots.{AllBelow, AllFrom}
 use Rattle.rb_compose.specs.Making.{MakesValue}
-use Rattle.rb_fetch.specs.Choosing.{AreAsShown}
 use Rattle.rb_fetch.specs.Finding.{IsPlanOf}
+
+-- each value matches the pattern that is shown of it, in their order, and there are as many of both
+abbrev pub AreAsShown : List Pat → List Value → Type 0
+AreAsShown shown vs = all_pass (map matches_of shown) vs ≡ true
 
 -- The code from old to new makes the value of constructor con from the arguments hs, and as cleanly as these are, in
 -- the slots of `held`, which are new: of arguments that match the patterns that are shown of them. It does at most as

@@ -5,4 +5,3 @@ pub mod Fields
 pub mod Constructing
 pub mod inner
 pub mod Pruning
-pub mod Choosing

@@ -5,5 +5,6 @@ pub mod Fields
 pub mod Rebuilding
 pub mod Heads
 pub mod Seen
+pub mod Choice
 pub mod Choosing
 pub mod Constructing

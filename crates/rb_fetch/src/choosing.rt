@@ -10,8 +10,8 @@
 ghost use Rattle.std.specs.Prelude.{◌≡◌, IfOk, OnOk, length, take};
 ghost use Rattle.rb_target.specs.Growth.{Grows};
 ghost use Rattle.rb_fragment.specs.Arms.{AreHoles, AreOfOneWay};
-ghost use Rattle.rb_fetch.specs.Choosing.{ChoosesLeaf};
 ghost use Rattle.rb_fetch.specs.Constructing.{Constructs};
+ghost use Rattle.rb_fetch.specs.inner.Choice.{ChoosesLeaf};
 ghost use Rattle.rb_fetch.specs.inner.Rebuilding.{FetchesPart, FetchesParts};
 ghost use Rattle.rb_fetch.specs.inner.Choosing.{AreOpen, BranchesDone, ChoosesBy, ChoosesFrom, ChoosesUnder, FetchesFields, IsEndOf, IsPartIn, holes_from};
 
@@ -122,9 +122,9 @@ fn holes_of(alloc: Global, ways: &[Way]) -> Result<Seq<Hole>, AllocError>
     Ok(holes)
 }
 
-/// What `choose_leaf` appends, where `depth` calls may be nested still: code that looks into the
-/// arguments `args`, which are in slots and match the patterns `shown`, until the leaf of the
-/// construction by `con` is known, and leaves by the hole of a way to that leaf.
+/// Code that looks into the arguments `args`, which are in slots and match the patterns `shown`,
+/// until the leaf of the construction by `con` is known, and leaves by the hole of a way to that
+/// leaf. `depth` calls may be nested still.
 ///
 /// # Errors
 ///

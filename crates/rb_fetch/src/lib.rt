@@ -59,8 +59,8 @@
 //! block; and no type is taken apart by one that it takes apart, so it ends.
 //!
 //! A construction has to know its leaf. For `Empty` there is one leaf, and its code stands alone. For
-//! `Node` and the colour in slot 0, the tree's two leaves differ at position 0, so [`choice::choose_leaf`] looks
-//! there, and each way out goes to the code of its leaf:
+//! `Node` and the colour in slot 0, the tree's two leaves differ at position 0, so the code looks there, and each
+//! way out goes to the code of its leaf (`choosing`):
 //!
 //! ```text
 //! 0  switch 0 - 0 1 1 2     the leaf of the colour
@@ -95,7 +95,7 @@
 //! a leaf in which its location does.
 #![tactic(auto)]
 
-pub mod choice;
+mod choice;
 mod choosing;
 pub mod construct;
 pub mod fetch;

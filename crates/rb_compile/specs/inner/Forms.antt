@@ -23,7 +23,7 @@ use Rattle.rb_fragment.specs.Plan.{Plan, words_of}
 use Rattle.rb_fragment.specs.Slots.{slots_from}
 use Rattle.rb_fragment.specs.Fragments.{Emits, EmitsAll}
 use Rattle.rb_fragment.specs.Holding.{AreGiven, scope_of}
-use Rattle.rb_fetch.specs.Choosing.{AreAsShown}
+use Rattle.rb_fetch.specs.Constructing.{AreAsShown}
 use Rattle.rb_compile.specs.inner.Ready.{ExprIsReady, AreReady}
 use Rattle.rb_compile.specs.inner.Shown.{shown_of}
 

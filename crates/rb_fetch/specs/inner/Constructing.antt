@@ -30,7 +30,7 @@ use Rattle.rb_compose.specs.Subvalues.{ArePartsHeld}
 use Rattle.rb_fetch.specs.declared.choice.Choices.{Choices}
 use Rattle.rb_fetch.specs.declared.choice.Way.{Way}
 use Rattle.rb_fetch.specs.declared.construct.Met.{Met}
-use Rattle.rb_fetch.specs.Choosing.{IsWay}
+use Rattle.rb_fetch.specs.inner.Choice.{IsWay}
 
 -- One leaf -------------------------------------------------------------------------------------
 

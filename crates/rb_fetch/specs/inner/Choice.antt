@@ -10,7 +10,6 @@ use Rattle.rb_core.specs.declared.types.Ty.{Ty}
 use Rattle.rb_core.specs.declared.types.Ty.TheVariants.{Named}
 use Rattle.rb_core.specs.declared.types.ConRef.{ConRef}
 use Rattle.rb_core.specs.declared.pattern.Pat.{Pat}
-use Rattle.rb_core.specs.Matching.{all_pass, matches_of}
 use Rattle.rb_core.specs.Values.{fields_of, is_of_type}
 use Rattle.rb_target.specs.Sheet.{Sheet}
 use Rattle.rb_layout.specs.declared.agreed.LaidOut.{LaidOut}
@@ -26,11 +25,8 @@ use Rattle.rb_fragment.specs.Plan.{Plan}
 use Rattle.rb_compose.specs.Subvalues.{AreGivenAt, ArePartsHeld}
 use Rattle.rb_fetch.specs.declared.choice.Choices.{Choices}
 use Rattle.rb_fetch.specs.declared.choice.Way.{Way}
+use Rattle.rb_fetch.specs.Constructing.{AreAsShown}
 use Rattle.rb_fetch.specs.Finding.{IsPlanOf}
-
--- each value matches the pattern that is shown of it, in their order, and there are as many of both
-abbrev pub AreAsShown : List Pat → List Value → Type 0
-AreAsShown shown vs = all_pass (map matches_of shown) vs ≡ true
 
 -- the way's leaf is one of the layout, and the way has a value at each open position of the leaf, in slots below n
 pub record IsWay (plan : Plan) (layout : Layout) (n : ℕ) (way : Way) : Type 0 where
