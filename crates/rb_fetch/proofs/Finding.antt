@@ -44,7 +44,8 @@ use Rattle.rb_fragment.specs.Pieces.{Leaves, Branches}
 use Rattle.rb_fragment.specs.WordReads.{AllFit}
 use Rattle.rb_fragment.proofs.MakingAll.{slots_fit, slots_meant}
 use Rattle.rb_fragment.proofs.Adding.{Adds-refl}
-use Rattle.rb_fetch.specs.Fetching.{StepsFit, LocFits, AreSmall}
+use Rattle.rb_fetch.specs.Fetching.{StepsFit, LocFits}
+use Rattle.rb_fetch.specs.inner.Fetching.{AreSmall}
 use Rattle.rb_fetch.specs.Finding.{HasLeafMeant, IsPlanOf, FindsLeaf, FindsLeafOf, leaves_within, leaf_count}
 use Rattle.rb_fetch.specs.inner.Looking.{TreeFits, LeavesBelow, IsLeafHole, Looks}
 use Rattle.rb_fetch.proofs.Fitting.{readable_leaf, resolved_fits, root_widths}

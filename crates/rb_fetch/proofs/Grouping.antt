@@ -27,7 +27,7 @@ use Rattle.rb_fragment.specs.WordReads.{AllFit}
 use Rattle.rb_fragment.proofs.MakingAll.{slots_fit, slots_meant}
 use Rattle.rb_fragment.proofs.Adding.{Adds-refl}
 use Rattle.rb_fragment.proofs.Pieces.{branches_weaken}
-use Rattle.rb_fetch.specs.Fetching.{AreSmall}
+use Rattle.rb_fetch.specs.inner.Fetching.{AreSmall}
 use Rattle.rb_fetch.specs.Finding.{HasGroupMeant, FindsGroup, FindsGroupOf, group_depth, group_depth_in}
 use Rattle.rb_fetch.specs.Pruning.{AreBelow, pruned_of, walk_in, nesting_in}
 use Rattle.rb_fetch.specs.inner.Looking.{TreeFits, Looks}

@@ -11,7 +11,7 @@ use Rattle.rb_target.proofs.Shapes.{patch_is}
 use Rattle.rb_layout.specs.declared.layout.FlatTree.{FlatTree, Split, Leaf}
 use Rattle.rb_layout.specs.declared.layout.FlatArm.{FlatArm}
 use Rattle.rb_fragment.specs.declared.reads.Read.{Read}
-use Rattle.rb_fetch.specs.Fetching.{FetchesAt}
+use Rattle.rb_fetch.specs.inner.Fetching.{FetchesAt}
 use Rattle.rb_fetch.specs.inner.Looking.{Looks, under_arm, under_at, switch_of, IsBefore, ArmsDone}
 use Rattle.rb_fetch.proofs.Looking.{hole_at, split_start, split_rename, split_hole, split_look, split_looks, arm_within}
 

@@ -27,7 +27,7 @@ use Rattle.rb_fragment.proofs.Patching.{patch_adds, patched_hole, hole_within}
 use Rattle.rb_fragment.specs.declared.reads.Read.{Read}
 use Rattle.rb_fragment.specs.Plan.{Plan}
 use Rattle.rb_fragment.specs.WordReads.{AreMeant, AllFit}
-use Rattle.rb_fetch.specs.Fetching.{FetchesAt}
+use Rattle.rb_fetch.specs.inner.Fetching.{FetchesAt}
 use Rattle.rb_fetch.specs.inner.Looking.{TreeFits, Does, IsLeafHole, AreBefore, Looks, open_arm, open_arms_of, under_arm, under_at, switch_of, SplitDone}
 use Rattle.rb_fetch.proofs.LeafNumbers.{leaf_below, under_below}
 use Rattle.rb_fetch.proofs.Trees.{AllSmall, literals, walk-Leaf, walked, nested, fit-under, fit-split}

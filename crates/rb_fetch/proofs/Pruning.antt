@@ -19,7 +19,8 @@ use Rattle.rb_rel.proofs.Counting as N
 use Rattle.rb_rel.proofs.Lists.{both, get-append}
 use Rattle.rb_target.proofs.Shapes.{next_arm, pick}
 use Rattle.rb_fetch.specs.Fetching.{LocFits}
-use Rattle.rb_fetch.specs.Pruning.{group_at, AreBelow, group_step, group_arm, group_of, is_group, lead_all, leads_else, agreed_group, shared_group, kept_of, joined_with, joined_of, keep_arm, live_arms, leaf_for, prune_step, prune_arm, pruned_of, pruned_under, walk_in, nesting_in, Prunes}
+use Rattle.rb_fetch.specs.Pruning.{group_at, AreBelow, group_step, group_arm, group_of, is_group, lead_all, leads_else, agreed_group, shared_group, kept_of, joined_with, joined_of, keep_arm, live_arms, leaf_for, prune_step, prune_arm, pruned_of, walk_in, nesting_in, Prunes}
+use Rattle.rb_fetch.specs.inner.Pruning.{pruned_under}
 use Rattle.rb_fetch.specs.inner.Looking.{SplitFits, TreeFits, LeavesBelow, under_arm, under_at}
 use Rattle.rb_fetch.proofs.LeafNumbers.{leaf_is_below, split_below}
 use Rattle.rb_fetch.proofs.Trees.{map_opt, literals, walk-Leaf, walk-Split, depth_under, nesting-is, nesting-arm, splits-Split, splits-arm, walk_opt, later, arms-is, Walked, walked, nested, fit-under, AllSmall, fit-split}

@@ -9,7 +9,7 @@ use Rattle.rb_layout.specs.declared.layout.FlatTree.{FlatTree}
 use Rattle.rb_layout.specs.declared.layout.FlatTree.TheVariants as Flat
 use Rattle.rb_layout.specs.declared.layout.FlatTree.TheOpen as T
 use Rattle.rb_layout.specs.declared.layout.FlatTree.TheOpen.{FlatTree-F}
-use Rattle.rb_layout.specs.declared.layout.FlatTree.TheFolds.{fold-FlatTree, fold-FlatArm}
+use Rattle.rb_layout.specs.declared.layout.FlatTree.TheFolds.{fold-FlatTree}
 use Rattle.rb_layout.specs.declared.layout.FlatArm.{FlatArm, FlatArm-F}
 use Rattle.rb_layout.specs.Splits.{Under}
 use Rattle.rb_rel.specs.Reading.{walk}
@@ -130,10 +130,6 @@ prune_arm arm = record { literal = arm.literal; of = arm.under }
 -- or one group is left; none where no leaf of the tree has a group
 abbrev pub pruned_of : List (Option ℕ) → FlatTree → Option FlatTree
 pruned_of groups = fold-FlatTree (Option FlatTree) (Under (Option FlatTree)) (prune_step groups) prune_arm
-
--- the literal of an arm, with what is left of the tree below it, as in `pruned_of`
-abbrev pub pruned_under : List (Option ℕ) → FlatArm → Under (Option FlatTree)
-pruned_under groups = fold-FlatArm (Option FlatTree) (Under (Option FlatTree)) (prune_step groups) prune_arm
 
 -- What it does ----------------------------------------------------------------------------------
 

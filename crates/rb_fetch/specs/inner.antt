@@ -5,6 +5,8 @@ pub mod Fields
 pub mod Rebuilding
 pub mod Heads
 pub mod Seen
+pub mod Fetching
+pub mod Pruning
 pub mod Choice
 pub mod Choosing
 pub mod Constructing

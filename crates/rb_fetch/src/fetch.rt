@@ -4,7 +4,8 @@
 
 ghost use Rattle.std.specs.Prelude.{◌≡◌, IfOk, OnOk, slice_get};
 ghost use Rattle.rb_target.specs.Growth.{Grows};
-ghost use Rattle.rb_fetch.specs.Fetching.{FetchesAt, FetchesBits, FetchesLoc};
+ghost use Rattle.rb_fetch.specs.Fetching.{FetchesBits, FetchesLoc};
+ghost use Rattle.rb_fetch.specs.inner.Fetching.{FetchesAt};
 
 use crate::span::{span_at, span_bits};
 use rb_core::layout_decl::Loc;

@@ -5,7 +5,8 @@
 //! tree has groups in place of leaves.
 
 ghost use Rattle.std.specs.Prelude.{◌≡◌, IfOk, map};
-ghost use Rattle.rb_fetch.specs.Pruning.{few_of, group_at, group_of, is_group, joined_of, kept_of, lead_all, leads_else, leaf_for, live_arms, pruned_of, pruned_under, Prunes, shared_group};
+ghost use Rattle.rb_fetch.specs.Pruning.{few_of, group_at, group_of, is_group, joined_of, kept_of, lead_all, leads_else, leaf_for, live_arms, pruned_of, Prunes, shared_group};
+ghost use Rattle.rb_fetch.specs.inner.Pruning.{pruned_under};
 
 use rb_core::boxed::Boxed;
 use rb_core::layout_decl::Loc;

@@ -29,7 +29,8 @@ use Rattle.rb_fragment.specs.Adding.{Adds}
 use Rattle.rb_fragment.specs.Arms.{AreOfOneWay}
 use Rattle.rb_fragment.specs.Pieces.{Leaves}
 use Rattle.rb_fragment.specs.WordReads.{AreMeant, AllFit}
-use Rattle.rb_fetch.specs.Fetching.{LocFits, AreSmall, FetchesAt}
+use Rattle.rb_fetch.specs.Fetching.{LocFits}
+use Rattle.rb_fetch.specs.inner.Fetching.{AreSmall, FetchesAt}
 
 -- Splits that instructions can do
 

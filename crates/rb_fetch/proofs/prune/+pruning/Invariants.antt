@@ -1,5 +1,6 @@
 use Rattle.std.proofs.Common.{◌≡◌, ◌++◌, drop, map}
-use Rattle.rb_fetch.specs.Pruning.{live_arms, pruned_under}
+use Rattle.rb_fetch.specs.Pruning.{live_arms}
+use Rattle.rb_fetch.specs.inner.Pruning.{pruned_under}
 use Rattle.rb_fetch.proofs.prune.+pruning.Given as goal
 
 abbrev pub invariant-prune_arms-loop-arm : goal.invariant-prune_arms-loop-arm
