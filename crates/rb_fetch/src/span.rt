@@ -4,7 +4,8 @@
 //! leads.
 
 ghost use Rattle.std.specs.Prelude.{◌≡◌, ◌+◌, ◌≤◌, true, IfOk, slice_get};
-ghost use Rattle.rb_fetch.specs.inner.Reads.{capped, is_all, IsSameRange, ReadsRange, read_or, reach, SpansLoc, span_on};
+ghost use Rattle.rb_compose.specs.inner.Code.{capped};
+ghost use Rattle.rb_fetch.specs.inner.Reads.{is_all, IsSameRange, ReadsRange, read_or, reach, SpansLoc, span_on};
 
 use rb_core::boxed::Boxed;
 use rb_core::layout_decl::{Loc, Step};

@@ -2,18 +2,15 @@
 -- each of its steps takes an address from the range before it and loads a word from there. A read is a number that
 -- code can make from slots and loads; a span is a range of bits of a read, with the most bits that the read can have,
 -- where that is known.
-use Rattle.std.specs.Prelude.{◌≡◌, ℕ, ◌^◌, ◌<◌, ◌==◌, ◌&&◌, if◌then◌else◌, min, Bool, true, false, List, [], ◌∷◌, Option, Some, None, slice_get}
+use Rattle.std.specs.Prelude.{◌≡◌, ℕ, ◌^◌, ◌<◌, ◌==◌, ◌&&◌, if◌then◌else◌, Bool, true, false, List, [], ◌∷◌, Option, Some, None, slice_get}
 use Rattle.rb_core.specs.declared.layout_decl.Loc.{Loc}
 use Rattle.rb_core.specs.declared.layout_decl.Step.{Step}
 use Rattle.rb_bits.specs.Words.{IsRange, take_of}
 use Rattle.rb_bytes.specs.Memory.{Memory}
 use Rattle.rb_fragment.specs.Reads.{mean, fits}
 use Rattle.rb_fragment.specs.declared.reads.Read.{Read, Slot, Number, Address, Loaded}
+use Rattle.rb_compose.specs.inner.Code.{capped}
 use Rattle.rb_fetch.specs.declared.span.Span.{Span}
-
--- n, or 64 where n is more: a number of bits that a word can have
-abbrev pub capped : ℕ → ℕ
-capped n = min n 64
 
 -- w has at most so many bits as the width says; any number where no width is given
 abbrev pub IsSmall : Option ℕ → ℕ → Type 0
