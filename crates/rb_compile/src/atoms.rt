@@ -8,7 +8,7 @@
 
 ghost use Rattle.std.specs.Prelude.{◌≡◌, ◌<◌, ◌^◌, ◌∷◌, [], None, IfOk, OnOk, unwrap_or, slice_get, slice_index};
 ghost use Rattle.rb_core.specs.declared.types.Ty.TheVariants.{Int};
-ghost use Rattle.rb_core.specs.Typing.{operand_wanted, operator_type};
+ghost use Rattle.rb_core.specs.Typing.{operator_type};
 ghost use Rattle.rb_target.specs.declared.instr.Instr.TheVariants.{Const};
 ghost use Rattle.rb_target.specs.Growth.{Grows};
 ghost use Rattle.rb_target.specs.Operators.{alu_op_of};
@@ -17,6 +17,7 @@ ghost use Rattle.rb_compile.specs.Plans.{plan_of};
 ghost use Rattle.rb_compile.specs.inner.Forms.{IsOne, VariableIs, alu_on, held_or, low_bits_of, new_held, stated_width};
 
 use rb_core::expression::Op;
+use rb_core::inference::type_of_operator;
 use rb_core::program::Fun;
 use rb_core::seq::Seq;
 use rb_core::types::Ty;
@@ -103,7 +104,7 @@ pub(crate) fn emit_operator(
     let left = first_slot(x.slots.as_slice());
     let right = first_slot(y.slots.as_slice());
     let slot = emit_alu(body, alu_op(op), width(ty), left, right)?;
-    let held = one_slot(alloc, result_type(op, ty), slot)?;
+    let held = one_slot(alloc, type_of_operator(op, ty), slot)?;
     Ok(held)
 }
 
@@ -147,34 +148,11 @@ pub(crate) fn emit_calling(
     })
 }
 
-// The type that is wanted of an operator's first operand, by what is wanted of the whole: None for
-// a comparison, and where no integer type is wanted.
-pub(crate) fn first_wanted(op: Op, wanted: Option<Ty>) -> Option<Ty>
-    ensures { result ≡ operand_wanted op wanted }
-{
-    match (op, wanted) {
-        (Op::Eq | Op::Lt, _) => None,
-        (_, Some(Ty::Int(bits))) => Some(Ty::Int(bits)),
-        (_, _) => None,
-    }
-}
-
 // The type that is wanted of argument number `i`, counted from 0; None where there is no such type.
 pub(crate) fn wanted_at(tys: &[Ty], i: usize) -> Option<Ty>
     ensures { result ≡ slice_get tys.now i }
 {
     tys.get(i).copied()
-}
-
-// The type of what an operator gives, from the type of its operands: a bit for a comparison, and
-// the same type for any other.
-fn result_type(op: Op, ty: Ty) -> Ty
-    ensures { result ≡ operator_type op ty }
-{
-    match op {
-        Op::Eq | Op::Lt => Ty::Int(1),
-        Op::Add | Op::Sub | Op::Mul | Op::And | Op::Or | Op::Xor => ty,
-    }
 }
 
 // The machine's operation for an operator.

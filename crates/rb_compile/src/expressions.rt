@@ -21,7 +21,7 @@ ghost use Rattle.rb_compile.specs.inner.Forms.{EmitsExpr, EmitsFirst};
 ghost use Rattle.rb_compile.specs.inner.Arms.{EmitsArm, EmitsArms, Reaches};
 
 use crate::atoms::{
-    emit_calling, emit_low_bits, emit_number, emit_operator, emit_variable, first_wanted, wanted_at,
+    emit_calling, emit_low_bits, emit_number, emit_operator, emit_variable, wanted_at,
 };
 use crate::matches::{Arms, extend, next_wanted, patterns};
 use crate::shown::shown_patterns;
@@ -29,6 +29,7 @@ use crate::signatures::{field_types, function_at, param_types};
 use crate::used::used_pattern;
 use rb_build::build::emit_build;
 use rb_core::expression::{Clause, Expr, Op};
+use rb_core::inference::wanted_of_operand;
 use rb_core::seq::Seq;
 use rb_core::types::{ConRef, Ty};
 use rb_core::typing::Binder;
@@ -115,7 +116,7 @@ fn emit_binary(
     ensures grows { OnOk result (Grows body.old.code body.new.code) }
     ensures locals { OnOk result (locals.new ≡ locals.old) }
 {
-    let first = first_wanted(op, wanted);
+    let first = wanted_of_operand(op, wanted);
     let x = emit_expr(alloc, agreed, body, locals, a, first)?;
     let ty = first.unwrap_or(x.ty);
     let y = emit_expr(alloc, agreed, body, locals, b, Some(ty))?;

@@ -53,10 +53,10 @@ emit_expr-returns-in_ok-held-in-Match-clause-emits t c = λ fun.
 
 pub emit_binary-returns-clause-emits : goal.emit_binary-returns-clause-emits
 emit_binary-returns-clause-emits t c = λ fun at.
-    let first = rw c.first_wanted-first.ensures at (c.in_ok-x.ensures.emits fun) in
-    let second = rw (c.in_ok-x.ensures.locals, c.unwrap_or-ty.ensures, c.first_wanted-first.ensures) at (c.in_ok-y.ensures.emits fun) in
+    let first = rw c.wanted_of_operand-first.ensures at (c.in_ok-x.ensures.emits fun) in
+    let second = rw (c.in_ok-x.ensures.locals, c.unwrap_or-ty.ensures, c.wanted_of_operand-first.ensures) at (c.in_ok-y.ensures.emits fun) in
     binary_expr (plan_of c.args.agreed.now) fun at c.args.op c.args.a.now c.args.b.now c.args.wanted c.args.locals.now c.args.body.now _ _ _ c.in_ok-x.x c.in_ok-y.y c.in_ok-held.held first second
-    (rw (c.unwrap_or-ty.ensures, c.first_wanted-first.ensures) at c.in_ok-held.ensures.is)
+    (rw (c.unwrap_or-ty.ensures, c.wanted_of_operand-first.ensures) at c.in_ok-held.ensures.is)
 
 pub emit_let-returns-clause-emits : goal.emit_let-returns-clause-emits
 emit_let-returns-clause-emits t c = λ fun at.
