@@ -128,7 +128,8 @@ fn prune_all(alloc: Global, marks: &Marks, pats: &[Pat]) -> Result<Seq<Pat>, All
     Ok(all)
 }
 
-// Adds the variables that a pattern binds to a list, from left to right.
+// Adds the variables that a pattern binds to a list, from left to right. No clause says which these
+// are: they serve only to choose of which variables marks tell.
 fn add_variables(pat: &Pat, vars: &mut Seq<u32>) -> Result<(), AllocError> {
     match pat {
         Pat::Wild(_) | Pat::Num(_, _) => Ok(()),
@@ -146,7 +147,8 @@ fn add_variables(pat: &Pat, vars: &mut Seq<u32>) -> Result<(), AllocError> {
 }
 
 // Marks for a pattern's variables, of which none is used: as many as these are, from the least on.
-// Those of one pattern are numbered in a row. Without variables the marks tell of none.
+// Those of one pattern are numbered in a row. Without variables the marks tell of none. No clause
+// says of which variables they tell: all others are taken as used, which costs code alone.
 fn no_marks(alloc: Global, pat: &Pat) -> Result<Marks, AllocError> {
     let mut vars = Seq::new(alloc);
     add_variables(pat, &mut vars)?;

@@ -200,7 +200,8 @@ fn ask_number<'a>(
 
 // Constructors ----------------------------------------------------------------------------------
 
-/// The provenance of a leaf of a data type; None where there is no such leaf.
+/// The provenance of a leaf of a data type; None where there is no such leaf. No clause says which
+/// pattern it is: who saves parts by it tests first that the leaf has each of them.
 pub fn prov_of<'a>(agreed: &'a Agreed, ty: u32, leaf: usize) -> Option<&'a Pat> {
     let layout = agreed.layouts().get(ty as usize)?;
     let leaf = layout.leaves.get(leaf)?;
@@ -270,7 +271,8 @@ pub fn leaf_link(
     Ok(link_of(arms, other, con))
 }
 
-// Whether one of the nodes to which a test leads, by an arm or for all other values, is marked.
+// Whether one of the nodes to which a test leads, by an arm or for all other values, is marked. No
+// clause says so: marks are guesses.
 fn some_marked(marks: &[bool], arms: &[GraphArm], other: Option<u32>) -> bool {
     if let Some(node) = other
         && let Some(true) = marks.get(node as usize)
@@ -282,7 +284,9 @@ fn some_marked(marks: &[bool], arms: &[GraphArm], other: Option<u32>) -> bool {
 }
 
 /// For each node whether a test below a position can be met from it on: such a test reads from the part there, so it
-/// needs the part's leaf. Links go to lower nodes.
+/// needs the part's leaf. Links go to lower nodes. No clause speaks of these marks, since they are a guess: where one
+/// is missing, the test below finds no leaf and is given up, as for want of memory; where there is one too many, leaves
+/// are told apart or parts saved in vain.
 ///
 /// # Errors
 ///

@@ -179,7 +179,8 @@ fn is_deep_at(agreed: &Agreed, ty: Ty, number: u32) -> bool
 }
 
 // The fields whose patterns have variables, each with its type and its position below the value:
-// its number alone.
+// its number alone. No clause says which these are: a field that has a variable and is not saved is
+// an error where the variable is bound.
 fn bound_fields(alloc: Global, subs: &[Pat], fields: &[Ty]) -> Result<Seq<Wanted>, AllocError> {
     let mut wanted = Seq::new(alloc);
     for (i, field) in fields.iter().enumerate() {

@@ -89,7 +89,8 @@ fn node_from<'a>(
 }
 
 // Whether parts below the one that was looked at are needed from a node on, as the marks `below`
-// say, one a node; always where there are no nodes.
+// say, one a node; always where there are no nodes. That is a guess, of which no clause speaks: a
+// test that needs a part which is not saved is given up, as for want of memory.
 fn saves_at(nodes: &[GraphNode], below: &[bool], node: usize) -> bool {
     nodes.is_empty() || matches!(below.get(node), Some(true))
 }
@@ -106,7 +107,8 @@ fn carried_onward<'a>(
     if saves { known } else { Seq::new(alloc) }
 }
 
-// The way of a leaf behind a look at a position; None where there is no such leaf.
+// The way of a leaf behind a look at a position; None where there is no such leaf. It serves to guess
+// which tests may be passed over, and no clause speaks of it.
 fn exit_of<'a>(agreed: &'a Agreed, ty: u32, leaf: usize, position: &'a [u32]) -> Option<Exit<'a>> {
     let prov = prov_of(agreed, ty, leaf)?;
     Some(Exit { position, prov })

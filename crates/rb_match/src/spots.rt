@@ -6,6 +6,11 @@
 //! Nodes are those of a decision graph, tests and clauses, by their numbers; links between them go
 //! to lower numbers. `pats` are the patterns of a match, `agreed` is the program with its layouts,
 //! and `body` the code so far, at whose end new code is appended.
+//!
+//! Which parts have spots, and which of them are saved, is a guess, and so are the marks of nodes by which it is made:
+//! no clause says which these are. Code that reads a part asks first where the part is known to be, and is given up,
+//! as for want of memory, where that is not known. So a wrong guess costs instructions, or the code, and never makes
+//! code that is wrong.
 
 ghost use Rattle.std.specs.Prelude.{◌≡◌, ◌++◌, ◌∷◌, [], IfOk, OnOk, true, false, nat_eq};
 ghost use Rattle.std.specs.List.{list_any, starts_with};
@@ -92,7 +97,7 @@ pub fn field_below(alloc: Global, position: &[u32], field: u32) -> Result<Seq<u3
     Ok(below)
 }
 
-// Adds a part to those that are to be saved, where it is not among them yet.
+// Adds a part to those that are to be saved, where it is not among them yet. What is saved is a guess.
 fn add_wanted(found: &mut Seq<Wanted>, position: Seq<u32>, ty: Ty) -> Result<(), AllocError> {
     for wanted in found.as_slice() {
         if wanted.ty == ty && same_position(wanted.position.as_slice(), position.as_slice()) {
@@ -105,7 +110,7 @@ fn add_wanted(found: &mut Seq<Wanted>, position: Seq<u32>, ty: Ty) -> Result<(),
 
 // Adds to `found` the parts below a pattern, which stands at a position, that are to be saved:
 // those at which it looks, or below which it does, directly below a part of a type with a leaf that
-// takes subvalues apart.
+// takes subvalues apart. What is saved is a guess.
 fn add_parts(
     alloc: Global,
     agreed: &Agreed,
@@ -139,7 +144,8 @@ fn add_parts(
 }
 
 // The parts at which some pattern looks, or below which one does, directly below a part of a type with
-// a leaf that takes subvalues apart.
+// a leaf that takes subvalues apart. That is a guess: where a test needs another part saved, its code
+// is given up, and a spot that no test needs is written to in vain.
 fn parts_to_save(alloc: Global, agreed: &Agreed, pats: &[Pat]) -> Result<Seq<Wanted>, AllocError> {
     let mut found = Seq::new(alloc);
     for pat in pats {
@@ -174,14 +180,15 @@ pub struct Whole<'a> {
     pub nodes: &'a [GraphNode],
 }
 
-/// Sets the mark at the index `place` of a list; nothing is set where the list is too short.
+/// Sets the mark at the index `place` of a list; nothing is set where the list is too short. Marks are
+/// guesses, of which no clause speaks.
 pub fn set_at(marks: &mut Seq<bool>, place: usize) {
     if place < marks.len() {
         marks.replace(place, true);
     }
 }
 
-/// A list of `count` marks, all of them `mark`.
+/// A list of `count` marks, all of them `mark`. Marks are guesses, of which no clause speaks.
 ///
 /// # Errors
 ///
@@ -194,9 +201,9 @@ pub fn marks(alloc: Global, count: usize, mark: bool) -> Result<Seq<bool>, Alloc
     Ok(all)
 }
 
-// Marks in `reached`, which has one mark a node, the nodes to which a test leads: by each of its
-// arms, and by `other` for all other values, if there is one. Those past the end of the list are
-// left out.
+// Marks in `reached` the nodes to which a test leads: by each of its arms, and by `other` for all
+// other values, if there is one. `reached` has marks of the nodes up to the one at which the search
+// begins; nodes past its end are left out. Marks are guesses, of which no clause speaks.
 fn mark_links(reached: &mut Seq<bool>, arms: &[GraphArm], other: Option<u32>) {
     for arm in arms {
         set_at(reached, arm.under as usize);
@@ -224,7 +231,8 @@ pub enum Needs<'a> {
 
 /// What the tests need that can be met from a node on, its own if it is one. Links go to lower
 /// numbers, so that no node above that one is met. Where there are no nodes, all is needed; where
-/// there is no such node, nothing.
+/// there is no such node, nothing. That is a guess: a test that needs more is given up, as for want of
+/// memory, when its own code is made.
 ///
 /// # Errors
 ///
@@ -254,6 +262,7 @@ pub fn needs_from<'a>(
 }
 
 /// Whether later tests need the part at a position, or one below it; so it is where all is needed.
+/// What is needed is a guess.
 pub fn is_needed(needs: &Needs, position: &[u32]) -> bool {
     match needs {
         Needs::All => true,
@@ -264,7 +273,8 @@ pub fn is_needed(needs: &Needs, position: &[u32]) -> bool {
     }
 }
 
-/// Whether a later test looks at the part at a position itself; so it is where all is needed.
+/// Whether a later test looks at the part at a position itself; so it is where all is needed. What is
+/// needed is a guess.
 pub fn is_tested(needs: &Needs, position: &[u32]) -> bool {
     match needs {
         Needs::All => true,
@@ -291,7 +301,8 @@ fn zeroes(alloc: Global, body: &mut Body, count: usize) -> Result<Seq<usize>, Al
     Ok(slots)
 }
 
-// An equal position.
+// An equal position. No clause says that it is: who takes a part from a spot compares the spot's own
+// position first.
 fn copy_position(alloc: Global, position: &[u32]) -> Result<Seq<u32>, AllocError> {
     let fields = Vec::from_slice(alloc, position)?;
     Ok(Seq::from_vec(fields))

@@ -13,6 +13,11 @@
 //! of the value there: the leaves of parts, and which spots, slots in which parts are saved, hold
 //! theirs. An exit is the way of a leaf out of the look that found it. Marks are one for each node.
 //! `agreed` is the program with its layouts.
+//!
+//! An edge may lead on to any of the nodes that it comes to over decided tests: that is proved of each. At which of
+//! them it ends is a guess, made by marks and by what exits open, of which no clause speaks. Where the guess is wrong,
+//! a test finds no leaf to read from and its code is given up, as for want of memory, or more tests are made than have
+//! to be.
 
 ghost use Rattle.std.specs.Prelude.{◌≡◌, IfOk, IfSome, OnOk, true};
 ghost use Rattle.rb_match.specs.inner.Threading.{AllFollow, Ascend, AreThreaded, AreWild, BeginsWith, Covers, HasSub, IsAtLeaf, IsDecided, IsFirst, IsLeafOfAll, IsThreaded, IsWild, LeadsOn, ShowTogether, Tells, TellTogether, Threads};
@@ -154,7 +159,7 @@ fn node_behind(
     }
 }
 
-// Whether a node is marked; one that the list does not have is not.
+// Whether a node is marked; one that the list does not have is not. Marks are guesses.
 fn is_marked(marks: &[bool], node: usize) -> bool {
     matches!(marks.get(node), Some(true))
 }
@@ -262,7 +267,7 @@ pub struct Exit<'a> {
 }
 
 /// Whether an exit opens a part that a leaf has taken apart, instead of rebuilding it: its type has spots for its
-/// fields, and its constructor doesn't show its leaf.
+/// fields, and its constructor doesn't show its leaf. No clause says when: code may save a part either way.
 pub fn is_opened(agreed: &Agreed, sub: &Pat) -> bool {
     match sub {
         Pat::Wild(_) | Pat::Var(_, _) | Pat::Num(_, _) => false,
@@ -272,7 +277,7 @@ pub fn is_opened(agreed: &Agreed, sub: &Pat) -> bool {
 }
 
 // Whether an exit opens each part on a path below a pattern; so it does on an empty path. False
-// where the path leads out of the pattern.
+// where the path leads out of the pattern. It serves the guess at which node an edge ends.
 fn are_opened(agreed: &Agreed, pat: &Pat, path: &[u32]) -> bool {
     let [field, rest @ ..] = path else {
         return true;
@@ -287,7 +292,8 @@ fn are_opened(agreed: &Agreed, pat: &Pat, path: &[u32]) -> bool {
 }
 
 // Whether code at an exit saves the fields of the part at a position that tests need; false where
-// the way is no exit, or the part is not at or below the one that was looked at.
+// the way is no exit, or the part is not at or below the one that was looked at. It serves the guess
+// at which node an edge ends.
 fn opens(agreed: &Agreed, exit: &Option<Exit>, position: &[u32]) -> bool {
     let Some(exit) = exit else {
         return false;
@@ -299,8 +305,8 @@ fn opens(agreed: &Agreed, exit: &Option<Exit>, position: &[u32]) -> bool {
 }
 
 // Whether a way carries what is shown of the part at a position. An exit does of parts at or below
-// its look alone, since
-// leaves that lead on to one node may go by one way, which carries what was known before the look.
+// its look alone, since leaves that lead on to one node may go by one way, which carries what was
+// known before the look. It serves the guess at which node an edge ends.
 fn carries(exit: &Option<Exit>, position: &[u32]) -> bool {
     match exit {
         None => true,
@@ -310,7 +316,7 @@ fn carries(exit: &Option<Exit>, position: &[u32]) -> bool {
 
 // Nodes ---------------------------------------------------------------------------------------------
 
-// Marks each node that is marked in the other list; other marks stay as they are.
+// Marks each node that is marked in the other list; other marks stay as they are. Marks are guesses.
 fn mark_all(marks: &mut Seq<bool>, others: &[bool]) {
     for i in 0..marks.len() {
         if is_marked(others, i) {
