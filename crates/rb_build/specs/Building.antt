@@ -1,7 +1,8 @@
 -- What code that constructs a value owes, against the source's construction. A held value is one in slots, with its
 -- type. What is shown of a field is a pattern that its value matches; a wildcard shows nothing. The event of a
 -- construction is that its value is built, and its blocks are those of the leaf that holds the value in its layout. A
--- plan has a program and its layouts, and a sheet is a function's code so far.
+-- plan has a program and its layouts, and a sheet is a function's code so far. `agreed` is a program with layouts
+-- that agree with its types.
 use Rattle.std.specs.Prelude.{◌≡◌, List, map, Some}
 use Rattle.rb_core.specs.declared.types.Ty.{Ty}
 use Rattle.rb_core.specs.declared.types.Ty.TheVariants.{Named}

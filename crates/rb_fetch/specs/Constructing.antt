@@ -1,7 +1,8 @@
 -- What code that constructs a value owes. The arguments hs are values in slots, one a field of the constructor, and
 -- what is shown of one is a pattern that it matches; a wildcard shows nothing. A representation is clean where all
 -- bits are 0 that stand in no part of a word. A plan has a program and its layouts, and a sheet is a function's code
--- so far.
+-- so far. A leaf is one of the forms in which a layout stores the values of a data type. `agreed` is a program with
+-- layouts that agree with its types.
 use Rattle.std.specs.Prelude.{◌≡◌, ℕ, ◌+◌, ◌≤◌, List, map, length, Bool, true, Some}
 use Rattle.rb_core.specs.declared.value.Value.{Value, Con}
 use Rattle.rb_core.specs.declared.types.Ty.{Ty}

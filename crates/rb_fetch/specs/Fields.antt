@@ -1,9 +1,11 @@
--- Fields of represented values: what their words are, as reads, and code that makes them. A position of a leaf is a
--- path, field numbers from the root, to a wildcard or a constructor of its provenance, the pattern of the values that
--- it holds. At a wildcard, an open position, the leaf's words have the part. At a constructor they have its fields
--- alone, and the part is rebuilt: constructed of these again. A read is a number that code can make from slots and
--- loads; it means that number, over slots s and memory m. A representation is clean where all bits are 0 that stand
--- in no part of a word. A plan has a program and its layouts, and a sheet is a function's code so far.
+-- Fields of represented values: what their words are, as reads, and code that makes them. A leaf is one of the forms
+-- in which a layout stores the values of a data type. A position of a leaf is a path, field numbers from the root, to
+-- a wildcard or a constructor of its provenance, the pattern of the values that it holds. At a wildcard, an open
+-- position, the leaf's words have the part. At a constructor they have its fields alone, and the part is rebuilt:
+-- constructed of these again. A read is a number that code can make from slots and loads; it means that number, over
+-- slots s and memory m. A representation is clean where all bits are 0 that stand in no part of a word. A plan has a
+-- program and its layouts, and a sheet is a function's code so far. `agreed` is a program with layouts that agree
+-- with its types.
 use Rattle.std.specs.Prelude.{◌≡◌, ℕ, ◌≤◌, ◌⊎◌, List, Bool, Some, length, slice_get}
 use Rattle.rb_core.specs.declared.value.Value.{Value}
 use Rattle.rb_core.specs.declared.types.Ty.{Ty}

@@ -1,7 +1,8 @@
--- Trees of splits whose leaves form groups. A split tests the bits at a location of a value's words: an arm leads to
--- the tree below it where they are its literal, and the else, if there is one, where no arm has them. Below a split
--- that leads one way alone there is no choice, and it is left out. Groups are given leaf by leaf, none for a leaf
--- that can't be here. A pruned tree has groups for leaves.
+-- Trees of splits whose leaves form groups. A leaf is one of the forms in which a layout stores the values of a data
+-- type, given by its number. A split tests the bits at a location of a value's words: an arm leads to the tree below
+-- it where they are its literal, and the else, if there is one, where no arm has them. Below a split that leads one
+-- way alone there is no choice, and it is left out. Groups are given leaf by leaf, none for a leaf that can't be
+-- here. A pruned tree has groups for leaves.
 use Rattle.std.specs.Prelude.{◌≡◌, ℕ, ◌<◌, ◌≤◌, ◌==◌, ◌&&◌, List, [], ◌∷◌, Bool, true, false, Option, Some, None, slice_get, if◌then◌else◌}
 use Rattle.rb_core.specs.declared.layout_decl.Loc.{Loc}
 use Rattle.rb_bytes.specs.Memory.{Memory}

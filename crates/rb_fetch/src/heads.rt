@@ -150,8 +150,8 @@ fn is_bare(types: &[DataDecl], con: ConRef) -> bool
     types_of_fields(types, con).len() == 0
 }
 
-/// The positions of those of the constructors `places` that have no fields, in their order. `types`
-/// are the declarations of the data types.
+/// The positions of those of the constructors `places` that have no fields, in their order: where one
+/// is known to stand, a look would find nothing more. `types` are the declarations of the data types.
 ///
 /// # Errors
 ///

@@ -3,7 +3,9 @@
 -- open jump, the leaf's number, and parts of the value in slots; hole k is the jump of way k, to be set. An open
 -- position of a leaf is a wildcard of its provenance, the pattern of the values that it holds. A representation is
 -- clean where all bits are 0 that stand in no part of a word. A plan has a program and its layouts, and a sheet is a
--- function's code so far.
+-- function's code so far. A leaf is one of the forms in which a layout stores the values of a data type. To look into
+-- an argument is to find its leaf, or that of a part of it, by code. `agreed` is a program with layouts that agree
+-- with its types.
 use Rattle.std.specs.Prelude.{◌≡◌, ℕ, List, map, Bool, true, Some, slice_get}
 use Rattle.rb_core.specs.declared.value.Value.{Value, Con}
 use Rattle.rb_core.specs.declared.types.Ty.{Ty}

@@ -1,10 +1,11 @@
 -- The choice of a construction's leaf, look by look: what is known on a way, and which leaves can still be its
--- value's. A way is where runs have come to one leaf: an open jump, the leaf's number, and parts in slots. A position
--- is a path, field numbers from the root; a place, or head, is a position below the root at which the provenance of a
--- leaf, the pattern of the values that it holds, has a constructor. A look is code that finds the leaf of the part
--- there. `seen` is what is known: positions that need no look any more, and constructors that stand in the value.
--- Rebuilding constructs a part again that a leaf has taken apart, of its fields. A plan has a program and its
--- layouts, and a sheet is a function's code so far.
+-- value's. A leaf is one of the forms in which a layout stores the values of a data type. A way is where runs have
+-- come to one leaf: an open jump, the leaf's number, and parts in slots. A position is a path, field numbers from the
+-- root; a place, or head, is a position below the root at which the provenance of a leaf, the pattern of the values
+-- that it holds, has a constructor. A look is code that finds the leaf of the part there. `seen` is what is known:
+-- positions that need no look any more, and constructors that stand in the value. Rebuilding constructs a part again
+-- that a leaf has taken apart, of its fields. A plan has a program and its layouts, and a sheet is a function's code
+-- so far. `agreed` is a program with its layouts, which obey the rules.
 use Rattle.std.specs.Prelude.{◌≡◌, ℕ, ◌+◌, ◌<◌, ◌≤◌, Bool, true, false, not, List, [], ◌∷◌, ◌++◌, Option, Some, None, length, slice_get, slice_index, sum_by}
 use Rattle.std.specs.List.{filter}
 use Rattle.rb_core.specs.declared.value.Value.{Value, out-Value}
@@ -231,8 +232,7 @@ ChoosesFrom agreed t leaves seen xs old new ways =
     (plan : Plan) (k : ℕ) (layout : Layout) → ChoiceIsReady agreed plan t k layout leaves xs old.slots
     → ChoosesWays plan t k layout leaves seen xs old new ways
 
--- in every plan of the agreed program, the code from old to new takes each value of one of the leaves to a way of its
--- leaf, where one of the leaves has a constructor of type s at `path`, which needs a look still
+-- as `ChoosesFrom`, by a look at `path`: one of the leaves has a constructor of type s there, which needs a look still
 abbrev pub ChoosesBy : LaidOut → ℕ → List ℕ → Seen → List Subvalue → List ℕ → ℕ → Sheet → Sheet → List Way → Type 0
 ChoosesBy agreed t leaves seen xs path s old new ways =
     (plan : Plan) (k : ℕ) (layout : Layout) → ChoiceIsReady agreed plan t k layout leaves xs old.slots

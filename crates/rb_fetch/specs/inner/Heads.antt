@@ -1,7 +1,8 @@
--- The constructors of provenances by position, and the leaves that can still be a value's. A provenance is the
--- pattern of the values that a leaf holds. A head is one of its constructors with its position, a path of field
--- numbers from the root; code has it as a `Place`. A look is code that finds the leaf of the part at a position, and
--- `looked` are the positions that need none any more. Leaves are named by their numbers in the layout of a type t.
+-- The constructors of provenances by position, and the leaves that can still be a value's. A leaf is one of the forms
+-- in which a layout stores the values of a data type; its provenance is the pattern of these values. A head is one of
+-- the constructors of a provenance, with its position, a path of field numbers from the root; code has it as a
+-- `Place`. A look is code that finds the leaf of the part at a position, and `looked` are the positions that need
+-- none any more. Leaves are named by their numbers in the layout of a type t.
 use Rattle.std.specs.Prelude.{◌≡◌, ℕ, ◌+◌, ◌==◌, ◌&&◌, List, [], ◌∷◌, ◌++◌, map, length, Bool, true, false, Option, Some, None, slice_get, if◌then◌else◌}
 use Rattle.rb_core.specs.declared.types.ConRef.{ConRef}
 use Rattle.rb_core.specs.declared.types.DataDecl.{DataDecl}
@@ -45,7 +46,8 @@ IsNext looked ps p = (k : ℕ) × (slice_get ps k ≡ Some p) × (is_among looke
 abbrev pub is_bare : List DataDecl → ConRef → Bool
 is_bare types con = length (field_types types con) == 0
 
--- the positions of those constructors that have no fields, in order
+-- the positions of those constructors that have no fields, in order: where one is known to stand, a look would find
+-- nothing more, so that these positions need none
 abbrev pub bare_paths : List DataDecl → List Head → List (List ℕ)
 bare_paths types [] = []
 bare_paths types (h ∷ hs) = if is_bare types h.con then h.path ∷ bare_paths types hs else bare_paths types hs

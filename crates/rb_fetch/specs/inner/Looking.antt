@@ -4,7 +4,7 @@
 -- is still open, and its `leaf` is the number of the leaf to which it leads. A target is done where it is such a
 -- hole, or leads to the code of the tree below it. It is named by the number of its arm, and that of an else, or of a
 -- jump, by none. Of a value's words there are reads, numbers that code can make from slots and loads, and `widths`
--- has the most bits of each.
+-- has the most bits of each. A plan has a program and its layouts, and a sheet is a function's code so far.
 use Rattle.std.specs.Prelude.{◌≡◌, ℕ, ◌+◌, ◌<◌, ◌≤◌, ◌^◌, ◌⊎◌, List, map, length, Option, Some, None, is_some, slice_get}
 use Rattle.std.specs.Bool.{then_some}
 use Rattle.rb_core.specs.declared.layout_decl.Loc.{Loc}

@@ -1,8 +1,8 @@
 -- Where parts of leaves stand: which part is looked for, and where it is found. A part is a range of bits of a root
--- word of a leaf or of a word of its blocks, and a spot is a part where it stands. A unit of a field is a bit of an
--- integer, or a word of a data type. A block is named by its number in the leaf, and where a block may be missing,
--- None stands for the root words. `WayTo` asks for the pointer to a block, `UnitOf` for a unit of a field of this
--- type.
+-- word of a leaf or of a word of its blocks, and a spot is a part where it stands. A field stands at a path, field
+-- numbers from the root; a unit of it is a bit of an integer, or a word of a data type. A block is named by its
+-- number in the leaf, and where a block may be missing, None stands for the root words. `WayTo` asks for the pointer
+-- to a block, `UnitOf` for a unit of a field of this type.
 use Rattle.std.specs.Prelude.{◌≡◌, ℕ, ◌-◌, ◌==◌, List, Bool, true, false, Option, Some, None, length, slice_get}
 use Rattle.rb_core.specs.declared.layout_decl.Step.{Step}
 use Rattle.rb_core.specs.declared.program.Program.{Program}

@@ -1,8 +1,9 @@
--- What code owes that rebuilds the parts that a leaf has taken apart. A leaf takes a part apart where its provenance,
--- the pattern of the values that it holds, has a constructor below its root: it holds only the part's fields, and the
--- part is constructed of them again. An open position is a wildcard of the provenance: the leaf holds the part there
--- whole. A path is a list of field numbers from the root. A plan has a program and its layouts, and a sheet is a
--- function's code so far.
+-- What code owes that rebuilds the parts that a leaf has taken apart. A leaf is one of the forms in which a layout
+-- stores the values of a data type. It takes a part apart where its provenance, the pattern of the values that it
+-- holds, has a constructor below its root: it holds only the part's fields, and the part is constructed of them
+-- again. An open position is a wildcard of the provenance: the leaf holds the part there whole. A path is a list of
+-- field numbers from the root. A plan has a program and its layouts, and a sheet is a function's code so far.
+-- `agreed` is a program with layouts that agree with its types.
 use Rattle.std.specs.Prelude.{◌≡◌, ℕ, ◌≤◌, ◌⊎◌, List, [], ◌∷◌, map, take, length, Bool, Option, Some, None, slice_get}
 use Rattle.std.specs.List.{sum_by}
 use Rattle.rb_core.specs.declared.value.Value.{Value}

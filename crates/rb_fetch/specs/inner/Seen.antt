@@ -1,6 +1,8 @@
 -- What is known of a value on a way to its leaf: positions that need no look now, and constructors that stand in it.
--- A position is a path, field numbers from the root. A look is code that finds the leaf of the part at a position;
--- none is needed where one was on this way, nor where a constructor without fields is known to stand.
+-- A position is a path, field numbers from the root. A leaf is one of the forms in which a layout stores the values
+-- of a data type. A look is code that finds the leaf of the part at a position; none is needed where one was on this
+-- way, nor where a constructor without fields is known to stand. `looked` are these positions, and `known` these
+-- constructors.
 use Rattle.std.specs.Prelude.{ℕ, List, ◌∷◌, ◌++◌, take}
 use Rattle.rb_core.specs.declared.types.DataDecl.{DataDecl}
 use Rattle.rb_fetch.specs.declared.heads.Place.{Place}

@@ -7,7 +7,9 @@
 -- number; its provenance is the pattern of these values. A group is leaves that the code doesn't tell apart. The
 -- facts `known` say what is known before the test: which leaves parts have, and which spots hold theirs. A sheet is
 -- the code and the number of slots so far, `old` before the test's code and `new` behind it. A read says where a word
--- is, by bits of slots and of memory.
+-- is, by bits of slots and of memory. `agreed` is a program with layouts that agree with its types; a plan of it has
+-- these, and the switches that its matches may cost. `clean` asks that bits that no part of a value takes are 0. A
+-- look is code that finds the leaf, or the number, of a part.
 use denote.Ref.{Bor}
 use Rattle.std.specs.Prelude.{◌≡◌, ℕ, ◌+◌, ◌-◌, ◌<◌, ◌≤◌, ◌^◌, List, [], ◌∷◌, ◌++◌, map, length, Bool, true, false, ◌&&◌, nat_lt, Option, Some, None, slice_get, if◌then◌else◌}
 use Rattle.rb_core.specs.declared.value.Value.{Value, out-Value}

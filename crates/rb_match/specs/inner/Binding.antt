@@ -5,7 +5,10 @@
 -- subvalue, code rebuilds (mends) it. A spot is slots in which a field is saved, whichever leaf it comes from; the
 -- facts `known` say which spots hold their fields. `subs` are the patterns of a constructor's fields, or of those
 -- from field i on, and `fields` the types of the same. A sheet is the code and the number of slots so far, `old`
--- before some code is appended and `new` behind it. The slots `words` hold the value's words.
+-- before some code is appended and `new` behind it. The slots `words` hold the value's words. `agreed` is a program
+-- with layouts that agree with its types; a plan of it has these, and the switches that its matches may cost. `clean`
+-- asks that bits that no part of a value takes are 0. A memory is good where it is one that can come to be. A look is
+-- code that finds the leaf of a part.
 use Rattle.std.specs.Prelude.{◌≡◌, ℕ, ◌+◌, ◌<◌, ◌≤◌, ◌&&◌, ◌⊎◌, List, [], ◌∷◌, map, length, Bool, true, false, Some, slice_get}
 use Rattle.rb_core.specs.declared.value.Value.{Value}
 use Rattle.rb_core.specs.declared.types.Ty.{Ty}

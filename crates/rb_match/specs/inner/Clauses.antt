@@ -4,7 +4,8 @@
 -- behind it. `words` are reads of the words of a value of type `ty`: each says where a word is, by bits of slots and
 -- of memory. `final` is the finished code of a whole function, and `next start s w` what a run in it comes to from
 -- instruction `start` with the slots s and the world w. To look at a place, a position and its type, is to test what
--- stands there.
+-- stands there. `agreed` is a program with layouts that agree with its types; a plan of it has these, and the
+-- switches that its matches may cost.
 use Rattle.std.specs.Prelude.{◌≡◌, ℕ, ◌+◌, ◌*◌, ◌<◌, ◌≤◌, ◌==◌, List, [], ◌∷◌, length, Bool, true, false, Some, slice_get, if◌then◌else◌}
 use Rattle.rb_core.specs.declared.value.Value.{Value}
 use Rattle.rb_core.specs.declared.types.Ty.{Ty}

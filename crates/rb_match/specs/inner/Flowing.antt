@@ -4,7 +4,10 @@
 -- numbers of the fields that lead from the value to a part of it; a place is a position and the type there. A node of
 -- the graph is a test or a clause, given by its number. A spot is slots in which a part of the value is saved. A
 -- sheet is the code and the number of slots so far, `old` before some code is appended and `new` behind it. A job is
--- what is asked of a graph's code. A run in the finished code `final` begins with the slots s and the world w.
+-- what is asked of a graph's code. A run in the finished code `final` begins with the slots s and the world w. A read
+-- says where a word of the value is, by bits of slots and of memory. A look is code that finds the leaf, or the
+-- number, of the part at a place. `agreed` is a program with layouts that agree with its types; a plan of it has
+-- these, and the switches that its matches may cost. A memory is good where it is one that can come to be.
 use Rattle.std.specs.Prelude.{◌≡◌, ℕ, ◌<◌, ◌≤◌, ◌++◌, ◌⊎◌, ◌==◌, List, [], ◌∷◌, map, length, Bool, Some, slice_get, if◌then◌else◌}
 use Rattle.rb_core.specs.declared.value.Value.{Value}
 use Rattle.rb_core.specs.declared.types.Ty.{Ty}

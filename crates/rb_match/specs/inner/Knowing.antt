@@ -3,7 +3,8 @@
 -- lead from the value to a part of it, the outermost first; that of the value itself is empty. A leaf is one of the
 -- forms in which a layout stores the values of a data type, given by its number there. A spot is slots for the part
 -- at a position, given by its number among the spots. An edge is a way out of the code to a node, given by its
--- number, with what is known of the value there. `known` are facts, `slots` the contents of all slots in a run.
+-- number, with what is known of the value there. `known` are facts, `slots` the contents of all slots in a run. A
+-- plan is a program with its layouts, and the switches that its matches may cost.
 use Rattle.std.specs.Prelude.{◌≡◌, ℕ, ◌⊎◌, List, Bool, Option, Some, None, slice_get}
 use Rattle.rb_core.specs.declared.value.Value.{Value}
 use Rattle.rb_core.specs.Values.{part_at}

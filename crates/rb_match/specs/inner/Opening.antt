@@ -8,7 +8,8 @@
 -- an open target, with the number of a group. A spot is slots in which the part at a position may be saved. A sheet
 -- is the code and the number of slots so far: `mid` where a leaf is found, `b` behind some of the ways, `old` and
 -- `new` before and behind all of what is appended. The slots `words` hold the part's words; the first n slots are
--- kept.
+-- kept. A read says where a word is, by bits of slots and of memory. `agreed` is a program with layouts that agree
+-- with its types; a plan of it has these, and the switches that its matches may cost.
 use denote.Ref.{Bor}
 use Rattle.std.specs.Prelude.{◌≡◌, ℕ, ◌+◌, ◌-◌, ◌<◌, ◌≤◌, nat_le, List, [], ◌∷◌, ◌++◌, map, length, Bool, true, Option, Some, None, slice_get, if◌then◌else◌}
 use Rattle.rb_core.specs.declared.value.Value.{Value, out-Value}

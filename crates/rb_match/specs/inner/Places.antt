@@ -4,8 +4,9 @@
 -- of a pattern, it is a position and the type there. A spot is slots in which a part is saved. A leaf is one of the
 -- forms in which a layout stores values; its provenance is the pattern of the values that it stores. The facts
 -- `known` say which leaves parts have and which spots hold theirs. The reads `words` are those of the whole value, of
--- type `ty`; a read fits n slots where it reads only slots below n and instructions can make it. `agreed` is the
--- program with the layouts of its types.
+-- type `ty`; a read fits n slots where it reads only slots below n and instructions can make it. `agreed` is a
+-- program with layouts that agree with its types; a plan of it has these, and the switches that its matches may cost.
+-- `clean` asks that bits that no part of a value takes are 0.
 use Rattle.std.specs.Prelude.{◌≡◌, ℕ, ◌≤◌, ◌++◌, ◌∷◌, [], List, take, Bool, Some, length, slice_get}
 use Rattle.std.specs.List.{flat_map}
 use Rattle.rb_core.specs.declared.value.Value.{Value}

@@ -1,11 +1,14 @@
--- Spots, that is, slots in which parts of a value are saved, and code that saves them. A leaf takes a subvalue apart
--- where it has the subvalue's fields in place of its words: to save the subvalue, code rebuilds (mends) it. A leaf is
--- one of the forms in which a layout stores the values of data type t, given by its number; its provenance is the
--- pattern of these values. A position is the numbers of the fields that lead from the whole value to a part of it,
+-- Spots, that is, slots in which parts of a value are saved, and code that saves them. A leaf is one of the forms in
+-- which a layout stores the values of data type t, given by its number; its provenance is the pattern of these
+-- values. It takes a subvalue apart where it has the subvalue's fields in place of its words: to save the subvalue,
+-- code rebuilds (mends) it. A position is the numbers of the fields that lead from the whole value to a part of it,
 -- the outermost first; a path leads so from a part, or from a pattern, to what stands below it. A source is a part
 -- whose leaf is known, from which parts are saved: the slots `words` hold its words. The facts `known` say which
 -- leaves parts have and which spots hold theirs; `more` are the facts behind some code. A sheet is the code and the
 -- number of slots so far, `old` before some code is appended and `new` behind it; of the slots the first n are kept.
+-- `agreed` is a program with layouts that agree with its types; a plan of it has these, and the switches that its
+-- matches may cost. A memory is good where it is one that can come to be. `clean` asks that bits that no part of a
+-- value takes are 0.
 use Rattle.std.specs.Prelude.{◌≡◌, ℕ, zero, suc, ◌+◌, ◌<◌, ◌≤◌, ◌⊎◌, List, [], ◌∷◌, Bool, Option, Some, None, length, nat_eq, drop, slice_get, slice_index, ◌++◌, ◌==◌, ◌&&◌}
 use Rattle.std.specs.List.{starts_with, sum_by}
 use Rattle.rb_core.specs.declared.value.Value.{Value}

@@ -5,7 +5,8 @@
 -- if there is one. A position is the numbers of the fields that lead from the value to a part of it. The facts
 -- `known` say which leaves parts have and which spots, slots in which parts are saved, hold theirs. A leaf is one of
 -- the forms in which a layout stores the values of a data type. A view is a value, and the run in which facts are so
--- of it.
+-- of it. A place is a position and the type there; a look at it is code that finds its leaf or number. `agreed` is a
+-- program with layouts that agree with its types; a plan of it has these, and the switches that its matches may cost.
 use Rattle.std.specs.Prelude.{◌≡◌, ℕ, ◌+◌, ◌≤◌, List, [], ◌∷◌, Bool, Option, Some, true, slice_get}
 use Rattle.rb_core.specs.declared.value.Value.{Value, out-Value}
 use Rattle.rb_core.specs.declared.value.Value.TheOpen as V

@@ -5,6 +5,8 @@
 -- type there. A read says where a word of the value is: bits of slots and of memory. `words` are the reads of the
 -- value's words, `ty` is its type, and `pats` are the patterns of the clauses. A sheet is the code and the number of
 -- slots so far: `old` before the tree's code, `new` behind it; the finished code `final` is that of a whole function.
+-- `agreed` is a program with layouts that agree with its types; a plan of it has these, and the switches that its
+-- matches may cost. A look is code that finds the leaf, or the number, of the part at a place.
 use Rattle.std.specs.Prelude.{◌≡◌, ℕ, ◌≤◌, List, map, length, Bool, Some}
 use Rattle.rb_core.specs.declared.value.Value.{Value}
 use Rattle.rb_core.specs.declared.types.Ty.{Ty}
