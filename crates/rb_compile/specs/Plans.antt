@@ -1,7 +1,8 @@
 -- The plan of a program whose layouts agree: the program, its layouts, and what each match may cost. Matches are
 -- named by the number of their function and by their token: the number of the token at which the match stands in the
--- file. A site is a match with its token, the type of its scrutinee, and its patterns. A bound is a number of
--- switches: the most that code may do to choose a clause of the match and to bind the variables of its pattern.
+-- file. A site is a match with its token, the type of its scrutinee, the value that is matched, and its patterns. A
+-- bound is a number of switches: the most that code may do to choose a clause of the match and to bind the variables
+-- of its pattern. `agreed` is a program with layouts that agree with its types.
 use Rattle.std.specs.Prelude.{ℕ, ◌==◌, List, [], ◌∷◌, Option, Some, None, slice_get, if◌then◌else◌}
 use Rattle.rb_core.specs.declared.site.Site.{Site}
 use Rattle.rb_core.specs.declared.program.Fun.{Fun}

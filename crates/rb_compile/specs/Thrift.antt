@@ -1,5 +1,6 @@
 -- When code does few switches. A plan has a program with its layouts, and says how many switches each match may cost.
--- A log is what the source does in a call: its constructions and its matches, in order.
+-- A log is what the source does in a call: its constructions and its matches, in order. A leaf is one of the forms in
+-- which a layout stores the values of a data type; a construction chooses one of them.
 use Rattle.std.specs.Prelude.{◌≤◌, List}
 use Rattle.rb_core.specs.Meaning.{call_of}
 use Rattle.rb_target.specs.declared.code.CodeFun.{CodeFun}

@@ -3,8 +3,8 @@
 -- has behind the end of a. What a match looks at, its subject, and each variable is held: it has slots, a word each.
 -- An arm leaves its value in slots that all arms share, `into`, and ends in an open jump, its join, to where all arms
 -- meet. The numbers `starts` are those of the arms' first instructions. A plan has a program with its layouts; f is
--- the number of a function, ls are the variables before the match, s is the type of its scrutinee, t that of its
--- value. What is `wanted` of a match or a clause is a type, or nothing.
+-- the number of a function, ls are the variables before the match, s is the type of its scrutinee, the value that is
+-- matched, t that of its value. What is `wanted` of a match or a clause is a type, or nothing.
 use Rattle.std.specs.Prelude.{◌≡◌, ℕ, zero, suc, ◌≤◌, Bool, true, List, [], ◌++◌, length, Option, Some, None, Ok, slice_get}
 use Rattle.rb_core.specs.declared.value.Value.{Value}
 use Rattle.rb_core.specs.declared.types.Ty.{Ty}

@@ -1,7 +1,8 @@
 -- What is known of the expressions of a program that was accepted. A site is a match of a function: its token, the
--- type of its scrutinee, and its patterns. A plan has a program with its layouts, and says how many switches each
--- match may cost; it pays for a match where that is at least the bound of the match. An expression is wanted at a
--- type, or at none; `locals` are the variables that are bound, each with its type and its slots.
+-- type of its scrutinee, the value that is matched, and its patterns. A plan has a program with its layouts, and says
+-- how many switches each match may cost; it pays for a match where that is at least the bound of the match. An
+-- expression is wanted at a type, or at none; `locals` are the variables that are bound, each with its type and its
+-- slots.
 use Rattle.std.specs.Prelude.{◌≡◌, ℕ, ◌≤◌, ◌⊎◌, true, List, [], ◌∷◌, Option, Some, Ok, slice_get}
 use Rattle.rb_core.specs.declared.types.Ty.{Ty}
 use Rattle.rb_core.specs.declared.site.Site.{Site}

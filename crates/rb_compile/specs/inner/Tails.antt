@@ -2,9 +2,9 @@
 -- sheet is code that is not finished, with the number of its slots; code is appended to an old one, and gives the new
 -- one: the code from a to d is what d has behind the end of a. An arm is the code of one clause of a match, and
 -- `starts` are the numbers of the arms' first instructions. A plan has a program with its layouts; f is the number of
--- a function, t the type of its result, s the type of a match's scrutinee, held in slots, and ls or `locals` are the
--- variables that are bound, each with its slots. A target is the number of an instruction to which a jump or a switch
--- leads.
+-- a function, t the type of its result, s the type of a match's scrutinee, the value that is matched, which is held
+-- in slots, and ls or `locals` are the variables that are bound, each with its slots. A target is the number of an
+-- instruction to which a jump or a switch leads.
 use Rattle.std.specs.Prelude.{◌≡◌, ℕ, ◌+◌, ◌<◌, ◌≤◌, ◌⊎◌, Bool, true, List, ◌++◌, length, Some, slice_get, slice_index}
 use Rattle.rb_core.specs.declared.value.Value.{Value}
 use Rattle.rb_core.specs.declared.types.Ty.{Ty}

@@ -89,8 +89,8 @@ abbrev pub IsPrunedFor : Expr → Pat → Pat → Type 0
 IsPrunedFor body pat p = (keeps : ℕ → Bool) × ((x : ℕ) → Contains (variables_in body) x → keeps x ≡ true)
     × (p ≡ pruned keeps pat)
 
--- What a clause's body needs of what takes the pattern's place, at a scrutinee of type s: it matches where the
--- pattern does, binds the body's variables to the same, and costs no more to bind.
+-- What a clause's body needs of what takes the pattern's place, where the value that is matched is of type s: it
+-- matches where the pattern does, binds the body's variables to the same, and costs no more to bind.
 pub record Serves (types : List DataDecl) (layouts : List Layout) (body : Expr) (pat q : Pat) (s : Ty) : Type 0 where
   pub matches : (v : Value) → matches_of pat v ≡ true → matches_of q v ≡ true
   pub few : binding_bound types layouts s q ≤ binding_bound types layouts s pat

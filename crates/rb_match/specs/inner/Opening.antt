@@ -1,4 +1,4 @@
--- The ways of a part whose fields are saved: made leaf by leaf. A way is code behind that which finds the part's
+-- The ways of a part whose fields are saved: made leaf by leaf. A way is code behind the code that finds the part's
 -- leaf: for values of one leaf it saves fields, and leaves by an edge, an open target for a node. The part is tested:
 -- by one of the `arms` its value is led to a node, or to node `other`, if there is one, where no arm is taken. What
 -- is matched is `graph`: a type, patterns, and nodes with tests, perhaps none. The facts `known` are so where the
@@ -76,8 +76,8 @@ abbrev pub LeadsFrom : LaidOut → Whole → List Known → ℕ → ℕ → Type
 LeadsFrom agreed graph known node m =
     LeadsOn agreed graph.ty graph.pats.now graph.nodes.now known node m × (graph.nodes.now ≡ [] → m ≡ node)
 
--- the values of a leaf that a test leads to a node, the first of these if there is one, go on at a node that `Leads`
--- allows for it; those that it leads to no node go nowhere
+-- where a test leads the values of a leaf to a node, they go on at a node that `Leads` allows for it; where it leads
+-- them to none, they go nowhere
 abbrev pub GoOn : (ℕ → ℕ → Type 0) → Option ℕ → Option Onward → Type 0
 GoOn Leads None None = Unit {0}
 GoOn Leads None (Some found) = ⊥
