@@ -3,7 +3,7 @@
 -- that the bits which the layouts leave free are 0 in them. A run of code begins with words, a memory and a number of
 -- calls that it may make. What the source asks for is in the log of its meaning: its constructions, in order, each
 -- with the blocks of its leaf. These blocks are laid in a memory: placed one behind the other, or one of them is the
--- first that does not fit.
+-- first that does not fit. A memory is good where it is one that can come to be.
 use Rattle.std.specs.Prelude.{◌≡◌, ℕ, List, length, Bool, Some, slice_get}
 use Rattle.rb_core.specs.declared.value.Value.{Value}
 use Rattle.rb_core.specs.declared.types.Ty.{Ty}

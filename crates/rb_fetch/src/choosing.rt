@@ -5,7 +5,8 @@
 //! jump, the leaf's number, and parts in slots. A part whose leaf follows from what is known takes
 //! no look. The fields of a part whose leaf is known are fetched. Those that the leaf has taken
 //! apart, of which it has only the fields, are rebuilt, by constructions of their own, so that the
-//! calls here go in a circle. Each takes one off `depth`.
+//! calls here go in a circle. Each takes one off `depth`. `agreed` has the program and its layouts,
+//! and `seen` is what is known of the value.
 
 ghost use Rattle.std.specs.Prelude.{◌≡◌, IfOk, OnOk, length, take};
 ghost use Rattle.rb_target.specs.Growth.{Grows};

@@ -1,7 +1,8 @@
-//! Code that constructs a value of its fields. A way is where runs have come to one leaf of the
-//! value's layout: an open jump, the leaf's number, and parts of the value in slots; a hole is such
-//! a jump. The arm of a way is the code behind it, which makes the value in that leaf. The arms
-//! meet behind the last one, with the value in the slots in which the first one has it.
+//! Code that constructs a value of its fields. A leaf is one of the forms in which a layout stores
+//! the values of a data type; its provenance is the pattern of these values. A way is where runs
+//! have come to one leaf: an open jump, the leaf's number, and parts of the value in slots; a hole
+//! is such a jump. The arm of a way is the code behind it, which makes the value in that leaf. The
+//! arms meet behind the last one, with the value in the slots in which the first one has it.
 
 ghost use Rattle.std.specs.Prelude.{◌≡◌, ℕ, Some, IfOk, OnOk, length};
 ghost use Rattle.std.specs.Option.{option_copied};

@@ -4,6 +4,7 @@
 //! its provenance has a constructor at the part's position: it holds the part's fields alone. `ty`
 //! is a data type by number, `leaf` and `leaves` are leaves by their numbers in the layout of that
 //! type, and `con` of type `u32` is a constructor by number in its own type. `path` is a position.
+//! A look is code that finds the leaf of the part at a position.
 
 ghost use Rattle.std.specs.Prelude.{◌≡◌, ◌++◌, ◌∷◌, [], map, IfOk, MatchOption, OnOk, slice_get};
 ghost use Rattle.std.specs.Option.{option_copied};
