@@ -36,7 +36,7 @@ use std::alloc::{AllocError, Global};
 /// # Errors
 ///
 /// Want of memory, or a graph that is not one of these patterns at this type.
-pub fn emit_shared(
+pub(crate) fn emit_shared(
     alloc: Global,
     body: &mut Body,
     agreed: &Agreed,
@@ -60,14 +60,11 @@ pub fn emit_shared(
     Ok(holes)
 }
 
-/// Code of a decision tree, equal parts of it once. It leaves by one of the holes, each of which
-/// has the number of the clause that the tree takes of the value; `words` are the reads of the
-/// value's words.
-///
-/// # Errors
-///
-/// Want of memory, or a tree that is not one of these patterns at this type.
-pub fn emit_tree(
+// Code of a decision tree, equal parts of it once. It leaves by one of the holes, each of which
+// has the number of the clause that the tree takes of the value; `words` are the reads of the
+// value's words. An error is want of memory, or a tree that is not one of these patterns at this
+// type.
+fn emit_tree(
     alloc: Global,
     body: &mut Body,
     agreed: &Agreed,
