@@ -17,6 +17,7 @@ pub struct Did {
     pub steps: u128,
 }
 
+// A list of these items.
 fn list<T: Copy>(alloc: Global, items: &[T]) -> Result<Seq<T>, AllocError> {
     Ok(Seq::from_vec(Vec::from_slice(alloc, items)?))
 }

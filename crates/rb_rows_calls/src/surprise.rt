@@ -17,6 +17,7 @@ pub enum Surprise {
 }
 
 impl From<AllocError> for Surprise {
+    // Want of memory, as a row tells it.
     fn from(_: AllocError) -> Surprise {
         Surprise::Memory
     }
@@ -38,6 +39,7 @@ pub fn text_of(alloc: Global, bytes: &[u8]) -> Result<String, AllocError> {
 // The most bytes that are shown of a text.
 const SHOWN: usize = 2_000;
 
+// The first of a text's bytes, as many as are shown.
 fn front_of(alloc: Global, bytes: &[u8]) -> Result<String, AllocError> {
     text_of(alloc, &bytes[..bytes.len().min(SHOWN)])
 }

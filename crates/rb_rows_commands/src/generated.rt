@@ -89,6 +89,7 @@ const WORDS: [(&str, u8); 16] = [
     ("count E 1 16777217", 4),
 ];
 
+// Looks whether words are refused, each row's at the word with its number.
 fn expect_usage(alloc: Global, rows: &[(&str, u8)]) -> Result<(), Surprise> {
     for (words, place) in rows {
         let wanted = format!(in alloc; "6 ribbit: usage at word {place};")?;

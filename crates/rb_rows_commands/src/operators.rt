@@ -72,6 +72,7 @@ to u32(x)|31|32|717440070|0|717440070\n\
 to u64(x)|63|64|6081245716983890059|0|6081245716983890059\n\
 to u63(x)|64|63|18446744073709551615|0|9223372036854775807";
 
+// Looks at one row, whose columns have a `|` between them.
 fn expect_operator(alloc: Global, row: &str) -> Result<(), Surprise> {
     let columns: Vec<&str> = row.split('|').collect(alloc)?;
     let [body, width, result, x, y, answer] = columns.as_slice() else {
@@ -83,6 +84,7 @@ fn expect_operator(alloc: Global, row: &str) -> Result<(), Surprise> {
     expect_answer(alloc, words.as_str(), file.as_bytes(), wanted.as_str())
 }
 
+// Looks at each line of a table.
 fn expect_operators(alloc: Global, rows: &str) -> Result<(), Surprise> {
     for row in rows.split('\n') {
         expect_operator(alloc, row)?;

@@ -48,6 +48,7 @@ const WORDS: [(&str, u8, &[u8]); 22] = [
     ("value E I", 7, b"ribbit: read fault\n"),
 ];
 
+// Looks whether words have their status and line over the file, with nothing put out and no step made.
 fn expect_refused(alloc: Global, rows: &[(&str, u8, &[u8])]) -> Result<(), Surprise> {
     for (words, status, line) in rows {
         let did = call(alloc, words, FILE, &[], &[])?;

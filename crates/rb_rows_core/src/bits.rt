@@ -21,6 +21,7 @@ fn branch() -> [Slice; 4]
     ]
 }
 
+// A range alone: `l` bits from bit `o` on of a word are those from bit `a` on of a number.
 fn one(o: u32, a: u32, l: u32) -> [Slice; 1]
     requires word { IsRange o l }
     requires number { IsRange a l }

@@ -18,6 +18,7 @@ fn list<T: Copy>(alloc: Global, items: &[T]) -> Result<Seq<T>, AllocError> {
 // Two files, and another under the name of the first.
 const FILES: &[(&[u8], &[u8])] = &[(b"a", b"first"), (b"b", b""), (b"a", b"second")];
 
+// The files of the table, in its order.
 fn files(alloc: Global) -> Result<Seq<NamedBytes>, AllocError> {
     let mut files = Seq::new(alloc);
     for &(name, bytes) in FILES {
@@ -187,10 +188,12 @@ fn files_of_the_system(rt: HostRuntime) -> Result<(), Fail> {
 struct Unflushed;
 
 impl Write for Unflushed {
+    // All bytes are taken.
     fn write(&mut self, buf: &[u8]) -> io::Result<usize> {
         Ok(buf.len())
     }
 
+    // Never succeeds.
     fn flush(&mut self) -> io::Result<()> {
         Err(io::ErrorKind::Other.into())
     }
@@ -201,10 +204,12 @@ impl Write for Unflushed {
 struct Full;
 
 impl Write for Full {
+    // No byte is taken, and that is no error.
     fn write(&mut self, _buf: &[u8]) -> io::Result<usize> {
         Ok(0)
     }
 
+    // Nothing is left to be flushed.
     fn flush(&mut self) -> io::Result<()> {
         Ok(())
     }

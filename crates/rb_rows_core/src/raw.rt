@@ -32,6 +32,7 @@ impl Model for Both {
 }
 
 impl Both {
+    // Two empty memories, whose regions end at the limit.
     fn new(alloc: Global, limit: u64) -> Result<Both, AllocError>
         requires { (64 ≤ limit) × (limit ≤ 16777216) }
     {

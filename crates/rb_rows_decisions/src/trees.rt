@@ -19,6 +19,7 @@ type Cons = &'static [(&'static [u8], &'static [Ty])];
 
 const K: Ty = Ty::Named(0);
 
+// A constructor with this name and these types of fields.
 fn con(alloc: Global, name: &[u8], fields: &[Ty]) -> Result<Con, AllocError> {
     Ok(Con {
         name: Seq::from_vec(Vec::from_slice(alloc, name)?),
@@ -26,6 +27,7 @@ fn con(alloc: Global, name: &[u8], fields: &[Ty]) -> Result<Con, AllocError> {
     })
 }
 
+// A type with this name and these constructors.
 fn data(alloc: Global, name: &[u8], rows: Cons) -> Result<DataDecl, AllocError> {
     let mut cons = Seq::new(alloc);
     for (name, fields) in rows {
@@ -40,6 +42,7 @@ const LETTERS: Cons = &[(b"A", &[]), (b"B", &[])];
 
 const FOURS: Cons = &[(b"Q", &[K, K, K, K])];
 
+// The types `K` and `Q`, by their numbers.
 fn types(alloc: Global) -> Result<Vec<DataDecl>, AllocError> {
     let letters = data(alloc, b"K", LETTERS)?;
     let fours = data(alloc, b"Q", FOURS)?;
@@ -63,6 +66,7 @@ fn pattern(alloc: Global, text: &[u8]) -> Result<Pat, AllocError> {
     Ok(Pat::Con(0, ConRef { ty: 1, con: 0 }, subs))
 }
 
+// The pattern that each text spells.
 fn patterns(alloc: Global, texts: &[&[u8]]) -> Result<Vec<Pat>, AllocError> {
     let mut pats = Vec::new(alloc);
     for text in texts {
@@ -110,6 +114,7 @@ fn tree_of_numbers(alloc: Global, count: u64) -> Result<Tried, AllocError> {
 // `type T = L | N(T, T, T, T)` is type 0.
 const GROWING: Cons = &[(b"L", &[]), (b"N", &[K, K, K, K])];
 
+// The type `T` alone.
 fn growing(alloc: Global) -> Result<Vec<DataDecl>, AllocError> {
     let tree = data(alloc, b"T", GROWING)?;
     Ok(Vec::from_array(alloc, [tree])?)
@@ -159,10 +164,12 @@ fn size(tree: &Tree) -> usize {
     }
 }
 
+// The digit of a number below 8; of others, of its lowest three bits.
 fn digit(number: u32) -> u8 {
     b'0' + (number & 7) as u8
 }
 
+// The letter of a head: of a constructor of `K` or `Q` its name, and `#` of any number.
 fn head_letter(head: Head) -> u8 {
     match head {
         Head::Num(_) => b'#',
@@ -174,6 +181,7 @@ fn head_letter(head: Head) -> u8 {
     }
 }
 
+// Adds the text of a tree.
 fn spell(out: &mut Vec<u8>, tree: &Tree) -> Result<(), AllocError> {
     match tree {
         Tree::Clause(clause) => out.push(digit(*clause))?,

@@ -156,6 +156,7 @@ const NESTED: [(usize, &str); 2] = [
     (128, "11 ribbit: nesting over 128 at byte 790;"),
 ];
 
+// Looks what `run` answers to each file of nested conversions.
 fn expect_nested(alloc: Global, rows: &[(usize, &str)]) -> Result<(), Surprise> {
     for (times, wanted) in rows {
         let front = repeated(alloc, "fun main(x: u8): u8 = ", "to u8(", *times, "x")?;
@@ -221,6 +222,7 @@ const MANY: [(&str, &str, &str, usize, &str); 3] = [
     ),
 ];
 
+// Looks what `check` answers to each file of many declarations.
 fn expect_many(alloc: Global, rows: &[(&str, &str, &str, usize, &str)]) -> Result<(), Surprise> {
     for (before, between, behind, times, wanted) in rows {
         let file = declared(alloc, before, between, behind, *times)?;
@@ -294,6 +296,7 @@ const LONG: [(&str, &str, usize, &str, &str); 8] = [
     ),
 ];
 
+// Looks what `check` answers to each file with a part that stands many times.
 fn expect_long(alloc: Global, rows: &[(&str, &str, usize, &str, &str)]) -> Result<(), Surprise> {
     for (before, part, times, behind, wanted) in rows {
         let file = repeated(alloc, before, part, *times, behind)?;

@@ -93,6 +93,7 @@ const LONG: [(u64, u64, &str, &str); 3] = [
     (255, 77, "255 => 0", "2 ribbit: match at byte 22 misses 77;"),
 ];
 
+// Looks what `check` answers to a `main` of each row.
 fn expect_long(alloc: Global, rows: &[(u64, u64, &str, &str)]) -> Result<(), Surprise> {
     for (below, without, last, wanted) in rows {
         let text = function(alloc, "fun main(x: u8)", *below, *without, last)?;

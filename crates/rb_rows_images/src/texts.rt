@@ -18,6 +18,7 @@ enum Found {
     Other,
 }
 
+// What reading a text comes to.
 fn outcome(alloc: Global, text: &[u8]) -> Result<Found, AllocError> {
     match read_image_text(alloc, text) {
         Ok(image) => Ok(Found::Image(image.root.len(), image.blocks.len())),

@@ -114,6 +114,7 @@ const SHOWN: [(&str, &str); 8] = [
     ("", "0 "),
 ];
 
+// Looks what `layout` answers to files, to each of which a `main` is added.
 fn expect_shown(alloc: Global, rows: &[(&str, &str)]) -> Result<(), Surprise> {
     for (file, wanted) in rows {
         let file = format!(in alloc; "{file} fun main(): u8 = 0;")?;

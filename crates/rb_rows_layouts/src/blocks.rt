@@ -187,6 +187,7 @@ const LONG: [Long; 6] = [
     ),
 ];
 
+// Looks whether each file is refused for its reason.
 fn expect_long(alloc: Global, rows: &[Long]) -> Result<(), Surprise> {
     for (before, part, times, behind, reason) in rows {
         let file = repeated(alloc, before, part, *times, behind)?;

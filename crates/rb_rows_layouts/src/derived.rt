@@ -50,6 +50,7 @@ const IMAGES: [(&str, &str, &str); 7] = [
     ),
 ];
 
+// Looks what words answer to each file, and whether the file is accepted.
 fn expect_images(alloc: Global, rows: &[(&str, &str, &str)]) -> Result<(), Surprise> {
     for (file, words, wanted) in rows {
         expect_answer(alloc, words, file.as_bytes(), wanted)?;
@@ -217,6 +218,7 @@ const EXAMPLES: [Example; 8] = [
     ),
 ];
 
+// Looks whether `main` gives its value by the written layouts, and by those that are derived, in each choice of them.
 fn expect_same(alloc: Global, example: &Example) -> Result<(), Surprise> {
     let (written, types, layouts, functions, value, wanted) = *example;
     let words = format!(in alloc; "run E 100 4096 {value}")?;
@@ -230,6 +232,7 @@ fn expect_same(alloc: Global, example: &Example) -> Result<(), Surprise> {
     Ok(())
 }
 
+// Looks at each example so.
 fn expect_all_same(alloc: Global, examples: &[Example]) -> Result<(), Surprise> {
     for example in examples {
         expect_same(alloc, example)?;

@@ -42,6 +42,7 @@ pub fn fault_text(alloc: Global, fault: ImageFault) -> Result<String, AllocError
     }
 }
 
+// How many places these are, and of each its type and its words, with the base and the place at which each is kept.
 fn places_text(alloc: Global, places: &[Place]) -> Result<String, AllocError> {
     let mut text = format!(in alloc; "{}", places.len())?;
     for place in places {
@@ -69,6 +70,7 @@ fn below(alloc: Global, agreed: &Agreed, image: &Image, place: &Place) -> Result
     }
 }
 
+// What a row comes to: what stands below its place, whose words are the root words of its image.
 fn answer(alloc: Global, agreed: &Agreed, row: &Row) -> Result<String, AllocError> {
     let (text, ty, base, place, _) = *row;
     let image = match read_image_text(alloc, text.as_bytes()) {
@@ -89,6 +91,7 @@ fn answer(alloc: Global, agreed: &Agreed, row: &Row) -> Result<String, AllocErro
 /// An image to examine: its text, the type, and the text that is to come.
 pub type ImageRow<'a> = (&'a str, Ty, &'a str);
 
+// What is found where an image is examined for a type: that it is sound, or its fault.
 fn finding(alloc: Global, agreed: &Agreed, text: &str, ty: Ty) -> Result<String, AllocError> {
     let image = match read_image_text(alloc, text.as_bytes()) {
         Ok(image) => image,

@@ -17,6 +17,7 @@ const FIRST: u32 = 0;
 // A path, how many words are read for it at most, and the text that is to come.
 type PartRow<'a> = (&'a [u32], u128, &'a str);
 
+// The type of a part, and its words.
 fn part_text(alloc: Global, part: &Peeked) -> Result<String, AllocError> {
     let mut text = match part.ty {
         Ty::Int(bits) => format!(in alloc; "u{bits}:")?,

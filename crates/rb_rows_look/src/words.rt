@@ -30,6 +30,7 @@ fn word_text(alloc: Global, image: &Image, row: &Row) -> Result<String, AllocErr
     }
 }
 
+// Looks what reading each row's word of an image gives.
 fn expect_words(alloc: Global, text: &str, rows: &[Row]) -> Result<(), Fail> {
     let image = match read_image_text(alloc, text.as_bytes()) {
         Ok(image) => image,

@@ -36,6 +36,7 @@ fn typed(alloc: Global, text: &[u8]) -> Result<Typed, Fail> {
     Ok(Typed::new(program))
 }
 
+// A list of these items.
 fn seq<T: Drop, const N: usize>(alloc: Global, items: [T; N]) -> Result<Seq<T>, AllocError> {
     Ok(Seq::from_vec(Vec::from_array(alloc, items)?))
 }
@@ -66,6 +67,7 @@ const SUMS: [(u64, Option<(u64, u64)>, usize); 3] = [
     (3, None, 2),
 ];
 
+// Looks at a run of the sum of `Cons(1, Cons(2, Nil))` for each row.
 fn expect_sums(alloc: Global, rows: &[(u64, Option<(u64, u64)>, usize)]) -> Result<(), Fail> {
     let program = typed(alloc, LIST)?;
     for (calls, end, events) in rows {
@@ -165,6 +167,7 @@ const NUMBERS: [(&[u8], u64, u64, u64); 3] = [
     ),
 ];
 
+// Looks at a run of each file with one call.
 fn expect_numbers(alloc: Global, rows: &[(&[u8], u64, u64, u64)]) -> Result<(), Fail> {
     for (text, x, y, wanted) in rows {
         let program = typed(alloc, text)?;

@@ -70,6 +70,7 @@ pub const NOTHING_FAILS: Outside = Outside {
     err: EASY,
 };
 
+// The sink of a side.
 fn sink(alloc: Global, side: Side) -> Result<MemSink, AllocError> {
     match side.fails {
         None => sink_of(alloc, side.room, side.step, &[]),

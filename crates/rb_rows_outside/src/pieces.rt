@@ -55,6 +55,7 @@ const ACCEPTED: Answer = Answer {
 // The bytes of a read, and the number of the last call.
 const SIZES: [(usize, u64); 5] = [(1, 48), (10, 6), (46, 3), (47, 2), (4096, 2)];
 
+// Looks how many calls the file takes, for reads of each size.
 fn expect_sizes(alloc: Global, sizes: &[(usize, u64)]) -> Result<(), Surprise> {
     for (step, last) in sizes {
         expect_calls(alloc, SUM, *step, *last, ACCEPTED)?;
@@ -83,6 +84,7 @@ const BLANKS: [(usize, u64, &[u8], u8); 5] = [
     ),
 ];
 
+// Looks how many calls each file of blanks takes, and what is answered to it.
 fn expect_blanks(alloc: Global, rows: &[(usize, u64, &[u8], u8)]) -> Result<(), Surprise> {
     for (bytes, last, line, status) in rows {
         let blanks = vec![in alloc; b' '; *bytes]?;

@@ -46,6 +46,7 @@ struct Call<'a> {
     steps: Option<u128>,
 }
 
+// The first bytes of a text, so many or all where there are fewer.
 fn front(text: &[u8], count: usize) -> &[u8] {
     &text[..count.min(text.len())]
 }
@@ -104,6 +105,7 @@ fn from(source: Side) -> Outside {
     }
 }
 
+// Looks whether a row answers so over an outside, and gives its steps.
 fn look(alloc: Global, call: &Call, outside: Outside, wanted: Answer) -> Result<u128, Surprise> {
     expect(alloc, call.words, call.held, outside, wanted)
 }

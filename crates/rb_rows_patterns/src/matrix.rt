@@ -28,6 +28,7 @@ fn add(alloc: Global, cons: &mut Seq<Con>, name: &[u8], fields: &[Ty]) -> Result
     cons.push(Con { name, fields })
 }
 
+// A type with this name and these constructors.
 fn data(alloc: Global, name: &[u8], cons: Seq<Con>) -> Result<DataDecl, AllocError>
     ensures { IfOk result (λ d. d ≡ record { name = name.now; cons = cons }) }
 {
@@ -35,6 +36,7 @@ fn data(alloc: Global, name: &[u8], cons: Seq<Con>) -> Result<DataDecl, AllocErr
     Ok(DataDecl { name, cons })
 }
 
+// `type C = R | G | B`
 fn color(alloc: Global) -> Result<DataDecl, AllocError>
     ensures { IfOk result (λ d. d ≡ color_decl) }
 {
@@ -45,6 +47,7 @@ fn color(alloc: Global) -> Result<DataDecl, AllocError>
     data(alloc, b"C", cons)
 }
 
+// `type T = L | N(T, C, T)`
 fn tree(alloc: Global) -> Result<DataDecl, AllocError>
     ensures { IfOk result (λ d. d ≡ tree_decl) }
 {
@@ -55,6 +58,7 @@ fn tree(alloc: Global) -> Result<DataDecl, AllocError>
     data(alloc, b"T", cons)
 }
 
+// `type P = P(C, T)`
 fn pair(alloc: Global) -> Result<DataDecl, AllocError>
     ensures { IfOk result (λ d. d ≡ pair_decl) }
 {
@@ -63,6 +67,7 @@ fn pair(alloc: Global) -> Result<DataDecl, AllocError>
     data(alloc, b"P", cons)
 }
 
+// `type S = S(u1, u1, u1, u1, u1, u1)`
 fn six(alloc: Global) -> Result<DataDecl, AllocError>
     ensures { IfOk result (λ d. d ≡ six_decl) }
 {
@@ -131,6 +136,7 @@ fn row(alloc: Global, text: &[u8]) -> Result<Seq<Pat>, AllocError> {
     taken(alloc, &mut pats, count)
 }
 
+// The letter of a constructor.
 fn letter_of(con: ConRef) -> u8 {
     match (con.ty, con.con) {
         (0, 0) => b'R',
@@ -159,6 +165,7 @@ fn spell(out: &mut Vec<u8>, pats: &[Pat]) -> Result<(), AllocError> {
     Ok(())
 }
 
+// The text of a pattern.
 fn text(alloc: Global, pat: &Pat) -> Result<Vec<u8>, AllocError> {
     let mut pats = Seq::new(alloc);
     pats.push(pat.copy(alloc)?)?;
@@ -189,6 +196,7 @@ fn missing(alloc: Global, ty: u32, pats: &[Pat]) -> Result<Vec<u8>, AllocError>
     }
 }
 
+// The numbers of the patterns of a type that are the first match of no value.
 fn never_reached(alloc: Global, ty: u32, pats: &[Pat]) -> Result<Vec<usize>, AllocError>
     requires { ty < 4 }
 {
@@ -448,6 +456,7 @@ fn two_columns(alloc: Global) -> Result<Matrix, AllocError>
     })
 }
 
+// The specialized matrix of the two columns for the constructor `N`.
 fn at_nodes(alloc: Global) -> Result<Matrix, AllocError> {
     let types = types(alloc)?;
     let node = Head::Con(ConRef { ty: 1, con: 1 });
@@ -455,6 +464,7 @@ fn at_nodes(alloc: Global) -> Result<Matrix, AllocError> {
     specialize(alloc, types.as_slice(), &matrix, &node)
 }
 
+// The default matrix of the two columns.
 fn at_others(alloc: Global) -> Result<Matrix, AllocError> {
     let matrix = two_columns(alloc)?;
     default_rows(alloc, &matrix)

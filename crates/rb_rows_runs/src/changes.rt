@@ -32,6 +32,7 @@ fn digits_at(image: &str, block: usize, byte: usize) -> usize {
     0
 }
 
+// Puts bytes over those of a text from a place on, as far as the text reaches.
 fn overwrite(text: &mut Vec<u8>, at: usize, with: &[u8]) {
     for (i, new) in with.iter().enumerate() {
         if let Some(old) = text.get_mut(at.saturating_add(i)) {

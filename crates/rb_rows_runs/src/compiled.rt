@@ -65,6 +65,7 @@ const RUN: [(&str, &str, &str); 5] = [
     (UNSHOWN, "1 64 0 4", "0 8;"),
 ];
 
+// Looks what `exec` answers to the code of each file.
 fn expect_run(alloc: Global, rows: &[(&str, &str, &str)]) -> Result<(), Surprise> {
     for (file, words, wanted) in rows {
         let code = compiled(alloc, file)?;
@@ -180,6 +181,7 @@ fn lines_with(code: &[u8], start: &str) -> usize {
     count
 }
 
+// Looks how many lines of each file's code begin so.
 fn expect_lines(alloc: Global, rows: &[Lines]) -> Result<(), Surprise> {
     for (file, start, least, most) in rows {
         let code = compiled(alloc, file)?;

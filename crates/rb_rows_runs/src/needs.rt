@@ -152,6 +152,7 @@ fn expect_need(alloc: Global, need: &Need) -> Result<(), Surprise> {
     expect_run(alloc, file, calls, smaller, values, full.as_str())
 }
 
+// Looks at each program so.
 fn expect_needs(alloc: Global, needs: &[Need]) -> Result<(), Surprise> {
     for need in needs {
         expect_need(alloc, need)?;

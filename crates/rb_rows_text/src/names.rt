@@ -35,6 +35,7 @@ fn byte_of(text: &[u8], placed: &[Placed], name: &Name, at: u32) -> Option<usize
     }
 }
 
+// What a fault is, its name by the byte; None for want of memory, or where its name does not stand at its token.
 fn found_of(text: &[u8], placed: &[Placed], fault: &NameFault) -> Option<Found> {
     match fault {
         NameFault::Twice(name, at) => Some(Found::Twice(byte_of(text, placed, name, *at)?)),
@@ -56,6 +57,7 @@ fn var_of(expr: &Expr) -> Option<u32> {
     }
 }
 
+// The variables that are the two operands of the first function's body, if it has such.
 fn operands_of(program: &Program) -> Option<Found> {
     match &program.funs.get(0)?.body {
         Expr::Binary(_, _, a, b) => Some(Found::Operands(var_of(a.get())?, var_of(b.get())?)),
@@ -63,6 +65,7 @@ fn operands_of(program: &Program) -> Option<Found> {
     }
 }
 
+// What resolving a text's names gives.
 fn outcome(alloc: Global, text: &[u8]) -> Result<Found, Fail> {
     let placed = lex(alloc, text)?;
     if placed.len() >= 1 << 32 {

@@ -25,6 +25,7 @@ pub enum Found {
     Other,
 }
 
+// The byte at which a token stands; behind the last one, that of the text's end.
 fn byte_of(placed: &[Placed], at: u32, end: usize) -> usize {
     match placed.get(at as usize) {
         Some(placed) => placed.at,
@@ -32,6 +33,7 @@ fn byte_of(placed: &[Placed], at: u32, end: usize) -> usize {
     }
 }
 
+// What a fault is, its place by the byte.
 fn place_of(fault: &ReadFault, placed: &[Placed], end: usize) -> Found {
     match fault {
         ReadFault::TooDeep(at) => Found::TooDeep(byte_of(placed, *at, end)),

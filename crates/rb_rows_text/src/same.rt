@@ -2,6 +2,7 @@
 
 use rb_syntax::token::{Placed, Token};
 
+// Whether two tokens are the same.
 fn is_same(a: &Token, b: &Token) -> bool {
     match (a, b) {
         (Token::Upper(x), Token::Upper(y)) => x.as_slice() == y.as_slice(),

@@ -13,6 +13,7 @@ use rb_syntax::tree::{
 use std::alloc::{AllocError, Global};
 use std::test::Fail;
 
+// A name with these letters, which stands at a token.
 fn name(alloc: Global, at: u32, text: &[u8]) -> Result<NameTree, AllocError> {
     Ok(NameTree {
         at,
@@ -20,6 +21,7 @@ fn name(alloc: Global, at: u32, text: &[u8]) -> Result<NameTree, AllocError> {
     })
 }
 
+// A list of these items.
 fn seq<T: Drop, const N: usize>(alloc: Global, items: [T; N]) -> Result<Seq<T>, AllocError> {
     Ok(Seq::from_vec(Vec::from_array(alloc, items)?))
 }
@@ -31,6 +33,7 @@ fn is_spelled(alloc: Global, tree: &FileTree, text: &[u8]) -> Result<bool, Fail>
     Ok(are_same(tokens.as_slice(), placed.as_slice()))
 }
 
+// A parameter of type `u8` with this name, which stands at a token.
 fn param(alloc: Global, at: u32, text: &[u8]) -> Result<ParamTree, AllocError> {
     Ok(ParamTree {
         at,
@@ -53,12 +56,14 @@ fn sum(alloc: Global) -> Result<ExprTree, AllocError> {
     Ok(ExprTree::Binary(14, Op::Add, x, product))
 }
 
+// `x: u8, y: u8`
 fn params(alloc: Global) -> Result<Seq<ParamTree>, AllocError> {
     let x = param(alloc, 3, b"x")?;
     let y = param(alloc, 7, b"y")?;
     seq(alloc, [x, y])
 }
 
+// `fun main(x: u8, y: u8): u8 = add(x, mul(y, 3));`
 fn linear(alloc: Global) -> Result<FileTree, AllocError> {
     let fun = FunTree {
         name: name(alloc, 1, b"main")?,
@@ -80,6 +85,7 @@ fn a_function(rt: HostRuntime) -> Result<(), Fail> {
     Ok(())
 }
 
+// A path of these field numbers.
 fn path(alloc: Global, fields: &[u32]) -> Result<Seq<u32>, AllocError> {
     Ok(Seq::from_vec(Vec::from_slice(alloc, fields)?))
 }
@@ -101,10 +107,12 @@ fn word(alloc: Global) -> Result<LayItem, AllocError> {
     Ok(LayItem::Word(32, parts))
 }
 
+// A part of `l` bits from bit `o` on.
 fn part(o: u64, l: u64, kind: PartKind) -> PartDecl {
     PartDecl { o, l, kind }
 }
 
+// `0[0:32] -> 4 @0:8[0:8]`
 fn loc(alloc: Global) -> Result<Loc, AllocError> {
     let step = Step {
         align: 4,
@@ -121,6 +129,7 @@ fn loc(alloc: Global) -> Result<Loc, AllocError> {
     })
 }
 
+// The arm `0 => A(_)`, whose leaf is the word with a part of each kind.
 fn arm(alloc: Global) -> Result<ArmTree, AllocError> {
     let wild = seq(alloc, [PatTree::Wild(0)])?;
     let prov = PatTree::Con(0, name(alloc, 0, b"A")?, wild);
@@ -131,12 +140,14 @@ fn arm(alloc: Global) -> Result<ArmTree, AllocError> {
     })
 }
 
+// `B : { word 8 { } }`
 fn other(alloc: Global) -> Result<SplitTree, AllocError> {
     let prov = PatTree::Con(0, name(alloc, 0, b"B")?, Seq::new(alloc));
     let empty = LayItem::Word(8, Seq::new(alloc));
     Ok(SplitTree::Leaf(0, prov, seq(alloc, [empty])?))
 }
 
+// The split at the location, with the arm and an else.
 fn split(alloc: Global) -> Result<SplitTree, AllocError> {
     let other = Boxed::new(alloc, other(alloc)?)?;
     let arm = arm(alloc)?;
@@ -144,6 +155,7 @@ fn split(alloc: Global) -> Result<SplitTree, AllocError> {
     Ok(SplitTree::Split(loc(alloc)?, arms, Some(other)))
 }
 
+// The layout of `T`, of one word.
 fn layout(alloc: Global) -> Result<LayoutTree, AllocError> {
     Ok(LayoutTree {
         at: 0,
@@ -153,6 +165,7 @@ fn layout(alloc: Global) -> Result<LayoutTree, AllocError> {
     })
 }
 
+// `A(T, u64)`
 fn first_con(alloc: Global) -> Result<ConTree, AllocError> {
     let ty = TyTree::Named(name(alloc, 0, b"T")?);
     let fields = seq(alloc, [ty, TyTree::Int(64)])?;
@@ -162,6 +175,7 @@ fn first_con(alloc: Global) -> Result<ConTree, AllocError> {
     })
 }
 
+// `type T = A(T, u64) | B;`
 fn declared(alloc: Global) -> Result<TypeTree, AllocError> {
     let first = first_con(alloc)?;
     let second = ConTree {
@@ -175,6 +189,7 @@ fn declared(alloc: Global) -> Result<TypeTree, AllocError> {
     })
 }
 
+// The type, its layout, and a layout that is left to the compiler.
 fn items(alloc: Global) -> Result<Seq<ItemTree>, AllocError> {
     let mut items = Seq::new(alloc);
     items.push(ItemTree::Types(declared(alloc)?))?;

@@ -59,6 +59,7 @@ fn no_widths(rt: HostRuntime) -> Result<(), Fail> {
     Ok(())
 }
 
+// Whether the tokens are one lower-case name, which is this text.
 fn is_lower(tokens: &[Placed], text: &[u8]) -> bool {
     match tokens {
         [
@@ -140,6 +141,7 @@ const PLACES: &[usize] = &[0, 6, 7, 8, 9, 29, 30, 32, 38, 41];
 
 const PIECES: &[u8] = b"Cons_2(x,18446744073709551615)=>=//=>\n-> 0//";
 
+// The byte at which a token stands, if there is one with this number.
 fn place_at(tokens: &[Placed], i: usize) -> Option<usize> {
     Some(tokens.get(i)?.at)
 }

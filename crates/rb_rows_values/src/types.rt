@@ -34,6 +34,7 @@ const TYPES: &[(&[u8], &[(&[u8], &[Ty])])] = &[
     (b"Pair", &[(b"Pair", &[Ty::Int(8), Ty::Int(8)])]),
 ];
 
+// A constructor with this name and these types of fields.
 fn con(alloc: Global, name: &[u8], fields: &[Ty]) -> Result<Con, AllocError> {
     Ok(Con {
         name: Seq::from_vec(Vec::from_slice(alloc, name)?),
@@ -41,6 +42,7 @@ fn con(alloc: Global, name: &[u8], fields: &[Ty]) -> Result<Con, AllocError> {
     })
 }
 
+// A type with this name and these constructors, each a name and types of fields.
 fn data(alloc: Global, name: &[u8], cons: &[(&[u8], &[Ty])]) -> Result<DataDecl, AllocError> {
     let mut decl = DataDecl {
         name: Seq::from_vec(Vec::from_slice(alloc, name)?),
