@@ -18,7 +18,7 @@ use Rattle.rb_layout.specs.declared.evidence.Why.TheVariants.{NotHeld, HeldTwice
 use Rattle.rb_layout.specs.Positions.{Open, open_positions}
 use Rattle.rb_layout.specs.Flattening.{same_path, IsOpenIn}
 use Rattle.rb_layout.specs.Items.{Item, WrittenPart, content_paths, item_paths, paths_of}
-use Rattle.rb_layout.specs.A6.{FailsHeld, HoldsEach, HoldsOnce, units_of, holds_unit, held, held_in_part, held_in_word, held_in_block}
+use Rattle.rb_layout.specs.A6.{FailsHeld, HoldsEach, HoldsOnce, units_of, holds_unit, times_held, times_in_part, times_in_word, times_in_block}
 use Rattle.rb_agree.specs.declared.runs.Run.{Run}
 use Rattle.rb_agree.specs.declared.items.Written.{Written}
 use Rattle.rb_agree.specs.declared.items.Item as D
@@ -68,19 +68,19 @@ module _ (path : List ℕ) (i : ℕ) where
       omega (arith, here, rest, both, added)
 
   module _ (ty : Ty) where
-    times-part : (p : Part) → times (part_runs ty path p) i ≡ held_in_part ty path i p
+    times-part : (p : Part) → times (part_runs ty path p) i ≡ times_in_part ty path i p
     times-part p = times-kind ty p.l p.kind
 
-    times-word : (f : FlatWord) → times (word_runs ty path f) i ≡ held_in_word ty path i f
-    times-word f = times-flat (part_runs ty path) (held_in_part ty path i) times-part f.parts
+    times-word : (f : FlatWord) → times (word_runs ty path f) i ≡ times_in_word ty path i f
+    times-word f = times-flat (part_runs ty path) (times_in_part ty path i) times-part f.parts
 
-    times-block : (b : Block) → times (block_runs ty path b) i ≡ held_in_block ty path i b
-    times-block b = times-flat (word_runs ty path) (held_in_word ty path i) times-word b.words
+    times-block : (b : Block) → times (block_runs ty path b) i ≡ times_in_block ty path i b
+    times-block b = times-flat (word_runs ty path) (times_in_word ty path i) times-word b.words
 
-    pub times-leaf : (leaf : Leaf) → times (leaf_runs leaf ty path) i ≡ held leaf ty path i
+    pub times-leaf : (leaf : Leaf) → times (leaf_runs leaf ty path) i ≡ times_held leaf ty path i
     times-leaf leaf =
-        let root = times-flat (word_runs ty path) (held_in_word ty path i) times-word leaf.root in
-        let blocks = times-flat (block_runs ty path) (held_in_block ty path i) times-block leaf.blocks in
+        let root = times-flat (word_runs ty path) (times_in_word ty path i) times-word leaf.root in
+        let blocks = times-flat (block_runs ty path) (times_in_block ty path i) times-block leaf.blocks in
         let both = times-append (flat_map (word_runs ty path) leaf.root) (flat_map (block_runs ty path) leaf.blocks) in
         omega (arith, root, blocks, both)
 
@@ -179,11 +179,11 @@ module _ (p : Program) (leaf : Leaf) where
     place-fails : (why : Why) → FailsEach p leaf why → FailsHeld p leaf items why
     place-fails (NotHeld q j) h = (
       record { number = h.0; place = h.1; is_open = h.2; is_path = sym h.3.0; is_unit = h.3.1 },
-      ap (λ (x : List ℕ). held leaf h.1.ty x j) h.3.0 ∙ h.3.2,
+      ap (λ (x : List ℕ). times_held leaf h.1.ty x j) h.3.0 ∙ h.3.2,
     )
     place-fails (HeldTwice q j) h = (
       record { number = h.0; place = h.1; is_open = h.2; is_path = sym h.3.0; is_unit = h.3.1 },
-      subst (λ (x : List ℕ). 1 < held leaf h.1.ty x j) (sym h.3.0) h.3.2,
+      subst (λ (x : List ℕ). 1 < times_held leaf h.1.ty x j) (sym h.3.0) h.3.2,
     )
     place-fails why h = absurd h.3
 

@@ -15,7 +15,7 @@ use Rattle.rb_layout.specs.declared.layout.Kind.TheVariants.{Const, Pointer}
 use Rattle.rb_layout.specs.Positions.{Open, open_positions}
 use Rattle.rb_layout.specs.Flattening.{IsOpenIn, Laid, decl_of}
 use Rattle.rb_layout.specs.Items.{Item, content_paths, item_paths, items_of, paths_of}
-use Rattle.rb_layout.specs.A6.{HoldsOnce, held, held_in_block, held_in_word, holds_unit, units_of}
+use Rattle.rb_layout.specs.A6.{HoldsOnce, times_held, times_in_block, times_in_word, holds_unit, units_of}
 use Rattle.rb_layout.proofs.FlatForms.{Each}
 use Rattle.rb_auto.specs.declared.field_words.FieldWord.{FieldWord}
 use Rattle.rb_auto.specs.declared.form.Form.TheVariants.{Boxed}
@@ -39,13 +39,13 @@ use Rattle.rb_auto.proofs.Holding.{EachPath, IsField, const-none, count, count-a
 
 module _ (ty : Ty) (f i : ℕ) (decls : List LayoutDecl) (opens : List Open) where
   abbrev in_word : FlatWord → ℕ
-  in_word = held_in_word ty (f ∷ []) i
+  in_word = times_in_word ty (f ∷ []) i
 
   abbrev in_words : List FlatWord → ℕ
   in_words fs = sum (map in_word fs)
 
   abbrev in_block : Block → ℕ
-  in_block = held_in_block ty (f ∷ []) i
+  in_block = times_in_block ty (f ∷ []) i
 
   abbrev in_blocks : List Block → ℕ
   in_blocks bs = sum (map in_block bs)
@@ -169,20 +169,20 @@ box-holds-its-fields p decls rooms t fields is n leaf e =
     let root : leaf.root ≡ record { width = 64; parts = box_parts opens n ws } ∷ [] =
     ap (λ (l : Leaf). l.root) c.2 ∙ root-is p rooms t Boxed decls n c.0 ∙ ap (λ (x : Laid (List Part)). record { width = 64; parts = x.it } ∷ []) laid in
     let blocks : leaf.blocks ≡ box_blocks opens ws = ap (λ (l : Leaf). l.blocks) c.2 ∙ blocks-are p rooms t Boxed decls n c.0 ∙ ap (λ (x : Laid (List Part)). x.blocks) laid in
-    let once : (f : ℕ) (ty : Ty) (i : ℕ) → slice_get all f ≡ Some ty → i < units_of (with_layouts p decls) ty → held leaf ty (f ∷ []) i ≡ 1 =
+    let once : (f : ℕ) (ty : Ty) (i : ℕ) → slice_get all f ≡ Some ty → i < units_of (with_layouts p decls) ty → times_held leaf ty (f ∷ []) i ≡ 1 =
     λ f ty i at lt.
     let own = own-field p decls rooms ty f i (field_opens 0 all) (field-type all f ty at) (fields.each n c.0 f ty c.1 at) lt in
     let counted : count ty f i decls opens ws ≡ 1 =
     ap (λ (os : List Open). count ty f i decls os ws) opens_at_is ∙ own-fields p decls rooms ty f i (field_opens 0 all) 0 f all (zero-add f) at own in
     let whole = box-count ty f i decls opens n ws in
-    let roots : sum (map (held_in_word ty (f ∷ []) i) leaf.root) ≡ 0 + in_parts ty f i decls opens (box_parts opens n ws) = ap (λ (fs : List FlatWord). sum (map (held_in_word ty (f ∷ []) i) fs)) root in
-    let inside = ap (λ (bs : List Block). sum (map (held_in_block ty (f ∷ []) i) bs)) blocks in
+    let roots : sum (map (times_in_word ty (f ∷ []) i) leaf.root) ≡ 0 + in_parts ty f i decls opens (box_parts opens n ws) = ap (λ (fs : List FlatWord). sum (map (times_in_word ty (f ∷ []) i) fs)) root in
+    let inside = ap (λ (bs : List Block). sum (map (times_in_block ty (f ∷ []) i) bs)) blocks in
     omega (arith, roots, inside, whole, counted) in
     record {
       each = λ k o i at lt.
           let f = open-field all k o (ap (λ (os : List Open). slice_get os k) (sym opens_is) ∙ at) in
           let lt2 : i < units_of (with_layouts p decls) f.0 = subst (λ (x : Open). i < units_of (with_layouts p decls) x.ty) f.2 lt in
-          subst (λ (x : Open). held leaf x.ty x.path i ≡ 1) (sym f.2) (once k f.0 i f.1 lt2);
+          subst (λ (x : Open). times_held leaf x.ty x.path i ≡ 1) (sym f.2) (once k f.0 i f.1 lt2);
       no_other = λ k path at.
           subst (λ (os : List Open). IsOpenIn os path) (sym opens_is)
           (all-names all (box_written n ws) (box-names all n ws (of-fields all p rooms 0 all (λ j ty h. ap (λ m. slice_get all m) (zero-add j) ∙ h))) k path

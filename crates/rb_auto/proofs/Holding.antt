@@ -20,7 +20,7 @@ use Rattle.rb_layout.specs.declared.layout.Kind.TheVariants.{Const, Bits, Word}
 use Rattle.rb_layout.specs.Positions.{Open, open_positions}
 use Rattle.rb_layout.specs.Flattening.{Laid, in_turn, kind_if_open, kind_laid, part_laid, parts_of, same_path, type_at, whole_kind, without_blocks, IsOpenIn}
 use Rattle.rb_layout.specs.Items.{Item, AWord, WrittenPart, content_paths, items_in, items_of, leaves_in, paths_of}
-use Rattle.rb_layout.specs.A6.{held, held_in_block, held_in_part, held_in_word, holds_unit, units_of}
+use Rattle.rb_layout.specs.A6.{times_held, times_in_block, times_in_part, times_in_word, holds_unit, units_of}
 use Rattle.rb_layout.proofs.FlatForms.{Each}
 use Rattle.rb_layout.proofs.Computing.{part_at, const_at, whole_at, word_of_laid}
 use Rattle.rb_auto.specs.declared.field_words.FieldWord.{FieldWord}
@@ -108,14 +108,14 @@ module _ (ty : Ty) (f i : ℕ) where
 
     -- what parts hold of it
     abbrev pub in_parts : List Part → ℕ
-    in_parts ps = sum (map (held_in_part ty (f ∷ []) i) ps)
+    in_parts ps = sum (map (times_in_part ty (f ∷ []) i) ps)
 
     pub parts-append : (xs ys : List Part) → in_parts (xs ++ ys) ≡ in_parts xs + in_parts ys
     parts-append [] ys = sym (zero-add (in_parts ys))
     parts-append (x ∷ xs) ys =
         let rest = parts-append xs ys in
-        let a = sum_by-cons (λ n. n) (held_in_part ty (f ∷ []) i x) (map (held_in_part ty (f ∷ []) i) (xs ++ ys)) in
-        let b = sum_by-cons (λ n. n) (held_in_part ty (f ∷ []) i x) (map (held_in_part ty (f ∷ []) i) xs) in
+        let a = sum_by-cons (λ n. n) (times_in_part ty (f ∷ []) i x) (map (times_in_part ty (f ∷ []) i) (xs ++ ys)) in
+        let b = sum_by-cons (λ n. n) (times_in_part ty (f ∷ []) i x) (map (times_in_part ty (f ∷ []) i) xs) in
         omega (arith, rest, a, b)
 
     pub in-kind : (o l : ℕ) (kind : Option Kind) → in_parts (parts_of o l kind) ≡ units_in l kind
@@ -308,21 +308,21 @@ holds-its-fields p decls rooms t tag width fields is n leaf e =
     let word : FlatWord = record { width = width; parts = parts } in
     let root : leaf.root ≡ word ∷ [] = ap (λ (l : Leaf). l.root) c.2 ∙ root-is p rooms t form decls n c.0 in
     let none : leaf.blocks ≡ [] = ap (λ (l : Leaf). l.blocks) c.2 ∙ blocks-are p rooms t form decls n c.0 ∙ (packed-plain decls (opens_at p rooms t form decls n c.0) tag n ws).none in
-    let once : (f : ℕ) (ty : Ty) (i : ℕ) → slice_get all f ≡ Some ty → i < units_of (with_layouts p decls) ty → held leaf ty (f ∷ []) i ≡ 1 =
+    let once : (f : ℕ) (ty : Ty) (i : ℕ) → slice_get all f ≡ Some ty → i < units_of (with_layouts p decls) ty → times_held leaf ty (f ∷ []) i ≡ 1 =
     λ f ty i at lt.
     let own = own-field p decls rooms ty f i (field_opens 0 all) (field-type all f ty at) (fields.each n c.0 f ty c.1 at) lt in
     let counted = own-fields p decls rooms ty f i (field_opens 0 all) 0 f all (zero-add f) at own in
     let laid : in_parts ty f i decls (field_opens 0 all) parts ≡ count ty f i decls (field_opens 0 all) ws =
     ap (λ (os : List Open). in_parts ty f i decls (field_opens 0 all) (in_turn (map (part_laid decls os) (packed_parts tag n ws)) 0).it) opens_at_is
     ∙ packed-laid ty f i decls (field_opens 0 all) tag n ws in
-    let roots : sum (map (held_in_word ty (f ∷ []) i) leaf.root) ≡ 0 + held_in_word ty (f ∷ []) i word = ap (λ (fs : List FlatWord). sum (map (held_in_word ty (f ∷ []) i) fs)) root in
-    let blocks : sum (map (held_in_block ty (f ∷ []) i) leaf.blocks) ≡ 0 = ap (λ (bs : List Block). sum (map (held_in_block ty (f ∷ []) i) bs)) none in
+    let roots : sum (map (times_in_word ty (f ∷ []) i) leaf.root) ≡ 0 + times_in_word ty (f ∷ []) i word = ap (λ (fs : List FlatWord). sum (map (times_in_word ty (f ∷ []) i) fs)) root in
+    let blocks : sum (map (times_in_block ty (f ∷ []) i) leaf.blocks) ≡ 0 = ap (λ (bs : List Block). sum (map (times_in_block ty (f ∷ []) i) bs)) none in
     omega (arith, roots, blocks, laid, counted) in
     record {
       each = λ k o i at lt.
           let f = open-field all k o (ap (λ (os : List Open). slice_get os k) (sym opens_is) ∙ at) in
           let lt2 : i < units_of (with_layouts p decls) f.0 = subst (λ (x : Open). i < units_of (with_layouts p decls) x.ty) f.2 lt in
-          subst (λ (x : Open). held leaf x.ty x.path i ≡ 1) (sym f.2) (once k f.0 i f.1 lt2);
+          subst (λ (x : Open). times_held leaf x.ty x.path i ≡ 1) (sym f.2) (once k f.0 i f.1 lt2);
       no_other = λ k path at.
           subst (λ (os : List Open). IsOpenIn os path) (sym opens_is)
           (paths-append (field_opens 0 all) (flat_map (λ (q : WrittenPart). content_paths q.content) (written_parts tag n ws)) []

@@ -14,7 +14,7 @@ use Rattle.rb_core.specs.WellNumbered.{is_type}
 use Rattle.rb_bits.specs.Words.{take_of}
 use Rattle.rb_bits.proofs.WordLemmas.{bit_at_take, take_fits}
 use Rattle.rb_layout.specs.A6 as A6
-use Rattle.rb_layout.specs.A6.{holds_unit, held}
+use Rattle.rb_layout.specs.A6.{holds_unit, times_held}
 use Rattle.rb_layout.specs.Agreement.{Agrees}
 use Rattle.rb_layout.specs.Flattening.{flat_layouts, shape_in, shape_of, type_at}
 use Rattle.rb_layout.specs.Positions.{Open, layout_of, open_positions}
@@ -191,12 +191,12 @@ module _ (p : Program) (typed : IsTyped p) (agrees : Agrees p) where
         let root = (lawful p agrees typed).provenances.root t layout n leaf is_layout is_number in
         lt_is s (length p.types) (ap (is_type p.types) (sym o.4) ∙ positions_typed p.types typed.numbered.types leaf.prov t root o.0 o.1 o.2)
 
-    few : (path : List ℕ) (ty : Ty) (i : ℕ) → type_at opens path ≡ Some ty → i < A6.units_of p ty → held leaf ty path i ≤ 1
+    few : (path : List ℕ) (ty : Ty) (i : ℕ) → type_at opens path ≡ Some ty → i < A6.units_of p ty → times_held leaf ty path i ≤ 1
     few path ty i e lt =
         let o = type-open opens path ty e in
         let one = (agrees.a6 t layout n leaf is_layout is_number).each o.0 o.1 i o.2 (subst (λ (y : Ty). i < A6.units_of p y) (sym o.4) lt) in
-        let a = ap (λ (y : Ty). held leaf y o.1.path i) (sym o.4) in
-        let b = ap (λ q. held leaf ty q i) (sym o.3) in
+        let a = ap (λ (y : Ty). times_held leaf y o.1.path i) (sym o.4) in
+        let b = ap (λ q. times_held leaf ty q i) (sym o.3) in
         omega (arith, one, a, b)
 
     module _ (r : WordRef) (f : FlatWord) (k : ℕ) (q : Part) (is_word : flat_at leaf r ≡ Some f) (is_part : slice_get f.parts k ≡ Some q) where
@@ -207,7 +207,7 @@ module _ (p : Program) (typed : IsTyped p) (agrees : Agrees p) where
       there = part_in_order leaf ok.flat low r f k q is_word is_part
 
       -- no other part of the order holds the unit
-      only_spot : (ty : Ty) (path : List ℕ) (i : ℕ) → held leaf ty path i ≤ 1 → holds_unit ty path i q.l q.kind ≡ true → (s : PartAt) → In s (order_of leaf) → holds_unit ty path i s.part.l s.part.kind ≡ true → s ≡ spot
+      only_spot : (ty : Ty) (path : List ℕ) (i : ℕ) → times_held leaf ty path i ≤ 1 → holds_unit ty path i q.l q.kind ≡ true → (s : PartAt) → In s (order_of leaf) → holds_unit ty path i s.part.l s.part.kind ≡ true → s ≡ spot
       only_spot ty path i one h s at g =
           let x = order_spots leaf s at in
           let a : HeldAt leaf ty path i x.ref x.word s.part = record { number = x.number; is_word = x.is_word; is_part = x.is_part; holds = g } in

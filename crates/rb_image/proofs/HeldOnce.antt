@@ -5,7 +5,7 @@ use Rattle.std.proofs.lemmas.Grind.{common_steps}
 use Rattle.std.proofs.lemmas.Option.{same_Some}
 use Rattle.rb_core.specs.declared.types.Ty.{Ty}
 use Rattle.rb_core.specs.declared.types.Ty.TheVariants.{Int, Named}
-use Rattle.rb_layout.specs.A6.{holds_unit, held_in_part, held_in_word, held_in_block, held}
+use Rattle.rb_layout.specs.A6.{holds_unit, times_in_part, times_in_word, times_in_block, times_held}
 use Rattle.rb_layout.specs.declared.layout.Block.{Block}
 use Rattle.rb_layout.specs.declared.layout.FlatWord.{FlatWord}
 use Rattle.rb_layout.specs.declared.layout.Kind.{Kind}
@@ -66,17 +66,17 @@ module _ (leaf : Leaf) (ty : Ty) (path : List ℕ) (i : ℕ) where
     pub is_part : slice_get f.parts number ≡ Some p
     pub holds : holds_unit ty path i p.l p.kind ≡ true
 
-  part_counts : (p : Part) → holds_unit ty path i p.l p.kind ≡ true → 1 ≤ held_in_part ty path i p
-  part_counts p e = let one : held_in_part ty path i p ≡ 1 = ap (λ t. if t then 1 else 0) e in omega (arith, one)
+  part_counts : (p : Part) → holds_unit ty path i p.l p.kind ≡ true → 1 ≤ times_in_part ty path i p
+  part_counts p e = let one : times_in_part ty path i p ≡ 1 = ap (λ t. if t then 1 else 0) e in omega (arith, one)
 
-  word_counts : (f : FlatWord) (k : ℕ) (p : Part) → slice_get f.parts k ≡ Some p → holds_unit ty path i p.l p.kind ≡ true → 1 ≤ held_in_word ty path i f
-  word_counts f k p at e = let a = at_least (held_in_part ty path i) f.parts k p at in let b = part_counts p e in omega (arith, a, b)
+  word_counts : (f : FlatWord) (k : ℕ) (p : Part) → slice_get f.parts k ≡ Some p → holds_unit ty path i p.l p.kind ≡ true → 1 ≤ times_in_word ty path i f
+  word_counts f k p at e = let a = at_least (times_in_part ty path i) f.parts k p at in let b = part_counts p e in omega (arith, a, b)
 
-  module _ (few : held leaf ty path i ≤ 1) where
-    root_few : sum (map (held_in_word ty path i) leaf.root) ≤ 1
+  module _ (few : times_held leaf ty path i ≤ 1) where
+    root_few : sum (map (times_in_word ty path i) leaf.root) ≤ 1
     root_few = omega (arith, few)
 
-    blocks_few : sum (map (held_in_block ty path i) leaf.blocks) ≤ 1
+    blocks_few : sum (map (times_in_block ty path i) leaf.blocks) ≤ 1
     blocks_few = omega (arith, few)
 
     -- that a word counts in a block
@@ -84,53 +84,53 @@ module _ (leaf : Leaf) (ty : Ty) (path : List ℕ) (i : ℕ) where
       block : Block
       is_block : slice_get leaf.blocks b ≡ Some block
       is_word : slice_get block.words j ≡ Some f
-      counts : 1 ≤ held_in_block ty path i block
+      counts : 1 ≤ times_in_block ty path i block
 
-    in_block : (b j : ℕ) (f : FlatWord) → 1 ≤ held_in_word ty path i f → (o : Option Block) → slice_get leaf.blocks b ≡ o → slice_get (words_of_block o) j ≡ Some f → InBlock b j f
+    in_block : (b j : ℕ) (f : FlatWord) → 1 ≤ times_in_word ty path i f → (o : Option Block) → slice_get leaf.blocks b ≡ o → slice_get (words_of_block o) j ≡ Some f → InBlock b j f
     in_block b j f one None e h = absurd cc
     in_block b j f one (Some block) e h = record {
       block = block;
       is_block = e;
       is_word = h;
-      counts = (let a = at_least (held_in_word ty path i) block.words j f h in omega (arith, a, one));
+      counts = (let a = at_least (times_in_word ty path i) block.words j f h in omega (arith, a, one));
     }
 
-    both_sides : (j b : ℕ) (f g : FlatWord) (k : ℕ) → 1 ≤ held_in_word ty path i f → slice_get leaf.root j ≡ Some f → InBlock b k g → ⊥
+    both_sides : (j b : ℕ) (f g : FlatWord) (k : ℕ) → 1 ≤ times_in_word ty path i f → slice_get leaf.root j ≡ Some f → InBlock b k g → ⊥
     both_sides j b f g k one e x =
-        let a = at_least (held_in_word ty path i) leaf.root j f e in
-        let c = at_least (held_in_block ty path i) leaf.blocks b x.block x.is_block in
+        let a = at_least (times_in_word ty path i) leaf.root j f e in
+        let c = at_least (times_in_block ty path i) leaf.blocks b x.block x.is_block in
         let d = x.counts in
         omega (arith, few, one, a, c, d)
 
-    in_blocks : (b c j k : ℕ) (f g : FlatWord) → 1 ≤ held_in_word ty path i f → 1 ≤ held_in_word ty path i g → InBlock b j f → InBlock c k g → (b ≡ c) × (j ≡ k)
+    in_blocks : (b c j k : ℕ) (f g : FlatWord) → 1 ≤ times_in_word ty path i f → 1 ≤ times_in_word ty path i g → InBlock b j f → InBlock c k g → (b ≡ c) × (j ≡ k)
     in_blocks b c j k f g one two x y =
-        let same = one_place (held_in_block ty path i) leaf.blocks blocks_few b c x.block y.block x.is_block x.counts y.is_block y.counts in
+        let same = one_place (times_in_block ty path i) leaf.blocks blocks_few b c x.block y.block x.is_block x.counts y.is_block y.counts in
         let block : x.block ≡ y.block = same_Some x.block y.block (sym x.is_block ∙ ap (slice_get leaf.blocks) same ∙ y.is_block) in
-        let a = at_least (held_in_block ty path i) leaf.blocks b x.block x.is_block in
+        let a = at_least (times_in_block ty path i) leaf.blocks b x.block x.is_block in
         let l = blocks_few in
-        (same, one_place (held_in_word ty path i) x.block.words (omega (arith, a, l)) j k f g x.is_word one (ap (λ (z : Block). slice_get z.words k) block ∙ y.is_word) two)
+        (same, one_place (times_in_word ty path i) x.block.words (omega (arith, a, l)) j k f g x.is_word one (ap (λ (z : Block). slice_get z.words k) block ∙ y.is_word) two)
 
-    same_ref : (o q : Option ℕ) (j k : ℕ) (f g : FlatWord) → 1 ≤ held_in_word ty path i f → 1 ≤ held_in_word ty path i g → slice_get (words_in leaf o) j ≡ Some f → slice_get (words_in leaf q) k ≡ Some g → (o ≡ q) × (j ≡ k)
-    same_ref None None j k f g one two e h = (refl, one_place (held_in_word ty path i) leaf.root root_few j k f g e one h two)
+    same_ref : (o q : Option ℕ) (j k : ℕ) (f g : FlatWord) → 1 ≤ times_in_word ty path i f → 1 ≤ times_in_word ty path i g → slice_get (words_in leaf o) j ≡ Some f → slice_get (words_in leaf q) k ≡ Some g → (o ≡ q) × (j ≡ k)
+    same_ref None None j k f g one two e h = (refl, one_place (times_in_word ty path i) leaf.root root_few j k f g e one h two)
     same_ref None (Some c) j k f g one two e h = absurd (both_sides j c f g k one e (in_block c k g two (slice_get leaf.blocks c) refl h))
     same_ref (Some b) None j k f g one two e h = absurd (both_sides k b g f j two h (in_block b j f one (slice_get leaf.blocks b) refl e))
     same_ref (Some b) (Some c) j k f g one two e h =
         let s = in_blocks b c j k f g one two (in_block b j f one (slice_get leaf.blocks b) refl e) (in_block c k g two (slice_get leaf.blocks c) refl h) in
         (ap Some s.0, s.1)
 
-    word_few : (r : WordRef) (f : FlatWord) → flat_at leaf r ≡ Some f → held_in_word ty path i f ≤ 1
+    word_few : (r : WordRef) (f : FlatWord) → flat_at leaf r ≡ Some f → times_in_word ty path i f ≤ 1
     word_few r f e = go r.block r.word e
       where
-        inner : (b j : ℕ) (o : Option Block) → slice_get leaf.blocks b ≡ o → slice_get (words_of_block o) j ≡ Some f → held_in_word ty path i f ≤ 1
+        inner : (b j : ℕ) (o : Option Block) → slice_get leaf.blocks b ≡ o → slice_get (words_of_block o) j ≡ Some f → times_in_word ty path i f ≤ 1
         inner b j None x h = absurd cc
         inner b j (Some block) x h =
-            let a = at_least (held_in_word ty path i) block.words j f h in
-            let c = at_least (held_in_block ty path i) leaf.blocks b block x in
+            let a = at_least (times_in_word ty path i) block.words j f h in
+            let c = at_least (times_in_block ty path i) leaf.blocks b block x in
             let l = blocks_few in
             omega (arith, a, c, l)
 
-        go : (o : Option ℕ) (j : ℕ) → slice_get (words_in leaf o) j ≡ Some f → held_in_word ty path i f ≤ 1
-        go None j h = let a = at_least (held_in_word ty path i) leaf.root j f h in let l = root_few in omega (arith, a, l)
+        go : (o : Option ℕ) (j : ℕ) → slice_get (words_in leaf o) j ≡ Some f → times_in_word ty path i f ≤ 1
+        go None j h = let a = at_least (times_in_word ty path i) leaf.root j f h in let l = root_few in omega (arith, a, l)
         go (Some b) j h = inner b j (slice_get leaf.blocks b) refl h
 
     pub record AreOne (r q : WordRef) (f g : FlatWord) (p s : Part) : Type 0 where
@@ -147,5 +147,5 @@ module _ (leaf : Leaf) (ty : Ty) (path : List ℕ) (i : ℕ) where
         let ref : r ≡ q = ap (λ (o : Option ℕ). record { block = o; word = r.word }) same.0 ∙ ap (λ (j : ℕ). record { block = q.block; word = j }) same.1 in
         let word : f ≡ g = same_Some f g (sym x.is_word ∙ ap (flat_at leaf) ref ∙ y.is_word) in
         let at : slice_get f.parts y.number ≡ Some s = ap (λ (z : FlatWord). slice_get z.parts y.number) word ∙ y.is_part in
-        let k : x.number ≡ y.number = one_place (held_in_part ty path i) f.parts (word_few r f x.is_word) x.number y.number p s x.is_part (part_counts p x.holds) at (part_counts s y.holds) in
+        let k : x.number ≡ y.number = one_place (times_in_part ty path i) f.parts (word_few r f x.is_word) x.number y.number p s x.is_part (part_counts p x.holds) at (part_counts s y.holds) in
         record { ref = ref; word = word; part = same_Some p s (sym x.is_part ∙ ap (slice_get f.parts) k ∙ at) }

@@ -23,7 +23,7 @@ use Rattle.rb_layout.specs.A2.{HasRoot, FailsRoot}
 use Rattle.rb_layout.specs.A3.{ItemFits, FailsItem, PartsFit, FailsParts, Fits, LiesIn, PartAt, Overlaps, IsIn}
 use Rattle.rb_layout.specs.A4.{HasBlocks, FailsBlocks, IsBlockLength, IsBlockWidth}
 use Rattle.rb_layout.specs.A5.{IsComplete, FailsComplete, IsApart, FailsApart}
-use Rattle.rb_layout.specs.A6.{HoldsOnce, FailsHeld, held}
+use Rattle.rb_layout.specs.A6.{HoldsOnce, FailsHeld, times_held}
 use Rattle.rb_layout.specs.A7.{MeetsTest, FailsTest, MeetsAll, FailsTests}
 use Rattle.rb_layout.specs.A8.{AllSplitWell, FailsSplits, length_of}
 use Rattle.rb_layout.specs.A9.{FlattensNoPointer, FailsNoPointer, FailsFlattening, Flattens}
@@ -125,10 +125,10 @@ no_cycle R t (s ∷ ts) h f = h ts (subst (λ k. IsCycle R (k ∷ ts)) f.0 f.1)
 not_held : (p : Program) (leaf : Leaf) (items : List Item) (why : Why) → HoldsOnce p leaf items → FailsHeld p leaf items why → ⊥
 not_held p leaf items (NotHeld path i) h f =
     let once = h.each f.0.number f.0.place i f.0.is_open f.0.is_unit in
-    let none = ap (λ (q : List ℕ). held leaf f.0.place.ty q i) f.0.is_path ∙ f.1 in
+    let none = ap (λ (q : List ℕ). times_held leaf f.0.place.ty q i) f.0.is_path ∙ f.1 in
     omega (arith, once, none)
 not_held p leaf items (HeldTwice path i) h f =
-    let once = sym (ap (λ (q : List ℕ). held leaf f.0.place.ty q i) f.0.is_path) ∙ h.each f.0.number f.0.place i f.0.is_open f.0.is_unit in
+    let once = sym (ap (λ (q : List ℕ). times_held leaf f.0.place.ty q i) f.0.is_path) ∙ h.each f.0.number f.0.place i f.0.is_open f.0.is_unit in
     omega (arith, once, f.1)
 not_held p leaf items (NotOpen path) h f = f.1 (h.no_other f.0.0 path f.0.1)
 not_held p leaf items why h f = f

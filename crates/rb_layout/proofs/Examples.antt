@@ -30,7 +30,7 @@ use Rattle.rb_layout.specs.Flattening.{flat_layouts}
 use Rattle.rb_layout.specs.Words.{size_of, begins_at}
 use Rattle.rb_layout.specs.Locations.{reached_at, known}
 use Rattle.rb_layout.specs.Excluded.{HasNull, Bars, null}
-use Rattle.rb_layout.specs.A6.{held}
+use Rattle.rb_layout.specs.A6.{times_held}
 use Rattle.rb_layout.proofs.Computing.{flat_rules}
 
 -- Writing ---------------------------------------------------------------------------------------
@@ -135,10 +135,10 @@ cons_free = refl
 no_such_word : reached_at cons_leaf (root 1 0 1) ≡ None
 no_such_word = refl
 
-each_bit_once : held cons_leaf (Int 64) (0 ∷ []) 63 ≡ 1
+each_bit_once : times_held cons_leaf (Int 64) (0 ∷ []) 63 ≡ 1
 each_bit_once = refl
 
-rest_once : held cons_leaf (Named 0) (1 ∷ []) 0 ≡ 1
+rest_once : times_held cons_leaf (Named 0) (1 ∷ []) 0 ≡ 1
 rest_once = refl
 
 -- type Color = Red | Black; layout Color <1> = split 0[0:1] { 0 => Red : { word 1 { [0:1] = 0 } } 1 => Black : { word 1 { [0:1] = 1 } } };
@@ -261,10 +261,10 @@ branch_is : flat_layouts (program_of (data_type ((Int 3 ∷ Int 5 ∷ Int 5 ∷ 
     ≡ record { ty = 0; shape = 32 ∷ []; tree = T.Leaf 0; leaves = branch_leaf ∷ [] } ∷ []
 branch_is = simp flat_rules
 
-bit_10_once : held branch_leaf (Int 12) (3 ∷ []) 10 ≡ 1
+bit_10_once : times_held branch_leaf (Int 12) (3 ∷ []) 10 ≡ 1
 bit_10_once = refl
 
-bit_9_once : held branch_leaf (Int 12) (3 ∷ []) 9 ≡ 1
+bit_9_once : times_held branch_leaf (Int 12) (3 ∷ []) 9 ≡ 1
 bit_9_once = refl
 
 -- type Shape = Dot(u8) | Box(u32, u32); layout Shape <32> = split 0[0:32] -> 4 @0:8[0:8] {

@@ -35,21 +35,22 @@ holds_unit (Named s) path i l (Word p j) = same_path p path && (j == i)
 holds_unit (Named s) path i l (Pointer align b) = false
 
 -- 1 where the part holds unit i of the position at the path, which has this type, and else 0
-abbrev pub held_in_part : Ty → List ℕ → ℕ → Part → ℕ
-held_in_part ty path i p = if holds_unit ty path i p.l p.kind then 1 else 0
+abbrev pub times_in_part : Ty → List ℕ → ℕ → Part → ℕ
+times_in_part ty path i p = if holds_unit ty path i p.l p.kind then 1 else 0
 
 -- how many parts of a word hold unit i of the position at the path, which has this type
-abbrev pub held_in_word : Ty → List ℕ → ℕ → FlatWord → ℕ
-held_in_word ty path i f = sum (map (held_in_part ty path i) f.parts)
+abbrev pub times_in_word : Ty → List ℕ → ℕ → FlatWord → ℕ
+times_in_word ty path i f = sum (map (times_in_part ty path i) f.parts)
 
 -- how many parts of a block's words hold unit i of the position at the path, which has this type
-abbrev pub held_in_block : Ty → List ℕ → ℕ → Block → ℕ
-held_in_block ty path i b = sum (map (held_in_word ty path i) b.words)
+abbrev pub times_in_block : Ty → List ℕ → ℕ → Block → ℕ
+times_in_block ty path i b = sum (map (times_in_word ty path i) b.words)
 
--- how many parts of a leaf, in its root words and its blocks, hold unit i of the position at the path, which has this
--- type
-abbrev pub held : Leaf → Ty → List ℕ → ℕ → ℕ
-held leaf ty path i = sum (map (held_in_word ty path i) leaf.root) + sum (map (held_in_block ty path i) leaf.blocks)
+-- how many times a leaf holds unit i of the position at the path, which has this type: the parts that hold it, in its
+-- root words and its blocks
+abbrev pub times_held : Leaf → Ty → List ℕ → ℕ → ℕ
+times_held leaf ty path i =
+    sum (map (times_in_word ty path i) leaf.root) + sum (map (times_in_block ty path i) leaf.blocks)
 
 -- how many units a position of this type has: an integer its bits, a data type the words of its shape, which are none
 -- without a layout
@@ -60,7 +61,7 @@ units_of p (Named s) = length (shape_of p.layouts s)
 -- each unit of each open position of the leaf's provenance is held by exactly one part of the leaf
 abbrev pub HoldsEach : Program → Leaf → Type 0
 HoldsEach p leaf = (k : ℕ) (o : Open) (i : ℕ) → slice_get (open_positions p.types leaf.prov) k ≡ Some o
-    → i < units_of p o.ty → held leaf o.ty o.path i ≡ 1
+    → i < units_of p o.ty → times_held leaf o.ty o.path i ≡ 1
 
 -- the path is that of an open position of the leaf's provenance
 abbrev pub IsOpen : List DataDecl → Leaf → List ℕ → Type 0
@@ -93,8 +94,8 @@ pub record UnitAt (p : Program) (leaf : Leaf) (path : List ℕ) (i : ℕ) : Type
 -- How a leaf with these written items fails the rule, by the evidence: unit i of the open position at a path is held
 -- by no part, or by more than one; or an item names a path that is not open. No other evidence fails the rule.
 abbrev pub FailsHeld : Program → Leaf → List Item → Why → Type 0
-FailsHeld p leaf items (NotHeld path i) = (u : UnitAt p leaf path i) × (held leaf u.place.ty path i ≡ 0)
-FailsHeld p leaf items (HeldTwice path i) = (u : UnitAt p leaf path i) × (1 < held leaf u.place.ty path i)
+FailsHeld p leaf items (NotHeld path i) = (u : UnitAt p leaf path i) × (times_held leaf u.place.ty path i ≡ 0)
+FailsHeld p leaf items (HeldTwice path i) = (u : UnitAt p leaf path i) × (1 < times_held leaf u.place.ty path i)
 FailsHeld p leaf items (NotOpen path) =
     ((k : ℕ) × (slice_get (paths_of items) k ≡ Some path)) × (IsOpen p.types leaf path → ⊥)
 FailsHeld p leaf items why = ⊥

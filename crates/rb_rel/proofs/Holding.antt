@@ -12,7 +12,7 @@ use Rattle.rb_layout.specs.declared.layout.Kind.TheVariants.{Const, Bits, Word, 
 use Rattle.rb_layout.specs.declared.layout.WordRef.{WordRef}
 use Rattle.rb_layout.specs.Words.{flat_at, words_of_block}
 use Rattle.rb_layout.specs.Flattening.{same_path}
-use Rattle.rb_layout.specs.A6.{holds_unit, held_in_part, held_in_word, held_in_block, held}
+use Rattle.rb_layout.specs.A6.{holds_unit, times_in_part, times_in_word, times_in_block, times_held}
 use Rattle.rb_rel.proofs.Lawful.{HoldsUnit, Holder}
 use Rattle.rb_rel.proofs.Lists.{both}
 use Rattle.rb_rel.proofs.Known.{ltb_is}
@@ -68,17 +68,17 @@ either zero b h = inr (omega arith)
 either (suc a) b h = inl (omega arith)
 
 module _ (leaf : Leaf) (ty : Ty) (path : List ℕ) (i : ℕ) where
-  in_word_is : (r : WordRef) (f : FlatWord) → flat_at leaf r ≡ Some f → 1 ≤ held_in_word ty path i f → Holder leaf ty path i
+  in_word_is : (r : WordRef) (f : FlatWord) → flat_at leaf r ≡ Some f → 1 ≤ times_in_word ty path i f → Holder leaf ty path i
   in_word_is r f is h =
-      let c = counts (held_in_part ty path i) f.parts h in
+      let c = counts (times_in_part ty path i) f.parts h in
       let k = holder ty path i c.1.l c.1.kind (one_is (holds_unit ty path i c.1.l c.1.kind) c.3) in
       record { ref = r; word = f; is_word = is; number = c.0; part = c.1; is_part = c.2; is_holder = holds_it ty path i c.1 k }
 
-  pub is_held : 1 ≤ held leaf ty path i → Holder leaf ty path i
+  pub is_held : 1 ≤ times_held leaf ty path i → Holder leaf ty path i
   is_held h =
-      elim (either (sum (map (held_in_word ty path i) leaf.root)) (sum (map (held_in_block ty path i) leaf.blocks)) h) [
-        | inl a ↦ let c = counts (held_in_word ty path i) leaf.root a in in_word_is (record { block = None; word = c.0 }) c.1 c.2 c.3
-        | inr a ↦ let b = counts (held_in_block ty path i) leaf.blocks a in
-            let c = counts (held_in_word ty path i) b.1.words b.3 in
+      elim (either (sum (map (times_in_word ty path i) leaf.root)) (sum (map (times_in_block ty path i) leaf.blocks)) h) [
+        | inl a ↦ let c = counts (times_in_word ty path i) leaf.root a in in_word_is (record { block = None; word = c.0 }) c.1 c.2 c.3
+        | inr a ↦ let b = counts (times_in_block ty path i) leaf.blocks a in
+            let c = counts (times_in_word ty path i) b.1.words b.3 in
             in_word_is (record { block = Some b.0; word = c.0 }) c.1 (ap (λ x. slice_get (words_of_block x) c.0) b.2 ∙ c.2) c.3
       ]

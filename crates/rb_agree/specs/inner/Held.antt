@@ -17,7 +17,7 @@ use Rattle.rb_layout.specs.declared.evidence.Why.TheVariants.{NotHeld, HeldTwice
 use Rattle.rb_layout.specs.Positions.{Open, open_positions}
 use Rattle.rb_layout.specs.Flattening.{same_path, IsOpenIn}
 use Rattle.rb_layout.specs.Items.{content_paths}
-use Rattle.rb_layout.specs.A6.{held, units_of}
+use Rattle.rb_layout.specs.A6.{times_held, units_of}
 use Rattle.rb_agree.specs.declared.runs.Run.{Run}
 use Rattle.rb_agree.specs.declared.items.Written.{Written}
 use Rattle.rb_agree.specs.Written.{shown_part}
@@ -78,13 +78,13 @@ FailsUnits path runs n why = (i : ℕ) × (i < n) × FailsUnit path runs i why
 
 -- each unit of an open position is held by exactly one part of a leaf
 abbrev pub HoldsPlace : Program → Leaf → Open → Type 0
-HoldsPlace p leaf o = (i : ℕ) → i < units_of p o.ty → held leaf o.ty o.path i ≡ 1
+HoldsPlace p leaf o = (i : ℕ) → i < units_of p o.ty → times_held leaf o.ty o.path i ≡ 1
 
 -- how a unit of an open position fails, by the evidence: no part of the leaf holds it, or more than one do; no other
 -- evidence says so
 abbrev pub FailsPlace : Program → Leaf → Open → Why → Type 0
-FailsPlace p leaf o (NotHeld q j) = (q ≡ o.path) × (j < units_of p o.ty) × (held leaf o.ty o.path j ≡ 0)
-FailsPlace p leaf o (HeldTwice q j) = (q ≡ o.path) × (j < units_of p o.ty) × (1 < held leaf o.ty o.path j)
+FailsPlace p leaf o (NotHeld q j) = (q ≡ o.path) × (j < units_of p o.ty) × (times_held leaf o.ty o.path j ≡ 0)
+FailsPlace p leaf o (HeldTwice q j) = (q ≡ o.path) × (j < units_of p o.ty) × (1 < times_held leaf o.ty o.path j)
 FailsPlace p leaf o why = ⊥
 
 -- a unit of some open position of a leaf is held by none of its parts or by several, as `why` says
