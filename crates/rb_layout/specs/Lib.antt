@@ -14,6 +14,7 @@ pub mod Graphs
 pub mod A1
 pub mod A2
 pub mod A3
+pub mod FreeBits
 pub mod A4
 pub mod A5
 pub mod A6

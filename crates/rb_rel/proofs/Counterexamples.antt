@@ -10,8 +10,10 @@ use Rattle.rb_core.proofs.MatchingForms.{matching_rules}
 use Rattle.rb_layout.specs.declared.layout.Leaf.{Leaf}
 use Rattle.rb_layout.specs.declared.layout.Part.{Part}
 use Rattle.rb_layout.specs.declared.layout.Kind.TheVariants.{Const, Pointer}
+use Rattle.rb_layout.specs.A3.{IsIn}
+use Rattle.rb_layout.specs.FreeBits.{IsFree}
 use Rattle.rb_layout.specs.Positions.{leaf_of}
-use Rattle.rb_rel.specs.Relation.{IsFree, IsInPart, Represents, WordHolds}
+use Rattle.rb_rel.specs.Relation.{Represents, WordHolds}
 use Rattle.rb_rel.proofs.Represented.{opened, made_leaf}
 use Rattle.rb_rel.proofs.Examples.{list, lists, list_image, list_layout, cons_leaf, one_two, part, word, tree, trees, tree_image, color_layout, red_leaf, red}
 
@@ -33,7 +35,7 @@ root_holds clean w r =
 bit_free : IsFree (word 64 cons_parts) 1
 bit_free = record { inside = omega arith; outside = outside }
   where
-    outside : (k : ℕ) (p : Part) → slice_get cons_parts k ≡ Some p → IsInPart 1 p → ⊥
+    outside : (k : ℕ) (p : Part) → slice_get cons_parts k ≡ Some p → IsIn p.o p.l 1 → ⊥
     outside zero p e i = let o = ap (λ (y : Part). y.o) (same_Some _ p e) in let l = ap (λ (y : Part). y.l) (same_Some _ p e) in omega (arith, o, l, i.0, i.1)
     outside (suc zero) p e i = let o = ap (λ (y : Part). y.o) (same_Some _ p e) in let l = ap (λ (y : Part). y.l) (same_Some _ p e) in omega (arith, o, l, i.0, i.1)
     outside (suc (suc k)) p e i = cc

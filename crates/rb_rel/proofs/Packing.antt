@@ -13,7 +13,8 @@ use Rattle.rb_layout.specs.declared.layout.FlatWord.{FlatWord}
 use Rattle.rb_layout.specs.declared.layout.Part.{Part}
 use Rattle.rb_layout.specs.declared.layout.Kind.{Kind}
 use Rattle.rb_layout.specs.declared.layout.Kind.TheVariants.{Const, Bits, Word, Pointer}
-use Rattle.rb_rel.specs.Relation.{HoldsKind, IsInPart, WordHolds}
+use Rattle.rb_layout.specs.A3.{IsIn}
+use Rattle.rb_rel.specs.Relation.{HoldsKind, WordHolds}
 use Rattle.std.proofs.lemmas.Nat.Bits.{same_from_bits_below}
 
 -- the number that a part has to hold
@@ -95,7 +96,7 @@ module _ (subs : List ℕ → List ℕ) (ats : ℕ → ℕ) where
   holds_kind l (Word path j) a = refl
   holds_kind l (Pointer align b) a = a align b refl
 
-  outside_part : (i : ℕ) (p : Part) → (IsInPart i p → ⊥) → IsOutside p.o p.l i
+  outside_part : (i : ℕ) (p : Part) → (IsIn p.o p.l i → ⊥) → IsOutside p.o p.l i
   outside_part i p out = elim (cases_lt i p.o) [
     | inl lt ↦ inl lt
     | inr le ↦ elim (cases_lt i (p.o + p.l)) [ inl lt ↦ absurd (out (le, lt)) | inr high ↦ inr high ]

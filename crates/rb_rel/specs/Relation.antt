@@ -8,7 +8,7 @@
 -- Throughout, `ws` are the words of a value, which are the root words of its leaf, and m is the memory. `subs` gives,
 -- by the path of an open position, the words of the subvalue there; `ats` gives a block's address, by its number;
 -- `clean` asks that free bits are 0.
-use Rattle.std.specs.Prelude.{◌≡◌, ℕ, ◌+◌, ◌*◌, ◌^◌, ◌<◌, ◌≤◌, List, [], ◌∷◌, ◌++◌, length, Bool, true, Option, Some, None, Ok, slice_get, slice_index}
+use Rattle.std.specs.Prelude.{◌≡◌, ℕ, ◌+◌, ◌*◌, ◌^◌, ◌<◌, List, [], ◌∷◌, ◌++◌, length, Bool, true, Option, Some, None, Ok, slice_get, slice_index}
 use Rattle.std.specs.Int.{bit_at}
 use Rattle.rb_core.specs.declared.value.Value.{Value, Num}
 use Rattle.rb_core.specs.declared.types.Ty.{Ty}
@@ -25,6 +25,7 @@ use Rattle.rb_layout.specs.declared.layout.Kind.{Kind}
 use Rattle.rb_layout.specs.declared.layout.Kind.TheVariants.{Const, Bits, Word, Pointer}
 use Rattle.rb_layout.specs.declared.layout.Layout.{Layout}
 use Rattle.rb_layout.specs.declared.layout.WordRef.{WordRef}
+use Rattle.rb_layout.specs.FreeBits.{IsFree}
 use Rattle.rb_layout.specs.Positions.{Open, open_positions, leaf_of, layout_of}
 use Rattle.rb_layout.specs.Words.{words_in, flat_at, begins_at, size_of}
 
@@ -43,15 +44,6 @@ HoldsKind subs ats n l (Pointer align b) = n * align ≡ ats b
 -- the bits of a part, in the word w in which it stands, are what its kind says
 abbrev pub PartHolds : (List ℕ → List ℕ) → (ℕ → ℕ) → ℕ → Part → Type 0
 PartHolds subs ats w p = HoldsKind subs ats (take_of w p.o p.l) p.l p.kind
-
--- bit i of a word stands in the part
-abbrev pub IsInPart : ℕ → Part → Type 0
-IsInPart i p = (p.o ≤ i) × (i < p.o + p.l)
-
--- bit i is below the width of the flat word, and stands in no part of it
-pub record IsFree (f : FlatWord) (i : ℕ) : Type 0 where
-  pub inside : i < f.width
-  pub outside : (k : ℕ) (p : Part) → slice_get f.parts k ≡ Some p → IsInPart i p → ⊥
 
 -- the word w has no more bits than the flat word f, and each part of it holds; where it is clean, its free bits are 0
 pub record WordHolds (subs : List ℕ → List ℕ) (ats : ℕ → ℕ) (clean : Bool) (f : FlatWord) (w : ℕ) : Type 0 where

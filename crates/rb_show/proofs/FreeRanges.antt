@@ -9,7 +9,8 @@ use Rattle.std.proofs.lemmas.Option.{same_Some, slice_get-get_or, slice_get_with
 use Rattle.rb_layout.specs.declared.layout.FlatWord.{FlatWord}
 use Rattle.rb_layout.specs.declared.layout.Part.{Part}
 use Rattle.rb_layout.specs.A3.{IsIn}
-use Rattle.rb_show.specs.Laws.{IsFree, IsMaximal, FreeAreMaximal}
+use Rattle.rb_layout.specs.FreeBits.{IsFree}
+use Rattle.rb_show.specs.Laws.{IsMaximal, FreeAreMaximal}
 use Rattle.rb_show.specs.Pieces.{Piece, Held, Free, holds_bit, is_free, begins_free, free_bits, held_at, free_at, pieces_at, pieces_of}
 use Rattle.rb_show.proofs.Listed.{in_bits, bit_in, all_flat, first_or_later}
 use Rattle.rb_show.proofs.Words.{free-more, free-stops}

@@ -6,7 +6,8 @@ use Rattle.std.proofs.lemmas.Bool.{eqb-true}
 use Rattle.std.proofs.lemmas.Option.{same_Some, slice_get-get_or, slice_get_within}
 use Rattle.rb_layout.specs.declared.layout.FlatWord.{FlatWord}
 use Rattle.rb_layout.specs.declared.layout.Part.{Part}
-use Rattle.rb_show.specs.Laws.{first_bit, FreeAreApart, IsFree, IsMaximal, PiecesAscend}
+use Rattle.rb_layout.specs.FreeBits.{IsFree}
+use Rattle.rb_show.specs.Laws.{first_bit, FreeAreApart, IsMaximal, PiecesAscend}
 use Rattle.rb_show.proofs.FreeRanges.{free_are_maximal}
 use Rattle.rb_show.specs.Pieces.{Piece, Held, Free, begins_free, free_bits, held_at, free_at, pieces_at, pieces_of}
 

@@ -8,14 +8,10 @@ use Rattle.rb_layout.specs.declared.layout.Layout.{Layout}
 use Rattle.rb_layout.specs.declared.layout.Part.{Part}
 use Rattle.rb_layout.specs.A3.{IsIn}
 use Rattle.rb_layout.specs.Each.{EachLayout}
+use Rattle.rb_layout.specs.FreeBits.{IsFree}
 use Rattle.rb_layout.specs.Flattening.{flat_layouts}
 use Rattle.rb_layout.specs.Splits.{Route, routes_of}
 use Rattle.rb_show.specs.Pieces.{Piece, Held, Free, pieces_of}
-
--- i is a bit of the word, and none of its parts holds it
-pub record IsFree (word : FlatWord) (i : ℕ) : Type 0 where
-  pub inside : i < word.width
-  pub outside : (k : ℕ) (p : Part) → slice_get word.parts k ≡ Some p → IsIn p.o p.l i → ⊥
 
 -- the bits from o on, l of them and at least one, are free, and neither the bit below them nor that above is
 pub record IsMaximal (word : FlatWord) (o l : ℕ) : Type 0 where
