@@ -1,5 +1,7 @@
--- What the flat form of any layout has: each pointer its block, and each block a pointer outside it. Blocks are
--- numbered inner before outer, so that a block has a lower number than the block in which a pointer to it stands.
+-- What the flat form of any layout has: each pointer its block, and each block a pointer outside it. The flat form of
+-- a layout has for each leaf, the form of the values of one pattern, its root words and a numbered list of its blocks;
+-- the rules are those that a layout must obey, A1 to A10. Blocks are numbered inner before outer, so that a block has a
+-- lower number than the block in which a pointer to it stands.
 use Rattle.std.specs.Prelude.{◌≡◌, ℕ, ◌<◌, Option, Some, None, slice_get}
 use Rattle.rb_core.specs.declared.program.Program.{Program}
 use Rattle.rb_layout.specs.declared.layout.Leaf.{Leaf}

@@ -7,7 +7,7 @@ ghost use Rattle.rb_layout.specs.Readable.{AreShort};
 use crate::layout::Block;
 
 /// The size of a block in bytes, which is that of its words one after the other. Of a width that is
-/// no multiple of 8, the whole bytes count.
+/// no multiple of 8, the whole bytes count. The block has at most 64 words, each of at most 64 bits.
 #[tactic(auto, using(crate::proofs::Locating::locating))]
 pub fn block_size(block: &Block) -> u64
     requires { AreShort block.now.words }

@@ -84,8 +84,8 @@ goal_of type_of x (Bits path a) = None
 goal_of type_of x (Word path j) = goal_at (type_of path) j x
 goal_of type_of x (Pointer align b) = None
 
--- The goal that a part gives for a literal: that the word of a field which it has never has the literal's bits where
--- both meet. None where the part has no word of a field of a data type, or does not meet the range.
+-- The goal that a part gives for a literal: that the field's word in the part is never the literal's bits where both
+-- meet. None where the part has no word of a field of a data type, or does not meet the range.
 abbrev pub goal_in : (List ℕ → Option Ty) → Literal → Part → Option Goal
 goal_in type_of x p = goal_of type_of (part_literal x p) p.kind
 
