@@ -6,7 +6,7 @@ use Rattle.rb_core.specs.declared.layout_decl.Loc.{Loc}
 use Rattle.rb_core.specs.declared.layout_decl.Step.{Step}
 use Rattle.rb_layout.specs.declared.layout.FlatTree.{FlatTree, Split, Leaf}
 use Rattle.rb_layout.specs.declared.layout.FlatTree.TheOpen as T
-use Rattle.rb_layout.specs.declared.layout.FlatTree.TheFolds.{fold-roll-FlatArm}
+use Rattle.rb_layout.specs.declared.layout.FlatTree.TheFolds.{fold-FlatArm, fold-roll-FlatArm}
 use Rattle.rb_layout.specs.declared.layout.FlatArm.{FlatArm}
 use Rattle.rb_layout.specs.Splits.{Under}
 use Rattle.rb_layout.proofs.FlatForms as F
@@ -16,7 +16,7 @@ use Rattle.rb_image_text.specs.declared.fault.ImageFault.{ImageFault}
 use Rattle.rb_image_text.specs.declared.fault.ImageFault.TheVariants.{BadBits, BadPointer}
 use Rattle.rb_image_text.specs.declared.image.ImageBlock.{ImageBlock}
 use Rattle.rb_image.specs.declared.kept.Kept.{Kept}
-use Rattle.rb_image.specs.Asked.{Asking, asked_arm, asked_arms, asked_by, asked_step, asked_under, if_found, ranges_after, ranges_at}
+use Rattle.rb_image.specs.Asked.{Asking, asked_arm, asked_arms, asked_by, asked_step, if_found, ranges_after, ranges_at}
 use Rattle.rb_image.specs.Paths.{Names}
 use Rattle.rb_image.specs.Splits.{and_then, kept_in, leaf_at, or_fault, pointed_from, range_at, range_from, range_of, step_over, word_at}
 use Rattle.rb_image.specs.inner.Checking.{given}
@@ -26,6 +26,10 @@ use Rattle.rb_image.proofs.SpotLemmas.{In, in_left, in_right}
 use Rattle.rb_image.proofs.WalkLemmas.{leaf_walk, split_fault, split_turn}
 
 -- One turn -----------------------------------------------------------------------------------
+-- an arm of a tree of splits: its literal, and the bits that the splits under it read on the way to a leaf
+abbrev asked_under : FlatArm → Under Asking
+asked_under = fold-FlatArm Asking (Under Asking) asked_step asked_arm
+
 under_is : (a : FlatArm) → asked_under a ≡ record { literal = a.literal; of = asked_by a.under }
 unfolding denote.Hole.Carrier.roll
 under_is a = fold-roll-FlatArm Asking (Under Asking) asked_step asked_arm (record { literal = a.literal; under = a.under })

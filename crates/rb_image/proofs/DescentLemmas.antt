@@ -12,8 +12,8 @@ use Rattle.rb_image.specs.declared.descent.Step.TheVariants.{Look, Note}
 use Rattle.rb_image.specs.declared.kept.Place.{Place}
 use Rattle.rb_image.specs.Given.{IsGiven}
 use Rattle.rb_image.specs.Parts.{At, at_of, ats_of}
-use Rattle.rb_image.specs.Sound.{Looking, IsSound, sound, HasFault, own, inner, SoundnessIsFound}
-use Rattle.rb_image.specs.inner.Descending.{looks, AreSound, HaveFault, IsNoted, AreNoted, DescentStands}
+use Rattle.rb_image.specs.Sound.{Looking, IsSound, sound, HasFault, own, inner}
+use Rattle.rb_image.specs.inner.Descending.{looks, AreSound, HaveFault, IsNoted, AreNoted, DescentStands, SoundnessIsFound}
 use Rattle.rb_image.specs.inner.Knowing.{is_among, with_place}
 use Rattle.rb_image.proofs.KnownLemmas.{holds_among, holds_with}
 

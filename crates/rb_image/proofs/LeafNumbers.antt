@@ -29,10 +29,10 @@ use Rattle.rb_rel.proofs.Lists.{got}
 use Rattle.rb_image_text.specs.declared.fault.ImageFault.{ImageFault}
 use Rattle.rb_image_text.specs.declared.image.ImageBlock.{ImageBlock}
 use Rattle.rb_image.specs.declared.kept.Kept.{Kept}
-use Rattle.rb_image.specs.Splits.{leaf_at, range_at, walk_arms, walk_under}
+use Rattle.rb_image.specs.Splits.{leaf_at, range_at, walk_arms}
 use Rattle.rb_image.proofs.ExaminedParts.{then_ok}
 use Rattle.rb_image.proofs.FallLemmas.{same_Ok}
-use Rattle.rb_image.proofs.WalkLemmas.{other_walk, go_on, arms_walk, leaf_walk, split_walk}
+use Rattle.rb_image.proofs.WalkLemmas.{other_walk, go_on, arms_walk, leaf_walk, split_walk, walk_under}
 
 module _ (m : List ImageBlock) (ws : List Kept) where
   abbrev LeadsTo : Result ℕ ImageFault → ℕ → Type 0

@@ -17,7 +17,8 @@ use Rattle.rb_image.specs.declared.kept.Kept.{Kept}
 use Rattle.rb_image.specs.Blocks.{block_at}
 use Rattle.rb_image.specs.Parts.{look}
 use Rattle.rb_image.specs.Roots.{AllFit, FitsAt, IsFirstImageFault, IsFirstMisfit, IsSoundImage, WordFits, kept_from, root_at, widths_of}
-use Rattle.rb_image.specs.Sound.{IsFault, IsFineResult, SoundnessIsFound}
+use Rattle.rb_image.specs.Sound.{IsFault, IsFineResult}
+use Rattle.rb_image.specs.inner.Descending.{SoundnessIsFound}
 use Rattle.rb_image.specs.Splits.{word_at}
 use Rattle.rb_image.proofs.DropLemmas.{drop_item, drop_past}
 use Rattle.rb_image.proofs.FallLemmas.{AreUnder}

@@ -5,7 +5,8 @@ use Rattle.std.proofs.lemmas.Bool.{cases_lt}
 use Rattle.std.proofs.lemmas.Option.{same_Some}
 use Rattle.rb_image_text.specs.declared.fault.ImageFault.{ImageFault}
 use Rattle.rb_image.specs.Parts.{At}
-use Rattle.rb_image.specs.Sound.{Looking, IsSound, sound, HasFault, own, inner, SoundnessIsFound, IsFault}
+use Rattle.rb_image.specs.Sound.{Looking, IsSound, sound, HasFault, own, inner, IsFault}
+use Rattle.rb_image.specs.inner.Descending.{SoundnessIsFound}
 
 same_Ok : (ps qs : List At) → ◌≡◌ {A = Result (List At) ImageFault} (Ok ps) (Ok qs) → ps ≡ qs
 same_Ok ps qs e = cc

@@ -4,7 +4,7 @@ use Rattle.std.specs.Prelude.{if◌then◌else◌}
 use Rattle.rb_core.specs.declared.layout_decl.Loc.{Loc}
 use Rattle.rb_layout.specs.declared.layout.FlatTree.{FlatTree, Split, Leaf}
 use Rattle.rb_layout.specs.declared.layout.FlatTree.TheOpen as T
-use Rattle.rb_layout.specs.declared.layout.FlatTree.TheFolds.{fold-roll-FlatArm}
+use Rattle.rb_layout.specs.declared.layout.FlatTree.TheFolds.{fold-FlatArm, fold-roll-FlatArm}
 use Rattle.rb_layout.specs.declared.layout.FlatArm.{FlatArm}
 use Rattle.rb_layout.specs.Splits.{Under}
 use Rattle.rb_layout.proofs.FlatForms as F
@@ -13,7 +13,11 @@ use Rattle.rb_image_text.specs.declared.fault.ImageFault.{ImageFault}
 use Rattle.rb_image_text.specs.declared.fault.ImageFault.TheVariants.{BadBits}
 use Rattle.rb_image_text.specs.declared.image.ImageBlock.{ImageBlock}
 use Rattle.rb_image.specs.declared.kept.Kept.{Kept}
-use Rattle.rb_image.specs.Splits.{Walk, and_then, leaf_at, range_at, walk_arm, walk_arms, walk_step, walk_under}
+use Rattle.rb_image.specs.Splits.{Walk, and_then, leaf_at, range_at, walk_arm, walk_arms, walk_step}
+
+-- an arm of a tree of splits: its literal, and the leaf to which the splits under it lead
+abbrev pub walk_under : FlatArm → Under Walk
+walk_under = fold-FlatArm Walk (Under Walk) walk_step walk_arm
 
 under_is : (a : FlatArm) → walk_under a ≡ record { literal = a.literal; of = leaf_at a.under }
 unfolding denote.Hole.Carrier.roll

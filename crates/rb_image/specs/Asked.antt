@@ -8,8 +8,8 @@ use Rattle.rb_core.specs.declared.layout_decl.Step.{Step}
 use Rattle.rb_layout.specs.declared.layout.FlatTree.{FlatTree}
 use Rattle.rb_layout.specs.declared.layout.FlatTree.TheOpen as T
 use Rattle.rb_layout.specs.declared.layout.FlatTree.TheOpen.{FlatTree-F}
-use Rattle.rb_layout.specs.declared.layout.FlatTree.TheFolds.{fold-FlatTree, fold-FlatArm}
-use Rattle.rb_layout.specs.declared.layout.FlatArm.{FlatArm, FlatArm-F}
+use Rattle.rb_layout.specs.declared.layout.FlatTree.TheFolds.{fold-FlatTree}
+use Rattle.rb_layout.specs.declared.layout.FlatArm.{FlatArm-F}
 use Rattle.rb_layout.specs.Splits.{Under}
 use Rattle.rb_image_text.specs.declared.fault.ImageFault.{ImageFault}
 use Rattle.rb_image_text.specs.declared.image.ImageBlock.{ImageBlock}
@@ -63,7 +63,3 @@ asked_arm arm = record { literal = arm.literal; of = arm.under }
 -- is refused, or a split that no arm takes
 abbrev pub asked_by : FlatTree → Asking
 asked_by = fold-FlatTree Asking (Under Asking) asked_step asked_arm
-
--- an arm of a tree of splits: its literal, and the bits that the splits under it read on the way to a leaf
-abbrev pub asked_under : FlatArm → Under Asking
-asked_under = fold-FlatArm Asking (Under Asking) asked_step asked_arm

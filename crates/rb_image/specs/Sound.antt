@@ -23,11 +23,6 @@ pub data HasFault (look : Looking) : At → ImageFault → Type 0 where
       → ((j : ℕ) (r : At) → j < k → slice_get below j ≡ Some r → IsSound look r) → HasFault look q fault
       → HasFault look p fault
 
--- the image is sound from the place on, or this is its first fault; or memory is wanting
-abbrev pub SoundnessIsFound : {A : Type 0} → Looking → At → Result A ImageFault → Type 0
-SoundnessIsFound look p (Ok a) = IsSound look p
-SoundnessIsFound look p (Err fault) = HasFault look p fault ⊎ (fault ≡ Memory)
-
 -- a result is the fault that is due, or want of memory
 abbrev pub IsFault : {A : Type 0} → ImageFault → Result A ImageFault → Type 0
 IsFault due (Ok a) = ⊥

@@ -11,8 +11,8 @@ use Rattle.rb_bits.specs.Words.{take_of}
 use Rattle.rb_layout.specs.declared.layout.FlatTree.{FlatTree}
 use Rattle.rb_layout.specs.declared.layout.FlatTree.TheOpen as T
 use Rattle.rb_layout.specs.declared.layout.FlatTree.TheOpen.{FlatTree-F}
-use Rattle.rb_layout.specs.declared.layout.FlatTree.TheFolds.{fold-FlatTree, fold-FlatArm}
-use Rattle.rb_layout.specs.declared.layout.FlatArm.{FlatArm, FlatArm-F}
+use Rattle.rb_layout.specs.declared.layout.FlatTree.TheFolds.{fold-FlatTree}
+use Rattle.rb_layout.specs.declared.layout.FlatArm.{FlatArm-F}
 use Rattle.rb_layout.specs.Splits.{Under}
 use Rattle.rb_image_text.specs.declared.fault.ImageFault.{ImageFault}
 use Rattle.rb_image_text.specs.declared.fault.ImageFault.TheVariants.{BadBits, BadPointer}
@@ -110,7 +110,3 @@ walk_arm arm = record { literal = arm.literal; of = arm.under }
 -- takes is the fault of the word in which its bits stand
 abbrev pub leaf_at : FlatTree → Walk
 leaf_at = fold-FlatTree Walk (Under Walk) walk_step walk_arm
-
--- an arm of a tree of splits: its literal, and the leaf to which the splits under it lead
-abbrev pub walk_under : FlatArm → Under Walk
-walk_under = fold-FlatArm Walk (Under Walk) walk_step walk_arm

@@ -7,8 +7,7 @@
 
 ghost use Rattle.std.specs.Prelude.{◌≡◌, ◌++◌, OnOk, length};
 ghost use Rattle.rb_image.specs.Parts.{at_of, look};
-ghost use Rattle.rb_image.specs.Sound.{SoundnessIsFound};
-ghost use Rattle.rb_image.specs.inner.Descending.{looks};
+ghost use Rattle.rb_image.specs.inner.Descending.{SoundnessIsFound, looks};
 ghost use Rattle.rb_image.specs.inner.Ending.{DescentsEnd, DescentEnds, depth_bound};
 ghost use Rattle.rb_image_text.specs.Places.{AreInPlace};
 

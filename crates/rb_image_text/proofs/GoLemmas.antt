@@ -1,8 +1,9 @@
 -- Every front that is read can be completed.
 use Rattle.std.proofs.Common.{◌≡◌, ℕ, zero, suc, ◌+◌, ◌-◌, ◌*◌, ◌<◌, ◌≤◌, List, [], ◌∷◌, ◌++◌, length, codes, Some, refl, sym, ◌∙◌, ap, arith, append-nil, length-append}
+use Rattle.rb_core.specs.Stopping.{BeginsSome}
 use Rattle.rb_image_text.specs.Images.{AreBelow}
 use Rattle.rb_image_text.specs.Text.{bytes_text}
-use Rattle.rb_image_text.specs.Stopping.{IsFront}
+use Rattle.rb_image_text.specs.Stopping.{IsImageText}
 use Rattle.rb_image_text.specs.inner.Reading.{empty_at, with_byte, run}
 use Rattle.rb_image_text.specs.declared.image.ImageBlock.{ImageBlock}
 use Rattle.rb_image_text.specs.declared.spot.Spot.{Spot}
@@ -10,6 +11,10 @@ use Rattle.rb_image_text.specs.declared.spot.Spot.TheVariants.{Root, Prefix, Wor
 use Rattle.rb_image_text.specs.declared.step.Reader.{Reader}
 use Rattle.rb_image_text.proofs.RunLemmas.{at, follow, with_bytes, bytes_run, block_closed}
 use Rattle.rb_image_text.proofs.StepLemmas.{whole, text_of, IsGoodAt, IsGood, run_fed}
+
+-- the bytes begin the text of some image, or are the whole of one
+abbrev pub IsFront : List ℕ → Type 0
+IsFront bytes = BeginsSome IsImageText bytes
 
 -- some bytes lead to the end of a text
 record Ends (p : Reader) : Type 0 where

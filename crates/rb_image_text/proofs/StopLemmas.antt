@@ -2,7 +2,7 @@
 use Rattle.std.proofs.Common.{◌≡◌, ℕ, zero, suc, ◌+◌, ◌<◌, ◌≤◌, List, [], ◌∷◌, ◌++◌, length, take, drop, get_or, nat_lt, Bool, true, false, Some, None, refl, sym, ◌∙◌, ap, subst, arith, append-nil}
 use Rattle.std.proofs.lemmas.Grind.{common_steps}
 use Rattle.std.proofs.lemmas.List.{take_more, take_all, take-append-drop}
-use Rattle.rb_image_text.specs.Stopping.{IsTextOf, IsImageText, IsFront, StopsAt}
+use Rattle.rb_image_text.specs.Stopping.{IsTextOf, IsImageText, StopsAt}
 use Rattle.rb_image_text.specs.inner.Reading.{IsHalved, start, feed, run, is_done, image_of}
 use Rattle.rb_image_text.specs.declared.image.ImageBlock.{ImageBlock}
 use Rattle.rb_image_text.specs.declared.image.Image.{Image}
@@ -11,7 +11,7 @@ use Rattle.rb_image_text.specs.declared.spot.Spot.TheVariants.{Root, Prefix, Wor
 use Rattle.rb_image_text.specs.declared.step.Reader.{Reader}
 use Rattle.rb_image_text.proofs.RunLemmas.{run_none, run_append, done, reads_image}
 use Rattle.rb_image_text.proofs.StepLemmas.{whole, text_of, IsGoodAt, Fed, run_fed}
-use Rattle.rb_image_text.proofs.GoLemmas.{good_front}
+use Rattle.rb_image_text.proofs.GoLemmas.{IsFront, good_front}
 
 same_reader : (p q : Reader) → Some p ≡ Some q → p ≡ q
 same_reader p q e = cc

@@ -2,7 +2,7 @@
 -- blocks of a memory, each given by its address in bytes and by its bytes. `at` is the number of a byte, counted from
 -- 0.
 use Rattle.std.specs.Prelude.{◌≡◌, ℕ, List}
-use Rattle.rb_core.specs.Stopping.{BeginsSome, StopsAtIn}
+use Rattle.rb_core.specs.Stopping.{StopsAtIn}
 use Rattle.rb_image_text.specs.Images.{IsImage}
 use Rattle.rb_image_text.specs.Text.{image_text}
 use Rattle.rb_image_text.specs.declared.image.Image.{Image}
@@ -15,10 +15,6 @@ pub record IsTextOf (bytes : List ℕ) (i : Image) : Type 0 where
 -- the bytes are the text of some image, wherever its blocks lie
 abbrev pub IsImageText : List ℕ → Type 0
 IsImageText bytes = (i : Image) × IsTextOf bytes i
-
--- the bytes begin the text of some image, or are the whole of one
-abbrev pub IsFront : List ℕ → Type 0
-IsFront bytes = BeginsSome IsImageText bytes
 
 -- the bytes before `at` begin some text; with the byte there they don't, or there is none and they are no whole text
 abbrev pub StopsAt : List ℕ → ℕ → Type 0

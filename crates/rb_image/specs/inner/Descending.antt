@@ -2,14 +2,21 @@
 -- looks at a place and at all places below it, and notes each of which all below was found sound. A place is the
 -- number of a data type, and the words at which a value of it is to stand. `look` gives the places below one, or its
 -- own fault.
-use Rattle.std.specs.Prelude.{◌⊎◌, List, [], ◌∷◌, ◌++◌}
+use Rattle.std.specs.Prelude.{◌≡◌, ◌⊎◌, List, [], ◌∷◌, ◌++◌, Result, Ok, Err}
 use Rattle.std.specs.List.{AllByRecursion}
 use Rattle.rb_image_text.specs.declared.fault.ImageFault.{ImageFault}
+use Rattle.rb_image_text.specs.declared.fault.ImageFault.TheVariants.{Memory}
 use Rattle.rb_image.specs.declared.descent.Step.{Step}
 use Rattle.rb_image.specs.declared.descent.Step.TheVariants.{Look, Note}
 use Rattle.rb_image.specs.declared.kept.Place.{Place}
 use Rattle.rb_image.specs.Parts.{At, at_of}
 use Rattle.rb_image.specs.Sound.{Looking, IsSound, HasFault}
+
+-- what a descent from place p answers: the image is sound from there on, or this is its first fault from there on; or
+-- memory is wanting
+abbrev pub SoundnessIsFound : {A : Type 0} → Looking → At → Result A ImageFault → Type 0
+SoundnessIsFound look p (Ok a) = IsSound look p
+SoundnessIsFound look p (Err fault) = HasFault look p fault ⊎ (fault ≡ Memory)
 
 -- looks at these places, so that the first place is looked at first: its look is the last of the steps
 abbrev pub looks : List Place → List Step

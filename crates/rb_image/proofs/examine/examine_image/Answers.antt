@@ -4,7 +4,7 @@ use Rattle.rb_image_text.specs.Places.{AreInPlace}
 use Rattle.rb_image.specs.Blocks.{block_at}
 use Rattle.rb_image.specs.Parts.{at_of, look}
 use Rattle.rb_image.specs.Roots.{AllFit, IsFirstImageFault, IsSoundImage, root_at, widths_of}
-use Rattle.rb_image.specs.Sound.{SoundnessIsFound}
+use Rattle.rb_image.specs.inner.Descending.{SoundnessIsFound}
 use Rattle.rb_image.specs.inner.Ending.{DescentEnds, depth_bound}
 use Rattle.rb_image.proofs.RootLemmas.{named_answers, none_at_zero}
 use Rattle.rb_image.proofs.examine.examine_image.Goals as goal
