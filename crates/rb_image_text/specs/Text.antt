@@ -37,7 +37,9 @@ root_text ws = codes "root" ++ (words_text ws ++ codes "\n")
 -- the line of a block: `block`, its address and the number of its bytes in decimal, and its bytes, with one blank
 -- between each two of these; then a line feed
 abbrev pub block_text : ImageBlock → List ℕ
-block_text b = codes "block " ++ (decimal b.at ++ (codes " " ++ (decimal (length b.bytes) ++ (codes " " ++ (bytes_text b.bytes ++ codes "\n")))))
+block_text b =
+    codes "block " ++ (decimal b.at ++ (codes " " ++ (decimal (length b.bytes)
+    ++ (codes " " ++ (bytes_text b.bytes ++ codes "\n")))))
 
 -- the lines of blocks, one after the other
 abbrev pub blocks_text : List ImageBlock → List ℕ

@@ -6,7 +6,8 @@ use Rattle.std.proofs.lemmas.List.Folds.{flat_map-map}
 use Rattle.std.specs.List.{flat_map, range_with_len}
 use Rattle.rb_layout.specs.declared.layout.FlatArm.{FlatArm}
 use Rattle.rb_show.specs.Lines.{numbered, other_literal}
-use Rattle.rb_show.specs.Patterns.{opened, opening}
+use Rattle.rb_show.specs.Patterns.{opened}
+use Rattle.rb_show.specs.inner.Patterns.{opening}
 use Rattle.rb_show.specs.inner.Ways.{literals_in}
 
 -- one piece more, behind what stood there at first

@@ -1,5 +1,5 @@
 -- Patterns as they are shown. Texts are lists of bytes, and `types` are the types of the program.
-use Rattle.std.specs.Prelude.{ℕ, List, [], ◌∷◌, ◌++◌, codes, ◌==◌, if◌then◌else◌, Option, Some, None, slice_get}
+use Rattle.std.specs.Prelude.{ℕ, List, [], ◌∷◌, ◌++◌, codes, Option, Some, None, slice_get}
 use Rattle.std.specs.Fmt.{decimal}
 use Rattle.std.specs.List.{flat_map}
 use Rattle.rb_core.specs.declared.types.Con.{Con}
@@ -23,10 +23,6 @@ con_name_in (Some d) k = con_name (slice_get d.cons k)
 -- the name of a constructor, by its type's number and its own; empty where there is none
 abbrev pub con_text : List DataDecl → ConRef → List ℕ
 con_text types c = con_name_in (slice_get types c.ty) c.con
-
--- what stands before the field of this number: `(` before the first, which is number 0, and a comma before each other
-abbrev pub opening : ℕ → List ℕ
-opening number = if number == 0 then codes "(" else codes ", "
 
 -- the texts of fields behind a `(` and with commas between them, but without the `)`; empty where there is no field
 abbrev pub opened : List (List ℕ) → List ℕ

@@ -3,7 +3,8 @@
 
 ghost use Rattle.std.specs.Prelude.{◌≡◌, ◌++◌, ℕ, List, OnOk, map};
 ghost use Rattle.rb_core.specs.declared.pattern.Pat.{Pat as Pattern};
-ghost use Rattle.rb_show.specs.Patterns.{closed, con_text, opened, opening, pattern_text};
+ghost use Rattle.rb_show.specs.Patterns.{closed, con_text, opened, pattern_text};
+ghost use Rattle.rb_show.specs.inner.Patterns.{opening};
 
 use crate::text::{push, push_number};
 use rb_core::pattern::Pat;

@@ -14,7 +14,7 @@ use rb_core::seq::Seq;
 use rb_layout::layout::FlatTree;
 use std::alloc::{AllocError, Global};
 
-// A leaf's number, and the lines of the conditions of the splits above it, from the outside.
+/// A leaf's number, and the lines of the conditions of the splits above it, from the outside.
 #[derive(Drop)]
 pub struct Way {
     pub leaf: u32,

@@ -1,6 +1,7 @@
 use Rattle.std.proofs.Common.{ap, sym, ◌∙◌, ◌++◌, map, take}
 use Rattle.rb_core.specs.declared.pattern.Pat.{Pat}
-use Rattle.rb_show.specs.Patterns.{opened, opening, pattern_text}
+use Rattle.rb_show.specs.Patterns.{opened, pattern_text}
+use Rattle.rb_show.specs.inner.Patterns.{opening}
 use Rattle.rb_show.proofs.Texts.{appended, opened_next, two}
 use Rattle.rb_show.proofs.pattern.+showing.Goals as goal
 
