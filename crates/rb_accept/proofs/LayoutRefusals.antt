@@ -14,7 +14,8 @@ use Rattle.rb_layout.specs.declared.evidence.Why.{Why}
 use Rattle.rb_layout.specs.declared.evidence.Why.TheVariants as why
 use Rattle.rb_layout.specs.declared.layout.Layout.{Layout}
 use Rattle.rb_layout.specs.declared.layout.Leaf.{Leaf}
-use Rattle.rb_show.specs.Refusals.{refusal_text, evidence_text, at_leaf, number_of_leaf, leaves_in, name_of}
+use Rattle.rb_layout.specs.Positions.{leaves_of_layout}
+use Rattle.rb_show.specs.Refusals.{refusal_text, evidence_text, at_leaf, number_of_leaf, name_of}
 
 -- Behind the first rule ---------------------------------------------------------------------
 
@@ -142,8 +143,8 @@ pub first_text : (p : Program) (r : Disagreed) → IsRefusedBy p (flat_layouts p
 first_text p r (spot, h, is) one layouts =
     let rule : (place_of_spot spot).rule ≡ 1 = sym (ap (λ (x : RefusalPlace). x.rule) is.0) ∙ one in
     let same = first_evidence p (flat_layouts p) spot r.why rule (fails_found p (flat_layouts p) (all_spots p (flat_layouts p)) (spot, r.why) h) in
-    let xs : List Leaf = leaves_in (slice_get layouts r.ty) in
-    let ys : List Leaf = leaves_in (slice_get (flat_layouts p) r.ty) in
+    let xs : List Leaf = leaves_of_layout (slice_get layouts r.ty) in
+    let ys : List Leaf = leaves_of_layout (slice_get (flat_layouts p) r.ty) in
     let at : at_leaf p.types xs r.rule (number_of_leaf r.leaf) ≡ at_leaf p.types ys r.rule (number_of_leaf r.leaf) =
     ap (λ k. at_leaf p.types xs k (number_of_leaf r.leaf)) one ∙ ap (λ k. at_leaf p.types ys k (number_of_leaf r.leaf)) (sym one) in
     ap (λ (t : List ℕ). codes "layout of " ++ name_of p.types r.ty ++ codes ": A" ++ decimal r.rule ++ codes ": " ++ t ++ evidence_text p.types xs (number_of_leaf r.leaf) r.why) at

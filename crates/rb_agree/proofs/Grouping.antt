@@ -12,7 +12,8 @@ use Rattle.rb_core.proofs.PatternLaws.{induction}
 use Rattle.rb_layout.specs.declared.layout.Leaf.{Leaf}
 use Rattle.rb_layout.specs.A5.{HaveCommon}
 use Rattle.rb_layout.proofs.Walks.{drop_from}
-use Rattle.rb_agree.specs.inner.Sharing.{ApartWhereOff, AreGroups, HaveAll, HaveBefore, IsAlone, IsGroupOf, IsIn, MayBe, SharesNone, con_at, con_from, heads_in, root_con, sub_at}
+use Rattle.rb_layout.specs.Positions.{con_of_layer, sub_of_layer}
+use Rattle.rb_agree.specs.inner.Sharing.{ApartWhereOff, AreGroups, HaveAll, HaveBefore, IsAlone, IsGroupOf, IsIn, MayBe, SharesNone, con_at, con_from, heads_in}
 use Rattle.rb_matrix.specs.Apart.{PatternsAreApart}
 use Rattle.rb_matrix.proofs.Differing.{cons-apart}
 use Rattle.rb_agree.proofs.Lists.{at-item, map-at}
@@ -47,20 +48,20 @@ pub record IsSub (p : Pat) (i : ℕ) (q : Pat) : Type 0 where
   pub is : p ≡ Con at con pats
   pub sub : slice_get pats i ≡ Some q
 
-root-of : (p : Pat) (a : ℕ) → root_con (out-Pat p) ≡ Some a → IsRoot p a
-root-of p = induction (λ (q : Pat). (a : ℕ) → root_con (out-Pat q) ≡ Some a → IsRoot q a) (record {
-  wild = λ at a e. absurd (cc (sym (ap root_con (outs-Wild at)) ∙ e));
-  var = λ at x a e. absurd (cc (sym (ap root_con (outs-Var at x)) ∙ e));
-  num = λ at n a e. absurd (cc (sym (ap root_con (outs-Num at n)) ∙ e));
-  con = λ at c ps each a e. record { at = at; con = c; pats = ps; is = refl; number = same_Some c.con a (sym (ap root_con (outs-Con at c ps)) ∙ e) };
+root-of : (p : Pat) (a : ℕ) → con_of_layer (out-Pat p) ≡ Some a → IsRoot p a
+root-of p = induction (λ (q : Pat). (a : ℕ) → con_of_layer (out-Pat q) ≡ Some a → IsRoot q a) (record {
+  wild = λ at a e. absurd (cc (sym (ap con_of_layer (outs-Wild at)) ∙ e));
+  var = λ at x a e. absurd (cc (sym (ap con_of_layer (outs-Var at x)) ∙ e));
+  num = λ at n a e. absurd (cc (sym (ap con_of_layer (outs-Num at n)) ∙ e));
+  con = λ at c ps each a e. record { at = at; con = c; pats = ps; is = refl; number = same_Some c.con a (sym (ap con_of_layer (outs-Con at c ps)) ∙ e) };
 }) p
 
-sub-of : (p : Pat) (i : ℕ) (q : Pat) → sub_at (out-Pat p) i ≡ Some q → IsSub p i q
-sub-of p = induction (λ (r : Pat). (i : ℕ) (q : Pat) → sub_at (out-Pat r) i ≡ Some q → IsSub r i q) (record {
-  wild = λ at i q e. absurd (cc (sym (ap (λ l. sub_at l i) (outs-Wild at)) ∙ e));
-  var = λ at x i q e. absurd (cc (sym (ap (λ l. sub_at l i) (outs-Var at x)) ∙ e));
-  num = λ at n i q e. absurd (cc (sym (ap (λ l. sub_at l i) (outs-Num at n)) ∙ e));
-  con = λ at c ps each i q e. record { at = at; con = c; pats = ps; is = refl; sub = sym (ap (λ l. sub_at l i) (outs-Con at c ps)) ∙ e };
+sub-of : (p : Pat) (i : ℕ) (q : Pat) → sub_of_layer (out-Pat p) i ≡ Some q → IsSub p i q
+sub-of p = induction (λ (r : Pat). (i : ℕ) (q : Pat) → sub_of_layer (out-Pat r) i ≡ Some q → IsSub r i q) (record {
+  wild = λ at i q e. absurd (cc (sym (ap (λ l. sub_of_layer l i) (outs-Wild at)) ∙ e));
+  var = λ at x i q e. absurd (cc (sym (ap (λ l. sub_of_layer l i) (outs-Var at x)) ∙ e));
+  num = λ at n i q e. absurd (cc (sym (ap (λ l. sub_of_layer l i) (outs-Num at n)) ∙ e));
+  con = λ at c ps each i q e. record { at = at; con = c; pats = ps; is = refl; sub = sym (ap (λ l. sub_of_layer l i) (outs-Con at c ps)) ∙ e };
 }) p
 
 some-sub : (x : Option Pat) (path : List ℕ) (a : ℕ) → con_from x path ≡ Some a → (q : Pat) × (x ≡ Some q)
@@ -73,17 +74,17 @@ differ-at [] p q a b e f other =
     let s = root-of q b f in
     cons-apart r.at s.at r.con s.con r.pats s.pats p q r.is s.is (λ same. absurd (other (sym r.number ∙ same ∙ s.number)))
 differ-at (i ∷ path) p q a b e f other =
-    let x = some-sub (sub_at (out-Pat p) i) path a e in
-    let y = some-sub (sub_at (out-Pat q) i) path b f in
+    let x = some-sub (sub_of_layer (out-Pat p) i) path a e in
+    let y = some-sub (sub_of_layer (out-Pat q) i) path b f in
     let r = sub-of p i x.0 x.1 in
     let s = sub-of q i y.0 y.1 in
     let inner = differ-at path x.0 y.0 a b (sym (ap (λ z. con_from z path) x.1) ∙ e) (sym (ap (λ z. con_from z path) y.1) ∙ f) other in
     cons-apart r.at s.at r.con s.con r.pats s.pats p q r.is s.is (λ same. (i, x.0, y.0, r.sub, s.sub, inner))
 
-pub con-next : (p : Pat) (path : List ℕ) (i field : ℕ) (sub : Option Pat) (all : Option ℕ) → slice_get path i ≡ Some field → sub ≡ sub_at (out-Pat p) field
+pub con-next : (p : Pat) (path : List ℕ) (i field : ℕ) (sub : Option Pat) (all : Option ℕ) → slice_get path i ≡ Some field → sub ≡ sub_of_layer (out-Pat p) field
     → con_from (Some p) (drop i path) ≡ all → con_from sub (drop (i + 1) path) ≡ all
 con-next p path i field sub all at is here =
-    ap (λ x. con_from x (drop (i + 1) path)) is ∙ ap (λ m. con_from (sub_at (out-Pat p) field) (drop m path)) (add-one i)
+    ap (λ x. con_from x (drop (i + 1) path)) is ∙ ap (λ m. con_from (sub_of_layer (out-Pat p) field) (drop m path)) (add-one i)
     ∙ sym (ap (λ q. con_from (Some p) q) (drop_from path i field at)) ∙ here
 
 -- Groups -----------------------------------------------------------------------------------------------------

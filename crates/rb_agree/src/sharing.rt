@@ -19,8 +19,9 @@ ghost use Rattle.std.specs.Prelude.{◌≡◌, false, length, slice_get, IfOk, M
 ghost use Rattle.std.specs.Option.{option_copied};
 ghost use Rattle.rb_core.specs.declared.pattern.Pat.{out-Pat};
 ghost use Rattle.rb_core.specs.declared.types.Ty.TheVariants as Tys;
+ghost use Rattle.rb_layout.specs.Positions.{con_of_layer, sub_of_layer};
 ghost use Rattle.rb_matrix.specs.Search.{AreInhabited, IsTypeIn};
-ghost use Rattle.rb_agree.specs.inner.Sharing.{ApartWhereOff, AreGroups, AreHeads, HaveAll, IsAlone, IsGroupOf, MayBe, SharesNone, con_at, heads_in, root_con, sub_at};
+ghost use Rattle.rb_agree.specs.inner.Sharing.{ApartWhereOff, AreGroups, AreHeads, HaveAll, IsAlone, IsGroupOf, MayBe, SharesNone, con_at, heads_in};
 
 use crate::values::{apart_fault, have_common};
 use rb_core::pattern::Pat;
@@ -36,7 +37,7 @@ const CONSTRUCTORS: usize = 256;
 
 // The pattern in a field of a pattern's root constructor; None without such a constructor or field.
 fn sub_at(pat: &Pat, field: u32) -> Option<&Pat>
-    ensures { option_copied result ≡ sub_at (out-Pat pat.now) field }
+    ensures { option_copied result ≡ sub_of_layer (out-Pat pat.now) field }
 {
     match pat {
         Pat::Wild(_) => None,
@@ -48,7 +49,7 @@ fn sub_at(pat: &Pat, field: u32) -> Option<&Pat>
 
 // The number of the constructor at a pattern's root; None where none stands there.
 fn root_con(pat: &Pat) -> Option<u32>
-    ensures { result ≡ root_con (out-Pat pat.now) }
+    ensures { result ≡ con_of_layer (out-Pat pat.now) }
 {
     match pat {
         Pat::Wild(_) => None,

@@ -25,8 +25,8 @@ use Rattle.rb_layout.specs.declared.layout.Layout.{Layout}
 use Rattle.rb_layout.specs.declared.layout.Leaf.{Leaf}
 use Rattle.rb_layout.specs.Agreement.{Agrees, AreAgreed}
 use Rattle.rb_layout.specs.Flattening.{flat_layouts}
-use Rattle.rb_layout.specs.Positions.{layout_of, open_positions}
-use Rattle.rb_rel.specs.Switches.{Head, choose_of, heads_below, heads_of, leaves_in}
+use Rattle.rb_layout.specs.Positions.{layout_of, leaves_of_layout, open_positions}
+use Rattle.rb_rel.specs.Switches.{Head, choose_of, heads_below, heads_of}
 use Rattle.rb_rel.proofs.Agreeing.{lawful}
 use Rattle.rb_rel.proofs.Lists.{both}
 use Rattle.rb_fragment.specs.declared.held.Held.{Held}
@@ -113,7 +113,7 @@ part_of_con k vs i u e = ap (λ us. slice_get us i) (subs-Con k vs) ∙ e
 
 module _ (agreed : LaidOut) (typed : IsTyped agreed.covered.program) (flat : agreed.layouts ≡ flat_layouts agreed.covered.program) (agrees : Agrees agreed.covered.program) (con : ConRef) (hs : List Held)
     (shown : List Pat) (known : List Place) (known_are : shown_heads known ≡ heads_below (map heads_of shown) 0) (old new : Sheet) (ways : List Way)
-    (chooses : ChoosesFrom agreed con.ty (leaves_beside agreed.layouts con.ty (heads_below (map heads_of shown) 0) (leaves_for con.con (leaves_in (layout_of agreed.layouts con.ty)) 0))
+    (chooses : ChoosesFrom agreed con.ty (leaves_beside agreed.layouts con.ty (heads_below (map heads_of shown) 0) (leaves_for con.con (leaves_of_layout (layout_of agreed.layouts con.ty)) 0))
     (record { looked = bare_paths agreed.covered.program.types (heads_below (map heads_of shown) 0); known = known }) (parts_from 0 hs) old new ways) (opened : AreOpen (length old.code) new.code ways) where
   abbrev choices : Choices
   choices = record { holes = holes_from 0 ways; ways = ways }
@@ -122,7 +122,7 @@ module _ (agreed : LaidOut) (typed : IsTyped agreed.covered.program) (flat : agr
   heads = heads_below (map heads_of shown) 0
 
   abbrev of_con : List ℕ
-  of_con = leaves_for con.con (leaves_in (layout_of agreed.layouts con.ty)) 0
+  of_con = leaves_for con.con (leaves_of_layout (layout_of agreed.layouts con.ty)) 0
 
   abbrev leaves : List ℕ
   leaves = leaves_beside agreed.layouts con.ty heads of_con
@@ -144,9 +144,9 @@ module _ (agreed : LaidOut) (typed : IsTyped agreed.covered.program) (flat : agr
     are_leaves : AreLeavesOf layout con.con leaves
     are_leaves i n e =
         let s = stays-of agreed.layouts con.ty heads of_con i n e in
-        let r = for-of con.con (leaves_in (layout_of agreed.layouts con.ty)) 0 s.0.0 n s.0.1 in
+        let r = for-of con.con (leaves_of_layout (layout_of agreed.layouts con.ty)) 0 s.0.0 n s.0.1 in
         let z : n ≡ r.number = let q = r.at_number in omega (arith, q) in
-        (r.leaf, ap (slice_get layout.leaves) z ∙ ap (λ o. slice_get (leaves_in o) r.number) (sym is_there) ∙ r.is_number, r.is_for)
+        (r.leaf, ap (slice_get layout.leaves) z ∙ ap (λ o. slice_get (leaves_of_layout o) r.number) (sym is_there) ∙ r.is_number, r.is_for)
 
     parts_given : PartsGiven plan old.slots xs
     parts_given k x e =
@@ -205,7 +205,7 @@ module _ (agreed : LaidOut) (typed : IsTyped agreed.covered.program) (flat : agr
           let m = matched_leaf layout v f.number f.leaf f.is_leaf f.is_number in
           let law = (lawful plan.program sound.1.1 sound.0).provenances in
           let root = begins con.con f.leaf.prov v con.ty (law.root con.ty layout f.number f.leaf is_flat f.is_number) m (ap root_con (outs-Con con.con vs)) in
-          let i = for-from con.con (leaves_in (layout_of agreed.layouts con.ty)) 0 f.number f.leaf (ap (λ o. slice_get (leaves_in o) f.number) is_there ∙ f.is_number) root in
+          let i = for-from con.con (leaves_of_layout (layout_of agreed.layouts con.ty)) 0 f.number f.leaf (ap (λ o. slice_get (leaves_of_layout o) f.number) is_there ∙ f.is_number) root in
           let has = shown_have con shown vs as_shown in
           let can = own_stays agreed.layouts con.ty layout is_there heads v has f.number f.leaf f.is_leaf f.is_number in
           let j = stays-from agreed.layouts con.ty heads of_con i.0 f.number (i.1 ∙ ap Some (z_of f.number)) can in

@@ -9,8 +9,8 @@ use Rattle.rb_layout.specs.Agreement.{Agrees}
 use Rattle.rb_layout.specs.declared.layout.Leaf.{Leaf}
 use Rattle.rb_layout.specs.declared.layout.Layout.{Layout}
 use Rattle.rb_layout.specs.Flattening.{flat_layouts, same_path}
-use Rattle.rb_layout.specs.Positions.{layout_of}
-use Rattle.rb_rel.specs.Switches.{Head, choose_of, distinct_places, greatest, inner_heads, is_leaf_for, leaves_in, mend_leaf, mend_of, places_of, same_place}
+use Rattle.rb_layout.specs.Positions.{layout_of, leaves_of_layout}
+use Rattle.rb_rel.specs.Switches.{Head, choose_of, distinct_places, greatest, inner_heads, is_leaf_for, mend_leaf, mend_of, places_of, same_place}
 use Rattle.rb_rel.proofs.Lists.{both, and_true, get-left, get-right}
 use Rattle.rb_rel.proofs.Mending.{mending_recurs}
 use Rattle.rb_rel.proofs.Reading.{same_nat}
@@ -172,8 +172,8 @@ module _ (layouts : List Layout) (t k : ℕ) where
       → (i : ℕ) (h : Head) → slice_get (inner_heads leaf) i ≡ Some h → (looked : List (List ℕ)) → is_among looked h.path ≡ false
       → look_cost layouts h + left_of layouts t k (looked ++ h.path ∷ []) ≤ left_of layouts t k looked
   left_less layout is n leaf at root i h e looked new =
-      let leaves = leaves_in (layout_of layouts t) in
-      let there : slice_get leaves n ≡ Some leaf = ap (λ o. slice_get (leaves_in o) n) is ∙ at in
+      let leaves = leaves_of_layout (layout_of layouts t) in
+      let there : slice_get leaves n ≡ Some leaf = ap (λ o. slice_get (leaves_of_layout o) n) is ∙ at in
       let f = has-filter (is_leaf_for k) leaves n leaf there root in
       let g = has-flat inner_heads (filter (is_leaf_for k) leaves) f.0 i leaf h f.1 e in
       let p = placed (flat_map inner_heads (filter (is_leaf_for k) leaves)) g.0 h g.1 in
@@ -193,6 +193,6 @@ at_most_greatest f (y ∷ xs) (suc k) x e = let h = at_most_greatest f xs k x e 
 pub mend_less : (p : Program) → Agrees p → (t : ℕ) (layout : Layout) → layout_of (flat_layouts p) t ≡ Some layout → (n : ℕ) (leaf : Leaf) → slice_get layout.leaves n ≡ Some leaf
     → mend_leaf (choose_of (flat_layouts p)) leaf ≤ mend_of (flat_layouts p) t
 mend_less p agrees t layout is n leaf at =
-    let le = at_most_greatest (mend_leaf (choose_of (flat_layouts p))) (leaves_in (layout_of (flat_layouts p) t)) n leaf (ap (λ o. slice_get (leaves_in o) n) is ∙ at) in
+    let le = at_most_greatest (mend_leaf (choose_of (flat_layouts p))) (leaves_of_layout (layout_of (flat_layouts p) t)) n leaf (ap (λ o. slice_get (leaves_of_layout o) n) is ∙ at) in
     let e = mending_recurs (flat_layouts p) agrees.a9 t in
     omega (arith, le, e)

@@ -28,11 +28,11 @@ use Rattle.rb_layout.specs.declared.layout.Layout.{Layout}
 use Rattle.rb_layout.specs.declared.layout.Leaf.{Leaf}
 use Rattle.rb_layout.specs.Agreement.{Agrees, AreAgreed}
 use Rattle.rb_layout.specs.Flattening.{flat_layouts, type_at}
-use Rattle.rb_layout.specs.Positions.{Open, leaf_from, leaf_of, layout_of, open_positions, root_type, types_or_none}
-use Rattle.rb_layout.specs.inner.Walking.{open_type, pair_of, sub_in, sub_pattern, walked}
+use Rattle.rb_layout.specs.Positions.{Open, leaf_from, leaf_of, layout_of, leaves_of_layout, open_positions, pair_of, root_type, sub_in, sub_pattern, types_or_none}
+use Rattle.rb_layout.specs.inner.Walking.{open_type, walked}
 use Rattle.rb_layout.proofs.OpenPositions.{position-typed, type-open}
 use Rattle.rb_layout.proofs.Walks.{type_at_walked}
-use Rattle.rb_rel.specs.Switches.{Head, choose_of, greatest, head_below, heads_below, heads_of, heads_step, leaves_in, mend_leaf, mend_of}
+use Rattle.rb_rel.specs.Switches.{Head, choose_of, greatest, head_below, heads_below, heads_of, heads_step, mend_leaf, mend_of}
 use Rattle.rb_rel.proofs.Agreeing.{lawful}
 use Rattle.rb_rel.proofs.Lawful.{fits_type, is_named}
 use Rattle.rb_rel.proofs.Lists.{both, get-mapped}
@@ -321,8 +321,8 @@ pub mend_leaf-low : (p : Program) → Agrees p → (t : ℕ) (layout : Layout) (
 mend_leaf-low p agrees t layout n leaf is at =
     let layouts = flat_layouts p in
     let e = mending_recurs layouts agrees.a9 t in
-    let l : slice_get (leaves_in (layout_of layouts t)) n ≡ Some leaf = ap (λ o. slice_get (leaves_in o) n) is ∙ at in
-    let g = greatest-at (map (mend_leaf (choose_of layouts)) (leaves_in (layout_of layouts t))) n (mend_leaf (choose_of layouts) leaf) (get-mapped (mend_leaf (choose_of layouts)) (leaves_in (layout_of layouts t)) n leaf l) in
+    let l : slice_get (leaves_of_layout (layout_of layouts t)) n ≡ Some leaf = ap (λ o. slice_get (leaves_of_layout o) n) is ∙ at in
+    let g = greatest-at (map (mend_leaf (choose_of layouts)) (leaves_of_layout (layout_of layouts t))) n (mend_leaf (choose_of layouts) leaf) (get-mapped (mend_leaf (choose_of layouts)) (leaves_of_layout (layout_of layouts t)) n leaf l) in
     omega (arith, e, g)
 
 -- Leaves -------------------------------------------------------------------------------------------

@@ -32,8 +32,8 @@ use Rattle.rb_layout.specs.declared.layout.Leaf.{Leaf}
 use Rattle.rb_layout.specs.A9.{HasPointerPart, LeafFlattens, cons_below, cons_below_root, cons_of, cons_step}
 use Rattle.rb_layout.specs.Agreement.{Agrees}
 use Rattle.rb_layout.specs.Flattening.{flat_layouts}
-use Rattle.rb_layout.specs.Positions.{leaf_of, layout_of, types_or_none}
-use Rattle.rb_layout.specs.inner.Walking.{open_type, pair_of, sub_in as walk_in, sub_pattern}
+use Rattle.rb_layout.specs.Positions.{leaf_of, layout_of, pair_of, sub_in, sub_of_layer, sub_pattern, types_or_none}
+use Rattle.rb_layout.specs.inner.Walking.{open_type}
 use Rattle.rb_rel.specs.Placing.{blocks_in, blocks_of, lay, leaf_in, leaf_numbered, request_of}
 use Rattle.rb_rel.specs.Switches.{choose_of}
 use Rattle.rb_rel.proofs.Agreeing.{lawful}
@@ -53,7 +53,7 @@ use Rattle.rb_fetch.specs.Constructing.{AreAsShown, Constructs, IsConstructed}
 use Rattle.rb_fetch.specs.Fields.{FetchesField}
 use Rattle.rb_fetch.specs.Positions.{PositionAt, found_at, mend_under}
 use Rattle.rb_fetch.specs.inner.Fields.{leaf_at, leaf_within}
-use Rattle.rb_fetch.specs.inner.Rebuilding.{FetchesOpen, FetchesPart, FetchesParts, pattern_at, sub_at, sub_in}
+use Rattle.rb_fetch.specs.inner.Rebuilding.{FetchesOpen, FetchesPart, FetchesParts, pattern_at, sub_at}
 use Rattle.rb_fetch.proofs.Costs.{has-flat}
 use Rattle.rb_fetch.proofs.Finding.{of_plan}
 use Rattle.rb_fetch.proofs.Positions.{IsPlace, con_place, con_value, field_part, found-append, leaf_matches, mend-Con, open_position, part_matches, passed_many, place_at, position_open, root_place, sub-Con}
@@ -69,7 +69,7 @@ module _ (types : List DataDecl) where
       pick (Some x) None h = absurd cc
       pick (Some x) (Some t) h = ap (λ (y : Pat × Ty). Some y.0) (same_Some (x, t) (q, u) h)
 
-      go : (l : Pat-F Pat) → walk_in types l i ≡ Some (q, u) → sub_in l i ≡ Some q
+      go : (l : Pat-F Pat) → sub_in types l i ≡ Some (q, u) → sub_of_layer l i ≡ Some q
       go (P.Wild at) h = absurd cc
       go (P.Var at x) h = absurd cc
       go (P.Num at n) h = absurd cc
@@ -96,11 +96,11 @@ module _ (types : List DataDecl) where
 
   belows : (p : Pat) → Below p
   belows = PL.induction Below (record {
-    wild = λ at i q u k c e h. absurd (let z = sym (ap (λ (l : Pat-F Pat). walk_in types l i) (outs-Wild at)) ∙ e in cc);
-    var = λ at x i q u k c e h. absurd (let z = sym (ap (λ (l : Pat-F Pat). walk_in types l i) (outs-Var at x)) ∙ e in cc);
-    num = λ at n i q u k c e h. absurd (let z = sym (ap (λ (l : Pat-F Pat). walk_in types l i) (outs-Num at n)) ∙ e in cc);
+    wild = λ at i q u k c e h. absurd (let z = sym (ap (λ (l : Pat-F Pat). sub_in types l i) (outs-Wild at)) ∙ e in cc);
+    var = λ at x i q u k c e h. absurd (let z = sym (ap (λ (l : Pat-F Pat). sub_in types l i) (outs-Var at x)) ∙ e in cc);
+    num = λ at n i q u k c e h. absurd (let z = sym (ap (λ (l : Pat-F Pat). sub_in types l i) (outs-Num at n)) ∙ e in cc);
     con = λ at d ps each i q u k c e h.
-        let s : slice_get ps i ≡ Some q = sym (ap (λ (l : Pat-F Pat). sub_in l i) (outs-Con at d ps)) ∙ sub_same (Con at d ps) i q u e in
+        let s : slice_get ps i ≡ Some q = sym (ap (λ (l : Pat-F Pat). sub_of_layer l i) (outs-Con at d ps)) ∙ sub_same (Con at d ps) i q u e in
         let r = has-flat cons_of ps i k q c s h in
         (r.0, ap (λ (l : Pat-F Pat). slice_get (cons_below_root l) r.0) (outs-Con at d ps) ∙ r.1);
   })

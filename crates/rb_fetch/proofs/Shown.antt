@@ -13,8 +13,8 @@ use Rattle.rb_core.proofs.MatchingForms.{matches-Con}
 use Rattle.rb_layout.specs.declared.layout.Layout.{Layout}
 use Rattle.rb_layout.specs.declared.layout.Leaf.{Leaf}
 use Rattle.rb_layout.specs.Flattening.{same_path}
-use Rattle.rb_layout.specs.Positions.{layout_of, leaf_of, root_type}
-use Rattle.rb_rel.specs.Switches.{Head, heads_below, heads_of, leaves_in}
+use Rattle.rb_layout.specs.Positions.{layout_of, leaves_of_layout, leaf_of, root_type}
+use Rattle.rb_rel.specs.Switches.{Head, heads_below, heads_of}
 use Rattle.rb_rel.proofs.Lists.{and_true, get-append, get-map}
 use Rattle.rb_rel.proofs.Reading.{same_nat}
 use Rattle.rb_fetch.specs.Constructing.{AreAsShown}
@@ -100,7 +100,7 @@ module _ (layouts : List Layout) (s : ℕ) (path : List ℕ) (known : List Head)
   record IsTold : Type 0 where
     con : ℕ
     is_con : known_con path known ≡ Some con
-    is_sole : sole (leaves_beside layouts s (heads_behind path known) (leaves_for con (leaves_in (layout_of layouts s)) 0)) ≡ Some l
+    is_sole : sole (leaves_beside layouts s (heads_behind path known) (leaves_for con (leaves_of_layout (layout_of layouts s)) 0)) ≡ Some l
 
   is_told : IsTold
   is_told = go (known_con path known) refl told
@@ -112,11 +112,11 @@ module _ (layouts : List Layout) (s : ℕ) (path : List ℕ) (known : List Head)
   pub told_layout : (inner : Layout) × (layout_of layouts s ≡ Some inner)
   told_layout =
       let t = is_told in
-      let first = stays-of layouts s (heads_behind path known) (leaves_for t.con (leaves_in (layout_of layouts s)) 0) 0 l (sole-first _ l t.is_sole) in
-      let f = for-of t.con (leaves_in (layout_of layouts s)) 0 first.0.0 l first.0.1 in
+      let first = stays-of layouts s (heads_behind path known) (leaves_for t.con (leaves_of_layout (layout_of layouts s)) 0) 0 l (sole-first _ l t.is_sole) in
+      let f = for-of t.con (leaves_of_layout (layout_of layouts s)) 0 first.0.0 l first.0.1 in
       go f.number f.leaf (layout_of layouts s) refl f.is_number
     where
-      go : (n : ℕ) (leaf : Leaf) (o : Option Layout) → layout_of layouts s ≡ o → slice_get (leaves_in o) n ≡ Some leaf → (inner : Layout) × (layout_of layouts s ≡ Some inner)
+      go : (n : ℕ) (leaf : Leaf) (o : Option Layout) → layout_of layouts s ≡ o → slice_get (leaves_of_layout o) n ≡ Some leaf → (inner : Layout) × (layout_of layouts s ≡ Some inner)
       go n leaf None is e = absurd cc
       go n leaf (Some inner) is e = (inner, is)
 
@@ -129,8 +129,8 @@ module _ (layouts : List Layout) (s : ℕ) (path : List ℕ) (known : List Head)
       let same : c.0 ≡ u = same_Some c.0 u (sym c.1 ∙ at) in
       let own = begins t.con leaf.prov u s root (matched_leaf inner u n leaf is is_leaf) (ap (λ w. root_con (out-Value w)) (sym same) ∙ c.2) in
       let below = has-behind v u path at known has in
-      let i = for-from t.con (leaves_in (layout_of layouts s)) 0 n leaf (ap (λ o. slice_get (leaves_in o) n) there ∙ is_leaf) own in
+      let i = for-from t.con (leaves_of_layout (layout_of layouts s)) 0 n leaf (ap (λ o. slice_get (leaves_of_layout o) n) there ∙ is_leaf) own in
       let z : 0 + n ≡ n = omega arith in
       let can = own_stays layouts s inner there (heads_behind path known) u below n leaf is is_leaf in
-      let j = stays-from layouts s (heads_behind path known) (leaves_for t.con (leaves_in (layout_of layouts s)) 0) i.0 n (i.1 ∙ ap Some z) can in
+      let j = stays-from layouts s (heads_behind path known) (leaves_for t.con (leaves_of_layout (layout_of layouts s)) 0) i.0 n (i.1 ∙ ap Some z) can in
       sole-is _ l j.0 n t.is_sole j.1

@@ -10,8 +10,7 @@ use Rattle.rb_core.specs.declared.types.DataDecl.{DataDecl}
 use Rattle.rb_core.specs.declared.pattern.Pat.{Pat}
 use Rattle.rb_layout.specs.declared.layout.Layout.{Layout}
 use Rattle.rb_layout.specs.declared.layout.Leaf.{Leaf}
-use Rattle.rb_layout.specs.Positions.{layout_of}
-use Rattle.rb_layout.specs.inner.Walking.{sub_pattern}
+use Rattle.rb_layout.specs.Positions.{layout_of, sub_pattern}
 use Rattle.rb_rel.specs.Switches.{Head, choose_of, heads_of}
 use Rattle.rb_fragment.specs.Plan.{Plan}
 

@@ -5,8 +5,8 @@
 
 ghost use Rattle.std.specs.Prelude.{◌≡◌, ◌++◌, [], IfOk, IfSome, OnOk, map};
 ghost use Rattle.rb_core.specs.declared.types.Ty.TheVariants.{Named};
-ghost use Rattle.rb_layout.specs.Positions.{layout_of, opens_below, opens_of};
-ghost use Rattle.rb_rel.specs.Switches.{is_leaf_for, leaves_in};
+ghost use Rattle.rb_layout.specs.Positions.{layout_of, leaves_of_layout, opens_below, opens_of};
+ghost use Rattle.rb_rel.specs.Switches.{is_leaf_for};
 ghost use Rattle.rb_fetch.specs.inner.Choosing.{HasLeaves, HasOpens, HasRootCon, HasType, IsPartIn, parts_from, parts_under};
 ghost use Rattle.rb_fetch.specs.inner.Heads.{leaves_for};
 
@@ -67,7 +67,7 @@ pub(crate) fn leaves_by(
     layouts: &[Layout],
     con: ConRef,
 ) -> Result<Seq<usize>, AllocError>
-    ensures { IfOk result (λ found. found ≡ leaves_for con.con (leaves_in (layout_of layouts.now con.ty)) 0) }
+    ensures { IfOk result (λ found. found ≡ leaves_for con.con (leaves_of_layout (layout_of layouts.now con.ty)) 0) }
 {
     match layouts.get(con.ty as usize) {
         None => Ok(Seq::new(alloc)),

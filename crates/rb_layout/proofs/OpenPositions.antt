@@ -12,9 +12,9 @@ use Rattle.rb_core.specs.declared.pattern.Pat.TheOpen as P
 use Rattle.rb_core.specs.declared.pattern.Pat.TheOpen.{Pat-F}
 use Rattle.rb_core.proofs.PatternLaws.{fold-Wild, fold-Var, fold-Num, fold-Con, Each, Cases, induction}
 use Rattle.rb_core.specs.Values.{fields_of}
-use Rattle.rb_layout.specs.Positions.{Open, below, opens_below, types_or_none, opens_step, opens_of, open_positions, root_type}
+use Rattle.rb_layout.specs.Positions.{Open, below, opens_below, types_or_none, opens_step, opens_of, open_positions, root_type, pair_of, sub_in}
 use Rattle.rb_layout.specs.Flattening.{same_path, type_at}
-use Rattle.rb_layout.specs.inner.Walking.{pair_of, sub_in, open_type, walked}
+use Rattle.rb_layout.specs.inner.Walking.{open_type, walked}
 use Rattle.rb_layout.proofs.Walks.{type_at_walked}
 
 module _ {A : Type 0} where

@@ -13,10 +13,10 @@ use Rattle.rb_core.specs.declared.pattern.Pat.TheOpen as P
 use Rattle.rb_core.specs.declared.pattern.Pat.TheOpen.{Pat-F}
 use Rattle.rb_core.specs.Values.{fields_of}
 use Rattle.rb_core.proofs.PatternLaws.{fold-Wild, fold-Var, fold-Num, fold-Con, Each, induction}
-use Rattle.rb_layout.specs.Positions.{Open, below, opens_below, opens_step, opens_of, open_positions, types_or_none, root_type}
+use Rattle.rb_layout.specs.Positions.{Open, below, opens_below, opens_step, opens_of, open_positions, types_or_none, root_type, pair_of, sub_in, sub_pattern}
 use Rattle.rb_layout.specs.Locations.{or_else}
 use Rattle.rb_layout.specs.Flattening.{same_path, type_at}
-use Rattle.rb_layout.specs.inner.Walking.{pair_of, sub_in, sub_pattern, open_type, walked}
+use Rattle.rb_layout.specs.inner.Walking.{open_type, walked}
 
 -- Lists of open positions -----------------------------------------------------------------------
 

@@ -1,7 +1,7 @@
--- The open positions of provenances, the leaf of a value, and the layout of a type. A provenance is the pattern that
--- is written before a leaf; the leaf is for the values that it matches. An open position is a wildcard or a variable
--- in it, and its path the list of field numbers that leads there from the root, outermost first. Types, leaves and
--- fields are named by their numbers, from 0.
+-- The open positions of provenances, their subpatterns, the leaf of a value, and the layout of a type. A provenance is
+-- the pattern that is written before a leaf; the leaf is for the values that it matches. An open position is a wildcard
+-- or a variable in it, and its path the list of field numbers that leads there from the root, outermost first. A layer
+-- is a pattern without what is below its root. Types, leaves and fields are named by their numbers, from 0.
 use Rattle.std.specs.Prelude.{◌≡◌, ℕ, ◌+◌, ◌<◌, ◌⊎◌, List, [], ◌∷◌, ◌++◌, map, Option, Some, None, slice_get, if◌then◌else◌}
 use Rattle.rb_core.specs.declared.value.Value.{Value}
 use Rattle.rb_core.specs.declared.types.Ty.{Ty}
@@ -66,6 +66,40 @@ root_type (P.Con at c ps) = Named c.ty
 abbrev pub open_positions : List DataDecl → Pat → List Open
 open_positions types prov = opens_of types prov (root_type (out-Pat prov))
 
+-- the number of the constructor at the root of a pattern, by its outermost layer; None where that is no constructor
+abbrev pub con_of_layer : Pat-F Pat → Option ℕ
+con_of_layer (P.Wild at) = None
+con_of_layer (P.Var at x) = None
+con_of_layer (P.Num at n) = None
+con_of_layer (P.Con at c ps) = Some c.con
+
+-- the subpattern for field i of a pattern, by its outermost layer; None where that is no constructor, and past its
+-- fields
+abbrev pub sub_of_layer : Pat-F Pat → ℕ → Option Pat
+sub_of_layer (P.Wild at) i = None
+sub_of_layer (P.Var at x) i = None
+sub_of_layer (P.Num at n) i = None
+sub_of_layer (P.Con at c ps) i = slice_get ps i
+
+-- a subpattern and its type, if both are there
+abbrev pub pair_of : Option Pat → Option Ty → Option (Pat × Ty)
+pair_of None ty = None
+pair_of (Some p) None = None
+pair_of (Some p) (Some ty) = Some (p, ty)
+
+-- the subpattern for field i of one layer, with the type of that field; None where the layer is no constructor, has
+-- no such subpattern, or is of no declared constructor with such a field
+abbrev pub sub_in : List DataDecl → Pat-F Pat → ℕ → Option (Pat × Ty)
+sub_in types (P.Wild at) i = None
+sub_in types (P.Var at x) i = None
+sub_in types (P.Num at n) i = None
+sub_in types (P.Con at c ps) i = pair_of (slice_get ps i) (slice_get (types_or_none (fields_of types c)) i)
+
+-- the subpattern for field i of a pattern, with the type of that field; None where the pattern is no constructor, has
+-- no such subpattern, or is of no declared constructor with such a field
+abbrev pub sub_pattern : List DataDecl → Pat → ℕ → Option (Pat × Ty)
+sub_pattern types p i = sub_in types (out-Pat p) i
+
 -- the number of the first of some leaves whose provenance matches a value, where the first in the list is leaf n;
 -- None where none matches
 abbrev pub leaf_from : List Leaf → Value → ℕ → Option ℕ
@@ -80,6 +114,11 @@ leaf_of layout v = leaf_from layout.leaves v 0
 -- before
 abbrev pub layout_of : List Layout → ℕ → Option Layout
 layout_of layouts t = slice_get layouts t
+
+-- the leaves of a layout that may be missing, and none where it is
+abbrev pub leaves_of_layout : Option Layout → List Leaf
+leaves_of_layout None = []
+leaves_of_layout (Some layout) = layout.leaves
 
 -- One path stands to the left of another: where they first differ, it goes to the lower field. A path does not stand
 -- to the left of itself, nor of one that it begins or that begins it.

@@ -25,7 +25,7 @@ use Rattle.rb_target.specs.Meaning.{slots_at}
 use Rattle.rb_target.specs.Sheet.{Sheet}
 use Rattle.rb_layout.specs.declared.agreed.LaidOut.{LaidOut}
 use Rattle.rb_layout.specs.declared.layout.Layout.{Layout}
-use Rattle.rb_layout.specs.Positions.{layout_of, leaf_of}
+use Rattle.rb_layout.specs.Positions.{layout_of, leaves_of_layout, leaf_of}
 use Rattle.rb_rel.proofs.Leaves.{leaf_matches}
 use Rattle.rb_rel.proofs.Represented.{opened}
 use Rattle.rb_fragment.specs.declared.held.Local.{Local}
@@ -35,7 +35,7 @@ use Rattle.std.proofs.Common.{◌≤◌}
 use Rattle.rb_target.specs.Growth.{Nowhere}
 use Rattle.rb_layout.specs.Agreement.{Agrees}
 use Rattle.rb_layout.specs.Flattening.{flat_layouts}
-use Rattle.rb_rel.specs.Switches.{choose_of, depth_of, greatest, leaves_in, mend_leaf, mend_of}
+use Rattle.rb_rel.specs.Switches.{choose_of, depth_of, greatest, mend_leaf, mend_of}
 use Rattle.rb_rel.proofs.Mending.{mending_recurs}
 use Rattle.rb_match.specs.Bounding.{Place, binding_bound, binding_look, is_plain, looks_with, place_below, places_below, places_in, places_step, rebuilding}
 use Rattle.rb_match.specs.inner.Saving.{FetchesPart, mend_at, mends_at, mends_from}
@@ -262,11 +262,11 @@ con_bound plan t at c subs = ap (λ (f : Ty → List Place). looks_with (binding
 
 -- mending is what its recursion says, in each plan of the agreed program
 abbrev pub MendsIn : LaidOut → Type 0
-MendsIn agreed = (plan : Plan) → IsPlanOf agreed plan → (t : ℕ) → mend_of plan.layouts t ≡ greatest (map (mend_leaf (choose_of plan.layouts)) (leaves_in (layout_of plan.layouts t)))
+MendsIn agreed = (plan : Plan) → IsPlanOf agreed plan → (t : ℕ) → mend_of plan.layouts t ≡ greatest (map (mend_leaf (choose_of plan.layouts)) (leaves_of_layout (layout_of plan.layouts t)))
 
 pub mends_in : (agreed : LaidOut) → Agrees agreed.covered.program → agreed.layouts ≡ flat_layouts agreed.covered.program → MendsIn agreed
 mends_in agreed agrees flat = λ plan of t.
-    subst (λ ls. mend_of ls t ≡ greatest (map (mend_leaf (choose_of ls)) (leaves_in (layout_of ls t)))) (sym (of.layouts ∙ flat)) (mending_recurs (flat_layouts agreed.covered.program) agrees.a9 t)
+    subst (λ ls. mend_of ls t ≡ greatest (map (mend_leaf (choose_of ls)) (leaves_of_layout (layout_of ls t)))) (sym (of.layouts ∙ flat)) (mending_recurs (flat_layouts agreed.covered.program) agrees.a9 t)
 
 -- a constructor
 pub con_binds : (agreed : LaidOut) (t : Ty) (at : ℕ) (c : ConRef) (subs : List Pat) (leaf : ℕ) (words : List ℕ) (old new : Sheet) (bound : List Local) → MendsIn agreed → t ≡ Named c.ty → IsOnlyLeaf agreed c.ty (Con at c subs) leaf

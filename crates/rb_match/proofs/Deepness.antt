@@ -10,8 +10,8 @@ use Rattle.rb_core.specs.declared.types.ConRef.{ConRef}
 use Rattle.rb_core.proofs.PatternLaws.{fold-Con}
 use Rattle.rb_layout.specs.declared.layout.Layout.{Layout}
 use Rattle.rb_layout.specs.declared.layout.Leaf.{Leaf}
-use Rattle.rb_layout.specs.Positions.{layout_of}
-use Rattle.rb_rel.specs.Switches.{Head, head_below, heads_below, heads_of, heads_step, inner_heads, is_shallow, leaves_in}
+use Rattle.rb_layout.specs.Positions.{layout_of, leaves_of_layout}
+use Rattle.rb_rel.specs.Switches.{Head, head_below, heads_below, heads_of, heads_step, inner_heads, is_shallow}
 use Rattle.rb_match.specs.Bounding.{is_plain}
 use Rattle.rb_match.specs.inner.Saving.{HasConstructor}
 
@@ -46,4 +46,4 @@ not-all (l ∷ ls) (suc k) leaf e deep = go (is_shallow l) (not-all ls k leaf e 
     go false h = refl
 
 pub is_deep : (layouts : List Layout) (t k : ℕ) (layout : Layout) (leaf : Leaf) → layout_of layouts t ≡ Some layout → slice_get layout.leaves k ≡ Some leaf → is_shallow leaf ≡ false → is_plain layouts t ≡ false
-is_deep layouts t k layout leaf is at deep = ap (λ o. list_all is_shallow (leaves_in o)) is ∙ not-all layout.leaves k leaf at deep
+is_deep layouts t k layout leaf is at deep = ap (λ o. list_all is_shallow (leaves_of_layout o)) is ∙ not-all layout.leaves k leaf at deep

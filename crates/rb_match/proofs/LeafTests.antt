@@ -29,7 +29,7 @@ use Rattle.rb_layout.specs.declared.agreed.LaidOut.{LaidOut}
 use Rattle.std.specs.Prelude.{slice_get}
 use Rattle.rb_layout.specs.declared.layout.Layout.{Layout}
 use Rattle.rb_layout.specs.declared.layout.Leaf.{Leaf}
-use Rattle.rb_layout.specs.Positions.{layout_of, leaf_of}
+use Rattle.rb_layout.specs.Positions.{con_of_layer, layout_of, leaf_of}
 use Rattle.rb_fetch.specs.Finding.{IsPlanOf}
 use Rattle.rb_rel.proofs.Leaves.{leaf_matches}
 use Rattle.rb_rel.proofs.Represented.{opened}
@@ -44,7 +44,7 @@ use Rattle.rb_match.specs.declared.knowledge.Edge.{Edge}
 use Rattle.rb_match.specs.declared.knowledge.Known.TheVariants as K
 use Rattle.rb_match.specs.Bounding.{choosing_look}
 use Rattle.rb_match.specs.inner.Knowing.{AreKnown, IsEdge, IsKnown, seen}
-use Rattle.rb_match.specs.inner.Asking.{take_link, con_of_layer, con_in, leaf_in, leaf_con, link_at, group_for, node_for, facts_for, IsGrouped, AreGroups, edge_in, edge_to, edge_for, keep_edge, leaf_edges_of, LeavesBy, StandOpen, AsksLeaf, holes_of}
+use Rattle.rb_match.specs.inner.Asking.{take_link, con_in, leaf_in, leaf_con, link_at, group_for, node_for, facts_for, IsGrouped, AreGroups, edge_in, edge_to, edge_for, keep_edge, leaf_edges_of, LeavesBy, StandOpen, AsksLeaf, holes_of}
 use Rattle.rb_match.proofs.Edges.{same-nat, hole_at, in_tail, open_edge}
 use Rattle.rb_match.proofs.Following.{carried_known, known-kept, snoc-at}
 use Rattle.rb_match.proofs.NumberTests.{Keeps-less}

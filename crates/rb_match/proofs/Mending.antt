@@ -18,8 +18,8 @@ use Rattle.rb_core.proofs.PatternLaws.{fold-Con, induction}
 use Rattle.rb_decide.specs.Decisions.{subpatterns}
 use Rattle.rb_layout.specs.declared.layout.Layout.{Layout}
 use Rattle.rb_layout.specs.declared.layout.Leaf.{Leaf}
-use Rattle.rb_layout.specs.Positions.{layout_of, leaf_of}
-use Rattle.rb_rel.specs.Switches.{Head, choose_of, greatest, head_below, heads_below, heads_of, heads_step, inner_heads, is_shallow, leaves_in, mend_leaf, mend_of}
+use Rattle.rb_layout.specs.Positions.{layout_of, leaves_of_layout, leaf_of}
+use Rattle.rb_rel.specs.Switches.{Head, choose_of, greatest, head_below, heads_below, heads_of, heads_step, inner_heads, is_shallow, mend_leaf, mend_of}
 use Rattle.rb_rel.proofs.Leaves.{leaf_matches}
 use Rattle.rb_fragment.specs.Plan.{Plan}
 use Rattle.rb_match.specs.Bounding.{is_plain, rebuilding}
@@ -134,7 +134,7 @@ module _ (layouts : List Layout) where
   no-heads (h ∷ hs) e = absurd (let x = same-nat (length (h ∷ hs)) 0 e in omega (arith, x))
 
   -- rebuilding what one leaf takes apart
-  pub mend_within : (t : ℕ) → mend_of layouts t ≡ greatest (map (mend_leaf (choose_of layouts)) (leaves_in (layout_of layouts t))) → (number : ℕ) → mend_below layouts t number [] ≤ rebuilding layouts (Named t)
+  pub mend_within : (t : ℕ) → mend_of layouts t ≡ greatest (map (mend_leaf (choose_of layouts)) (leaves_of_layout (layout_of layouts t))) → (number : ℕ) → mend_below layouts t number [] ≤ rebuilding layouts (Named t)
   mend_within t recurs number = in_layout (layout_of layouts t) refl
     where
       here : (layout : Layout) → layout_of layouts t ≡ Some layout → (leaf : Leaf) → slice_get layout.leaves number ≡ Some leaf → mend_below layouts t number [] ≡ sum_by cost (inner_heads leaf)
@@ -143,12 +143,12 @@ module _ (layouts : List Layout) where
       in_both : (layout : Layout) → layout_of layouts t ≡ Some layout → (leaf : Leaf) → slice_get layout.leaves number ≡ Some leaf → (u : Bool) → is_plain layouts t ≡ u → mend_below layouts t number [] ≤ (if u then 0 else mend_of layouts t)
       in_both layout is leaf at true plain =
           let a = here layout is leaf at in
-          let s = shallow-at layout.leaves (ap (λ o. list_all is_shallow (leaves_in o)) (sym is) ∙ plain) number leaf at in
+          let s = shallow-at layout.leaves (ap (λ o. list_all is_shallow (leaves_of_layout o)) (sym is) ∙ plain) number leaf at in
           let c = no-heads (inner_heads leaf) s in omega (arith, a, c)
       in_both layout is leaf at false plain =
           let a = here layout is leaf at in
           let g = greatest-at layout.leaves number leaf at in
-          let e = ap (λ o. greatest (map (mend_leaf (choose_of layouts)) (leaves_in o))) is in omega (arith, a, g, e, recurs)
+          let e = ap (λ o. greatest (map (mend_leaf (choose_of layouts)) (leaves_of_layout o))) is in omega (arith, a, g, e, recurs)
 
       in_leaf : (layout : Layout) → layout_of layouts t ≡ Some layout → (o : Option Leaf) → slice_get layout.leaves number ≡ o → mend_below layouts t number [] ≤ rebuilding layouts (Named t)
       in_leaf layout is None none = (let z = ap (λ o. mend_inside layouts (pattern_at (provenance o) [])) (ap (λ o. leaf_in o number) is ∙ none) in omega (arith, z))
@@ -159,7 +159,7 @@ module _ (layouts : List Layout) where
       in_layout (Some layout) is = in_leaf layout is (slice_get layout.leaves number) refl
 
   -- rebuilding fields of one leaf, each once
-  pub mends_within : (t : ℕ) → mend_of layouts t ≡ greatest (map (mend_leaf (choose_of layouts)) (leaves_in (layout_of layouts t))) → (number i : ℕ) → mends_at layouts t number [] i ≤ rebuilding layouts (Named t)
+  pub mends_within : (t : ℕ) → mend_of layouts t ≡ greatest (map (mend_leaf (choose_of layouts)) (leaves_of_layout (layout_of layouts t))) → (number i : ℕ) → mends_at layouts t number [] i ≤ rebuilding layouts (Named t)
   mends_within t recurs number i = (let a = mends_below t number [] i in let b = mend_within t recurs number in omega (arith, a, b))
 
 -- Fields that are there

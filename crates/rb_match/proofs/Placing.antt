@@ -10,14 +10,14 @@ use Rattle.rb_core.specs.declared.types.ConRef.{ConRef}
 use Rattle.rb_core.specs.declared.types.DataDecl.{DataDecl}
 use Rattle.rb_core.specs.declared.pattern.Pat.{Pat, Wild, Var, Num, Con, out-Pat}
 use Rattle.rb_core.specs.declared.pattern.Pat.TheVariants.{outs-Wild, outs-Var, outs-Num, outs-Con}
-use Rattle.rb_match.specs.inner.Asking.{con_in, leaf_in, con_of_layer, leaf_con}
+use Rattle.rb_match.specs.inner.Asking.{con_in, leaf_in, leaf_con}
 use Rattle.rb_core.specs.Typing.{field_types}
 use Rattle.rb_core.specs.Values.{part_from, sub_at}
 use Rattle.rb_core.proofs.PatternLaws.{fold-Con}
 use Rattle.rb_layout.specs.declared.agreed.LaidOut.{LaidOut}
 use Rattle.rb_layout.specs.declared.layout.Layout.{Layout}
 use Rattle.rb_layout.specs.declared.layout.Leaf.{Leaf}
-use Rattle.rb_layout.specs.Positions.{leaf_of, layout_of, open_positions}
+use Rattle.rb_layout.specs.Positions.{con_of_layer, leaf_of, layout_of, open_positions}
 use Rattle.rb_layout.specs.Flattening.{type_at}
 use Rattle.rb_layout.proofs.OpenPositions.{type-open}
 use Rattle.rb_rel.proofs.Lists.{get-left, get-right, get-mapped}

@@ -37,7 +37,6 @@ use Rattle.rb_fetch.specs.Fields.{FetchesField}
 use Rattle.rb_fetch.specs.Finding.{IsPlanOf}
 use Rattle.rb_fetch.specs.Positions.{PositionAt, found_at, mend_under}
 use Rattle.rb_layout.specs.declared.layout.Layout.{Layout}
-use Rattle.rb_layout.specs.inner.Walking.{sub_pattern}
 use Rattle.std.proofs.Common.{take, get_or}
 use Rattle.rb_core.specs.declared.pattern.Pat.{Pat, Con, out-Pat}
 use Rattle.rb_core.specs.declared.pattern.Pat.TheOpen as P
@@ -49,8 +48,7 @@ use Rattle.std.specs.Prelude.{IfSome, unwrap_or}
 use Rattle.rb_core.specs.declared.types.DataDecl.{DataDecl}
 use Rattle.std.proofs.Common.{Option, Some, None}
 use Rattle.rb_core.specs.Values.{fields_of}
-use Rattle.rb_layout.specs.Positions.{types_or_none}
-use Rattle.rb_layout.specs.inner.Walking.{pair_of, sub_in}
+use Rattle.rb_layout.specs.Positions.{pair_of, sub_in, sub_pattern, types_or_none}
 use Rattle.rb_fragment.proofs.MakingAll.{take_more}
 use Rattle.rb_match.proofs.Mending.{has_part}
 use Rattle.rb_match.specs.inner.Asking.{leaf_in}

@@ -15,8 +15,8 @@ use Rattle.rb_core.specs.declared.pattern.Pat.TheFolds.{fold-Pat}
 use Rattle.rb_core.specs.Typing.{field_types, same_type}
 use Rattle.rb_layout.specs.declared.layout.Layout.{Layout}
 use Rattle.rb_layout.specs.Flattening.{same_path}
-use Rattle.rb_layout.specs.Positions.{layout_of}
-use Rattle.rb_rel.specs.Switches.{depth_of, is_shallow, leaves_in, look_of, mend_of}
+use Rattle.rb_layout.specs.Positions.{layout_of, leaves_of_layout}
+use Rattle.rb_rel.specs.Switches.{depth_of, is_shallow, look_of, mend_of}
 use Rattle.rb_decide.specs.Trees.{match_tree, size}
 
 -- a position in a value, as the numbers of the fields that lead to it, and the type of what stands there
@@ -83,7 +83,7 @@ bound_of types layouts t pats = rounds types t pats * looks_of layouts (places_o
 -- whether no leaf of data type t takes a subvalue apart, that is, tells the subvalue's constructor and has its fields
 -- in place of its words; true of a type without leaves
 abbrev pub is_plain : List Layout → ℕ → Bool
-is_plain layouts t = list_all is_shallow (leaves_in (layout_of layouts t))
+is_plain layouts t = list_all is_shallow (leaves_of_layout (layout_of layouts t))
 
 -- the switches that rebuild what the leaf of a value of this type has taken apart, at most; none for an integer
 abbrev pub rebuilding : List Layout → Ty → ℕ

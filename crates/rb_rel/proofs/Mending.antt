@@ -15,8 +15,8 @@ use Rattle.rb_layout.specs.declared.layout.Leaf.{Leaf}
 use Rattle.rb_layout.specs.declared.layout.Layout.{Layout}
 use Rattle.rb_layout.specs.A9.{A9, Flattens, LeafFlattens, cons_step, cons_of, cons_below, cons_below_root}
 use Rattle.rb_layout.specs.Cycles.{IsChain}
-use Rattle.rb_layout.specs.Positions.{layout_of}
-use Rattle.rb_rel.specs.Switches.{Head, head_below, heads_below, heads_step, heads_of, inner_heads, is_leaf_for, leaves_in, same_place, distinct_places, places_of, depth_of, greatest, choose_with, mend_leaf, mend_within, mend_of, choose_of}
+use Rattle.rb_layout.specs.Positions.{layout_of, leaves_of_layout}
+use Rattle.rb_rel.specs.Switches.{Head, head_below, heads_below, heads_step, heads_of, inner_heads, is_leaf_for, same_place, distinct_places, places_of, depth_of, greatest, choose_with, mend_leaf, mend_within, mend_of, choose_of}
 use Rattle.rb_rel.proofs.Lists.{get-append, get-mapped}
 
 -- Constructors below the root --------------------------------------------------------------------
@@ -109,16 +109,16 @@ module _ (layouts : List Layout) where
   abbrev R : ℕ → ℕ → Type 0
   R = Flattens layouts
 
-  leaf_in : (t : ℕ) (k : ℕ) (leaf : Leaf) (o : Option Layout) → layout_of layouts t ≡ o → slice_get (leaves_in o) k ≡ Some leaf → (s : ℕ) → LeafFlattens leaf s → R t s
+  leaf_in : (t : ℕ) (k : ℕ) (leaf : Leaf) (o : Option Layout) → layout_of layouts t ≡ o → slice_get (leaves_of_layout o) k ≡ Some leaf → (s : ℕ) → LeafFlattens leaf s → R t s
   leaf_in t k leaf None is at s f = absurd cc
   leaf_in t k leaf (Some layout) is at s f = record { layout = layout; number = k; leaf = leaf; is_layout = is; is_leaf = at; flattens = f }
 
   -- a place of a type is of a type that it flattens
   place_flattens : (t k i : ℕ) (h : Head) → slice_get (places_of layouts t k) i ≡ Some h → R t h.con.ty
   place_flattens t k i h e =
-      let a = placed_once (flat_map inner_heads (filter (is_leaf_for k) (leaves_in (layout_of layouts t)))) i h e in
-      let b = gathered inner_heads (filter (is_leaf_for k) (leaves_in (layout_of layouts t))) a.0 h a.1 in
-      let c = filtered (is_leaf_for k) (leaves_in (layout_of layouts t)) b.0 b.1 b.3 in
+      let a = placed_once (flat_map inner_heads (filter (is_leaf_for k) (leaves_of_layout (layout_of layouts t)))) i h e in
+      let b = gathered inner_heads (filter (is_leaf_for k) (leaves_of_layout (layout_of layouts t))) a.0 h a.1 in
+      let c = filtered (is_leaf_for k) (leaves_of_layout (layout_of layouts t)) b.0 b.1 b.3 in
       leaf_in t c.0 b.1 (layout_of layouts t) refl c.1 h.con.ty (inner_flattens b.1 b.2 h b.4)
 
   -- how many types can be flattened one after the other
@@ -132,9 +132,9 @@ module _ (layouts : List Layout) where
       (λ i x e. ap (λ n. depth_of layouts (Named x.con.ty) + n) (h x.con.ty (place_flattens t k i x e)))
 
   mend_same : (f g : ℕ → ℕ) (t : ℕ) → ((s : ℕ) → R t s → (u : ℕ) → R s u → f u ≡ g u)
-      → greatest (map (mend_leaf (choose_with f layouts)) (leaves_in (layout_of layouts t))) ≡ greatest (map (mend_leaf (choose_with g layouts)) (leaves_in (layout_of layouts t)))
+      → greatest (map (mend_leaf (choose_with f layouts)) (leaves_of_layout (layout_of layouts t))) ≡ greatest (map (mend_leaf (choose_with g layouts)) (leaves_of_layout (layout_of layouts t)))
   mend_same f g t h =
-      greatest_same (mend_leaf (choose_with f layouts)) (mend_leaf (choose_with g layouts)) (leaves_in (layout_of layouts t))
+      greatest_same (mend_leaf (choose_with f layouts)) (mend_leaf (choose_with g layouts)) (leaves_of_layout (layout_of layouts t))
       (λ k leaf at. sums_same (λ (x : Head). choose_with f layouts x.con.ty x.con.con) (λ (x : Head). choose_with g layouts x.con.ty x.con.con) (inner_heads leaf)
       (λ i x e. choose_same f g x.con.ty x.con.con (h x.con.ty (leaf_in t k leaf (layout_of layouts t) refl at x.con.ty (inner_flattens leaf i x e)))))
 
@@ -221,11 +221,11 @@ module _ (layouts : List Layout) where
     enough : (n t : ℕ) → length layouts ≡ n → Rank n t → mend_within layouts n t ≡ mend_within layouts (suc n) t
     enough zero t none r = go (layout_of layouts t) refl
       where
-        go : (o : Option Layout) → layout_of layouts t ≡ o → 0 ≡ greatest (map (mend_leaf (choose_with (mend_within layouts 0) layouts)) (leaves_in o))
+        go : (o : Option Layout) → layout_of layouts t ≡ o → 0 ≡ greatest (map (mend_leaf (choose_with (mend_within layouts 0) layouts)) (leaves_of_layout o))
         go None is = refl
         go (Some l) is = absurd (let lt = slice_get_within layouts t l is in omega (arith, lt, none))
     enough (suc n) t is r = let z : n + 1 ≡ suc n = omega arith in sym (ap (λ k. mend_within layouts (suc k) t) (sym z) ∙ steady n t (raised n t r) 1)
 
     -- mending by its recursion
-    pub mending_recurs : (t : ℕ) → mend_of layouts t ≡ greatest (map (mend_leaf (choose_of layouts)) (leaves_in (layout_of layouts t)))
+    pub mending_recurs : (t : ℕ) → mend_of layouts t ≡ greatest (map (mend_leaf (choose_of layouts)) (leaves_of_layout (layout_of layouts t)))
     mending_recurs t = enough (length layouts) t refl (rank t)

@@ -14,13 +14,13 @@ use Rattle.rb_rel.specs.Relation.{IsCleanlyRepresented, Made, Represent, Represe
 use Rattle.rb_rel.specs.Answers.{all_makings, making_of}
 use Rattle.rb_rel.specs.Placing.{Fits, lay, requests_of}
 use Rattle.rb_bytes.specs.Growth.{Grown}
-use Rattle.rb_rel.specs.Switches.{choose_of, greatest, leaves_in, mend_leaf, mend_of}
+use Rattle.rb_rel.specs.Switches.{choose_of, greatest, mend_leaf, mend_of}
 use Rattle.rb_rel.specs.Reading.{IsRead, read_loc, walk}
 use Rattle.rb_core.specs.declared.program.Program.{Program}
 use Rattle.rb_core.specs.TypedPrograms.{IsTyped}
 use Rattle.rb_layout.specs.Agreement.{Agrees}
 use Rattle.rb_layout.specs.Flattening.{flat_layouts}
-use Rattle.rb_layout.specs.Positions.{leaf_of, layout_of}
+use Rattle.rb_layout.specs.Positions.{leaf_of, layout_of, leaves_of_layout}
 use Rattle.rb_core.specs.Values.{all_of_types, is_of_type}
 use Rattle.rb_core.specs.declared.types.Ty.TheVariants.{Named}
 
@@ -88,4 +88,4 @@ ListsHaveWords = (p : Program) → IsTyped p → Agrees p → (m : Memory) → I
 -- reached.
 abbrev pub MendingRecurs : Type 0
 MendingRecurs = (p : Program) → Agrees p → (t : ℕ) → let layouts = flat_layouts p in
-    mend_of layouts t ≡ greatest (map (mend_leaf (choose_of layouts)) (leaves_in (layout_of layouts t)))
+    mend_of layouts t ≡ greatest (map (mend_leaf (choose_of layouts)) (leaves_of_layout (layout_of layouts t)))

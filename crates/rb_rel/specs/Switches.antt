@@ -20,7 +20,7 @@ use Rattle.rb_layout.specs.declared.layout.FlatTree.TheOpen.{FlatTree-F}
 use Rattle.rb_layout.specs.declared.layout.FlatTree.TheFolds.{fold-FlatTree}
 use Rattle.rb_layout.specs.declared.layout.FlatArm.{FlatArm-F}
 use Rattle.rb_layout.specs.Flattening.{same_path}
-use Rattle.rb_layout.specs.Positions.{layout_of}
+use Rattle.rb_layout.specs.Positions.{layout_of, leaves_of_layout}
 
 -- Splits -------------------------------------------------------------------------------------
 
@@ -98,11 +98,6 @@ abbrev pub begins_with : ℕ → List Head → Bool
 begins_with k [] = false
 begins_with k (h ∷ hs) = h.con.con == k
 
--- the leaves of a layout that may be missing, and none where it is
-abbrev pub leaves_in : Option Layout → List Leaf
-leaves_in None = []
-leaves_in (Some layout) = layout.leaves
-
 -- a leaf is for values of constructor k: its provenance begins with that constructor
 abbrev pub is_leaf_for : ℕ → Leaf → Bool
 is_leaf_for k leaf = begins_with k (heads_of leaf.prov)
@@ -120,7 +115,7 @@ distinct_places (h ∷ hs) = h ∷ filter (λ other. not (same_place h other)) (
 -- provenance, each once with the type there
 abbrev pub places_of : List Layout → ℕ → ℕ → List Head
 places_of layouts t k =
-    distinct_places (flat_map inner_heads (filter (is_leaf_for k) (leaves_in (layout_of layouts t))))
+    distinct_places (flat_map inner_heads (filter (is_leaf_for k) (leaves_of_layout (layout_of layouts t))))
 
 -- Choosing and mending -----------------------------------------------------------------------
 
@@ -141,7 +136,7 @@ mend_leaf choose leaf = sum_by (λ (h : Head). choose h.con.ty h.con.con) (inner
 abbrev pub mend_within : List Layout → ℕ → ℕ → ℕ
 mend_within layouts zero t = 0
 mend_within layouts (suc n) t =
-    greatest (map (mend_leaf (choose_with (mend_within layouts n) layouts)) (leaves_in (layout_of layouts t)))
+    greatest (map (mend_leaf (choose_with (mend_within layouts n) layouts)) (leaves_of_layout (layout_of layouts t)))
 
 -- The switches that rebuild what the leaves of a type have taken apart, in the leaf where it takes most. A type's
 -- mending asks for that of types that are flattened into it. Flattening has no cycle where layouts agree, so the
@@ -166,6 +161,6 @@ is_shallow leaf = length (inner_heads leaf) == 0
 abbrev pub look_of : List Layout → Ty → ℕ
 look_of layouts (Int bits) = depth_of layouts (Int bits)
 look_of layouts (Named t) =
-    if list_all is_shallow (leaves_in (layout_of layouts t))
+    if list_all is_shallow (leaves_of_layout (layout_of layouts t))
     then depth_of layouts (Named t)
     else 2 * (depth_of layouts (Named t) + mend_of layouts t)

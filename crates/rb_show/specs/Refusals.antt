@@ -17,7 +17,7 @@ use Rattle.rb_layout.specs.declared.layout.Layout.{Layout}
 use Rattle.rb_layout.specs.declared.layout.Leaf.{Leaf}
 use Rattle.rb_layout.specs.A8.{length_of}
 use Rattle.rb_layout.specs.Flattening.{type_at}
-use Rattle.rb_layout.specs.Positions.{open_positions}
+use Rattle.rb_layout.specs.Positions.{open_positions, leaves_of_layout}
 use Rattle.rb_show.specs.Lines.{path_text, type_name}
 use Rattle.rb_show.specs.Locations.{bits_text, loc_text}
 use Rattle.rb_show.specs.Patterns.{pattern_text}
@@ -38,11 +38,6 @@ names_text types [] = []
 names_text types (t ∷ ts) = name_of types t ++ flat_map (later_name types) ts
 
 -- Leaves ------------------------------------------------------------------------------------
-
--- the leaves of a layout that was looked up; none where no layout was found
-abbrev pub leaves_in : Option Layout → List Leaf
-leaves_in None = []
-leaves_in (Some layout) = layout.leaves
 
 -- the provenance of a leaf that was looked up, by which a leaf is named; empty where no leaf was found
 abbrev pub provenance_text : List DataDecl → Option Leaf → List ℕ
@@ -121,7 +116,8 @@ module _ (types : List DataDecl) (leaves : List Leaf) where
 
   -- the text that leaf n and a later leaf, each named by its provenance, have a common value
   abbrev pub common_text : ℕ → ℕ → List ℕ
-  common_text n later = codes "leaves " ++ leaf_text n ++ codes " and " ++ leaf_text later ++ codes " have a common value"
+  common_text n later =
+      codes "leaves " ++ leaf_text n ++ codes " and " ++ leaf_text later ++ codes " have a common value"
 
   -- the text of what fails, where n is the number of the leaf if it fails at a leaf
   abbrev pub evidence_text : ℕ → Why → List ℕ
@@ -130,9 +126,12 @@ module _ (types : List DataDecl) (leaves : List Leaf) where
   evidence_text n (WordCount wanted found) = counts_text wanted found
   evidence_text n (WordWidth i width wanted) = width_text i width ++ codes ", wanted " ++ decimal wanted
   evidence_text n (Outside item o l) = item_text item ++ codes "part " ++ bits_text o l ++ codes " outside its word"
-  evidence_text n (Overlap item o l p m) = item_text item ++ codes "parts " ++ bits_text o l ++ codes " and " ++ bits_text p m ++ codes " overlap"
-  evidence_text n (ConstWide item c l) = item_text item ++ codes "constant " ++ decimal c ++ codes " over " ++ decimal l ++ codes " bits"
-  evidence_text n (Misfit item o l path) = item_text item ++ codes "part " ++ bits_text o l ++ codes " does not fit " ++ field_text path
+  evidence_text n (Overlap item o l p m) =
+      item_text item ++ codes "parts " ++ bits_text o l ++ codes " and " ++ bits_text p m ++ codes " overlap"
+  evidence_text n (ConstWide item c l) =
+      item_text item ++ codes "constant " ++ decimal c ++ codes " over " ++ decimal l ++ codes " bits"
+  evidence_text n (Misfit item o l path) =
+      item_text item ++ codes "part " ++ bits_text o l ++ codes " does not fit " ++ field_text path
   evidence_text n (BlockWord width) = codes "block word of " ++ decimal width ++ codes " bits"
   evidence_text n (BlockWords count) = codes "block of " ++ decimal count ++ codes " words"
   evidence_text n (Blocks count) = decimal count ++ codes " blocks"
@@ -146,7 +145,8 @@ module _ (types : List DataDecl) (leaves : List Leaf) where
   evidence_text n (Unresolved loc) = unresolved_text loc
   evidence_text n (NotKnown loc c) = literal_at c (codes " not known at ") loc
   evidence_text n (NotExcluded loc c) = literal_at c (codes " not excluded at ") loc
-  evidence_text n (LiteralWide loc c) = split_text loc ++ literal_text c ++ codes " over " ++ decimal (length_of loc) ++ codes " bits"
+  evidence_text n (LiteralWide loc c) =
+      split_text loc ++ literal_text c ++ codes " over " ++ decimal (length_of loc) ++ codes " bits"
   evidence_text n (LiteralTwice loc c) = split_text loc ++ literal_text c ++ codes " twice"
   evidence_text n (NoArm loc) = split_text loc ++ codes "no arm"
   evidence_text n (HasPointer t) = pointer_text types t
@@ -161,7 +161,8 @@ is_of_one_leaf rule = list_any (nat_eq rule) (2 ∷ 3 ∷ 4 ∷ 6 ∷ 7 ∷ [])
 
 -- the name of leaf n before what fails there, where the rule is of one leaf; else empty
 abbrev pub at_leaf : List DataDecl → List Leaf → ℕ → ℕ → List ℕ
-at_leaf types leaves rule n = if is_of_one_leaf rule then codes "leaf " ++ leaf_text types leaves n ++ codes ": " else []
+at_leaf types leaves rule n =
+    if is_of_one_leaf rule then codes "leaf " ++ leaf_text types leaves n ++ codes ": " else []
 
 -- the number of a refusal's leaf, or 0 where the refusal is of no leaf
 abbrev pub number_of_leaf : Option ℕ → ℕ
@@ -171,6 +172,6 @@ number_of_leaf (Some n) = n
 -- the text of a refusal, such as `layout of T: A4: leaf C(_): alignment 3`
 abbrev pub refusal_text : List DataDecl → List Layout → Refused → List ℕ
 refusal_text types layouts r =
-    let leaves = leaves_in (slice_get layouts r.ty) in
+    let leaves = leaves_of_layout (slice_get layouts r.ty) in
     codes "layout of " ++ name_of types r.ty ++ codes ": A" ++ decimal r.rule ++ codes ": "
     ++ at_leaf types leaves r.rule (number_of_leaf r.leaf) ++ evidence_text types leaves (number_of_leaf r.leaf) r.why

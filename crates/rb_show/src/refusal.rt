@@ -6,7 +6,8 @@
 
 ghost use Rattle.std.specs.Prelude.{◌≡◌, ◌++◌, ℕ, IfOk, OnOk, Option, slice_get};
 ghost use Rattle.std.specs.List.{list_any};
-ghost use Rattle.rb_show.specs.Refusals.{at_leaf, is_of_one_leaf, leaves_in, number_of_leaf, refusal_text};
+ghost use Rattle.rb_layout.specs.Positions.{leaves_of_layout};
+ghost use Rattle.rb_show.specs.Refusals.{at_leaf, is_of_one_leaf, number_of_leaf, refusal_text};
 
 use crate::evidence::{push_evidence, push_leaf};
 use crate::show::push_name;
@@ -18,7 +19,7 @@ use std::alloc::{AllocError, Global};
 
 // The leaves of a type's layout; none where there is no such layout.
 fn leaves_of(layouts: &[Layout], ty: u32) -> &[Leaf]
-    ensures { result.now ≡ leaves_in (slice_get layouts.now ty) }
+    ensures { result.now ≡ leaves_of_layout (slice_get layouts.now ty) }
 {
     match layouts.get(ty as usize) {
         None => &[],

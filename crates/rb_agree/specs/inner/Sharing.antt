@@ -6,31 +6,16 @@
 use Rattle.std.specs.Prelude.{◌≡◌, ℕ, ◌<◌, List, [], ◌∷◌, map, Bool, Option, Some, None, slice_get}
 use Rattle.rb_core.specs.declared.types.DataDecl.{DataDecl}
 use Rattle.rb_core.specs.declared.pattern.Pat.{Pat, out-Pat}
-use Rattle.rb_core.specs.declared.pattern.Pat.TheOpen as P
-use Rattle.rb_core.specs.declared.pattern.Pat.TheOpen.{Pat-F}
 use Rattle.rb_layout.specs.declared.layout.Leaf.{Leaf}
 use Rattle.rb_layout.specs.A5.{HaveCommon}
+use Rattle.rb_layout.specs.Positions.{con_of_layer, sub_of_layer}
 use Rattle.rb_agree.specs.inner.Passing.{IsOff}
-
--- the number of the constructor at a pattern's root, if one stands there
-abbrev pub root_con : Pat-F Pat → Option ℕ
-root_con (P.Wild at) = None
-root_con (P.Var at x) = None
-root_con (P.Num at n) = None
-root_con (P.Con at c ps) = Some c.con
-
--- the pattern in field i of a pattern's root constructor; none without such a constructor or field
-abbrev pub sub_at : Pat-F Pat → ℕ → Option Pat
-sub_at (P.Wild at) i = None
-sub_at (P.Var at x) i = None
-sub_at (P.Num at n) i = None
-sub_at (P.Con at c ps) i = slice_get ps i
 
 -- the number of the constructor at a path of a pattern, if there is a pattern and one stands there
 abbrev pub con_from : Option Pat → List ℕ → Option ℕ
 con_from None path = None
-con_from (Some p) [] = root_con (out-Pat p)
-con_from (Some p) (i ∷ path) = con_from (sub_at (out-Pat p) i) path
+con_from (Some p) [] = con_of_layer (out-Pat p)
+con_from (Some p) (i ∷ path) = con_from (sub_of_layer (out-Pat p) i) path
 
 -- the number of the constructor at a path of a pattern, if one stands there
 abbrev pub con_at : Pat → List ℕ → Option ℕ

@@ -10,8 +10,8 @@ use Rattle.rb_core.specs.Typing.{field_types}
 use Rattle.rb_layout.specs.declared.layout.Layout.{Layout}
 use Rattle.rb_layout.specs.declared.layout.Leaf.{Leaf}
 use Rattle.rb_layout.specs.Flattening.{same_path}
-use Rattle.rb_layout.specs.Positions.{layout_of}
-use Rattle.rb_rel.specs.Switches.{Head, inner_heads, is_leaf_for, leaves_in}
+use Rattle.rb_layout.specs.Positions.{layout_of, leaves_of_layout}
+use Rattle.rb_rel.specs.Switches.{Head, inner_heads, is_leaf_for}
 use Rattle.rb_fetch.specs.declared.heads.Place.{Place}
 use Rattle.rb_fetch.specs.inner.Fields.{leaf_at}
 
@@ -144,7 +144,8 @@ sole (n ∷ m ∷ ns) = None
 -- exactly one fits; none without k
 abbrev pub leaf_by : List Layout → ℕ → List Head → Option ℕ → Option ℕ
 leaf_by layouts t hs None = None
-leaf_by layouts t hs (Some k) = sole (leaves_beside layouts t hs (leaves_for k (leaves_in (layout_of layouts t)) 0))
+leaf_by layouts t hs (Some k) =
+    sole (leaves_beside layouts t hs (leaves_for k (leaves_of_layout (layout_of layouts t)) 0))
 
 -- the leaf of the part of type t at a path, where the constructors that are known there and below leave one
 abbrev pub leaf_known : List Layout → ℕ → List ℕ → List Head → Option ℕ

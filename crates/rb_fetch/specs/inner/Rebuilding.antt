@@ -4,15 +4,13 @@
 -- again. An open position is a wildcard of the provenance: the leaf holds the part there whole. A path is a list of
 -- field numbers from the root. A plan has a program and its layouts, and a sheet is a function's code so far.
 -- `agreed` is a program with layouts that agree with its types.
-use Rattle.std.specs.Prelude.{◌≡◌, ℕ, ◌≤◌, ◌⊎◌, List, [], ◌∷◌, map, take, length, Bool, Option, Some, None, slice_get}
+use Rattle.std.specs.Prelude.{◌≡◌, ℕ, ◌≤◌, ◌⊎◌, List, [], ◌∷◌, map, take, length, Bool, Option, Some, None}
 use Rattle.std.specs.List.{sum_by}
 use Rattle.rb_core.specs.declared.value.Value.{Value}
 use Rattle.rb_core.specs.declared.types.Ty.{Ty}
 use Rattle.rb_core.specs.declared.types.Ty.TheVariants.{Named}
 use Rattle.rb_core.specs.declared.types.ConRef.{ConRef}
 use Rattle.rb_core.specs.declared.pattern.Pat.{Pat, Con, out-Pat}
-use Rattle.rb_core.specs.declared.pattern.Pat.TheOpen as P
-use Rattle.rb_core.specs.declared.pattern.Pat.TheOpen.{Pat-F}
 use Rattle.rb_core.specs.Values.{fields_of, part_at, subs}
 use Rattle.rb_bytes.specs.Memory.{IsGood}
 use Rattle.rb_target.specs.Growth.{Nowhere}
@@ -20,7 +18,7 @@ use Rattle.rb_target.specs.Meaning.{slots_at}
 use Rattle.rb_target.specs.Sheet.{Sheet}
 use Rattle.rb_layout.specs.declared.agreed.LaidOut.{LaidOut}
 use Rattle.rb_layout.specs.declared.layout.Layout.{Layout}
-use Rattle.rb_layout.specs.Positions.{leaf_of, types_or_none}
+use Rattle.rb_layout.specs.Positions.{leaf_of, sub_of_layer, types_or_none}
 use Rattle.rb_fragment.specs.declared.held.Held.{Held}
 use Rattle.rb_fragment.specs.Plan.{Plan, Rep, words_of}
 use Rattle.rb_fragment.specs.Adding.{Adds}
@@ -31,17 +29,9 @@ use Rattle.rb_fetch.specs.Fields.{FieldAt, FieldIsFetched}
 use Rattle.rb_fetch.specs.Finding.{IsPlanOf}
 use Rattle.rb_fetch.specs.Positions.{PositionAt, mend_under}
 
--- the subpattern for field i of a pattern, given by its outermost layer; none where that is no constructor, and past
--- its fields
-abbrev pub sub_in : Pat-F Pat → ℕ → Option Pat
-sub_in (P.Wild at) i = None
-sub_in (P.Var at x) i = None
-sub_in (P.Num at n) i = None
-sub_in (P.Con at c ps) i = slice_get ps i
-
 -- the subpattern for field i of a pattern; none where it is no constructor pattern, and past its fields
 abbrev pub sub_at : Pat → ℕ → Option Pat
-sub_at p i = sub_in (out-Pat p) i
+sub_at p i = sub_of_layer (out-Pat p) i
 
 -- the pattern at a path of a pattern; none without a pattern, and where the path leads out of it
 abbrev pub pattern_at : Option Pat → List ℕ → Option Pat

@@ -18,8 +18,6 @@ use Rattle.rb_core.specs.declared.value.Value.TheOpen.{Value-F}
 use Rattle.rb_core.specs.declared.types.Ty.{Ty}
 use Rattle.rb_core.specs.declared.types.Ty.TheVariants.{Int, Named}
 use Rattle.rb_core.specs.declared.pattern.Pat.{Pat, out-Pat}
-use Rattle.rb_core.specs.declared.pattern.Pat.TheOpen as P
-use Rattle.rb_core.specs.declared.pattern.Pat.TheOpen.{Pat-F}
 use Rattle.rb_core.specs.Values.{part_at}
 use Rattle.rb_matrix.specs.declared.matrix.Head.{Head}
 use Rattle.rb_matrix.specs.declared.matrix.Head.TheVariants as H
@@ -39,7 +37,7 @@ use Rattle.rb_target.specs.Targets.{target_in, Finishes}
 use Rattle.rb_layout.specs.declared.agreed.LaidOut.{LaidOut}
 use Rattle.rb_layout.specs.declared.layout.Layout.{Layout}
 use Rattle.rb_layout.specs.declared.layout.Leaf.{Leaf}
-use Rattle.rb_layout.specs.Positions.{layout_of}
+use Rattle.rb_layout.specs.Positions.{con_of_layer, layout_of}
 use Rattle.rb_fragment.specs.declared.reads.Read.{Read}
 use Rattle.rb_fragment.specs.Plan.{Plan, Rep, words_of}
 use Rattle.rb_fragment.specs.Adding.{Adds}
@@ -122,13 +120,6 @@ else_edges nodes pc known None = []
 else_edges nodes pc known (Some link) = edge_in nodes pc None link known ∷ []
 
 -- Constructors ----------------------------------------------------------------------------------
-
--- the number of the constructor that a pattern begins with; none for a wildcard, a variable or a number
-abbrev pub con_of_layer : Pat-F Pat → Option ℕ
-con_of_layer (P.Wild at) = None
-con_of_layer (P.Var at x) = None
-con_of_layer (P.Num at n) = None
-con_of_layer (P.Con at c ps) = Some c.con
 
 -- the number of the constructor with which a leaf's provenance begins; none where there is no leaf, or it begins
 -- with none

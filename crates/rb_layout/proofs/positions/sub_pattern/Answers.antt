@@ -1,5 +1,5 @@
 use Rattle.std.proofs.Common.{Some, None, sym, subst, MatchOption, ◌≡◌}
-use Rattle.rb_layout.specs.inner.Walking.{sub_pattern}
+use Rattle.rb_layout.specs.Positions.{sub_pattern}
 use Rattle.rb_layout.proofs.Walks.{sub_found}
 use Rattle.rb_layout.proofs.positions.sub_pattern.Goals as goal
 
