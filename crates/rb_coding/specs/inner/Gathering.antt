@@ -21,10 +21,10 @@ use Rattle.rb_coding.specs.declared.gather.Wanted.{Wanted}
 use Rattle.rb_coding.specs.declared.gather.Wanted.TheVariants.{Addresses, Field}
 
 -- The entry of the table for which a part of l bits stands, and what it is to be, where n is the number in the part's
--- bits. Of the addresses, a pointer to block b has entry b: the address, which is n times the alignment, modulo 2 ^ 64.
--- Of the words of the field at `path`, the part with its word j has entry j: n; and one with its bits from a on has
--- entry 0: n, put in from bit a on of `first`, what that entry is so far. A constant, a part of another field and a
--- part of what the table does not have, have none.
+-- bits. Of the addresses, a pointer to block b has entry b: the address, which is n times the alignment, modulo 2 ^ 64;
+-- no other part has one. Of the words of the field at `path`, the part with its word j has entry j: n; and one with its
+-- bits from a on has entry 0: n, put in from bit a on of `first`, what that entry is so far. A constant, a pointer and
+-- a part of another field have none.
 abbrev pub entry : Wanted → List ℕ → ℕ → ℕ → ℕ → Kind → Option (ℕ × ℕ)
 entry Addresses path first n l (Const c) = None
 entry Addresses path first n l (Bits own a) = None
