@@ -28,7 +28,7 @@ use Rattle.rb_layout.specs.A7.{MeetsTest, FailsTest, MeetsAll, FailsTests}
 use Rattle.rb_layout.specs.A8.{AllSplitWell, FailsSplits, length_of}
 use Rattle.rb_layout.specs.A9.{FlattensNoPointer, FailsNoPointer, FailsFlattening, Flattens}
 use Rattle.rb_layout.specs.A10.{HoldsField, FailsHolding}
-use Rattle.rb_layout.specs.Spots.{Spot, Shape, Root, Parts, Complete, Apart, Held, Tests, Splits, Flattening, NoPointer, Holding, SpotHolds, SpotFails, Checked}
+use Rattle.rb_layout.specs.Spots.{Spot, Shape, Root, Parts, Complete, Apart, Held, Tests, Splits, Flattening, NoPointer, Holding, SpotHolds, SpotFails}
 use Rattle.rb_layout.specs.Spots as spot
 
 not_shape : (d : Option LayoutDecl) (why : Why) → HasShape d → FailsShape d why → ⊥
