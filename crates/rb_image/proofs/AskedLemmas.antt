@@ -26,6 +26,7 @@ use Rattle.rb_image.proofs.SpotLemmas.{In, in_left, in_right}
 use Rattle.rb_image.proofs.WalkLemmas.{leaf_walk, split_fault, split_turn}
 
 -- One turn -----------------------------------------------------------------------------------
+
 -- an arm of a tree of splits: its literal, and the bits that the splits under it read on the way to a leaf
 abbrev asked_under : FlatArm → Under Asking
 asked_under = fold-FlatArm Asking (Under Asking) asked_step asked_arm
