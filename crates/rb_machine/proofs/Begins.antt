@@ -9,7 +9,7 @@ use Rattle.rb_target.specs.Meaning.{World, from, enter, body_in, body_of, run_of
 use Rattle.rb_target.specs.Validity.{IsValid}
 use Rattle.rb_target.specs.declared.code.CodeFun.{CodeFun}
 use Rattle.rb_machine.proofs.Rest.{valid_begins, enter_some}
-use Rattle.rb_machine.specs.Turns.{unwind, waiting_slots, current_slots, world_of, rest_of, room_in, held_in, outermost, results_in, IsFrame, StateIsSound}
+use Rattle.rb_machine.specs.inner.Turns.{unwind, waiting_slots, current_slots, world_of, rest_of, room_in, held_in, outermost, results_in, IsFrame, StateIsSound}
 use Rattle.rb_machine.specs.declared.state.Frame.{Frame}
 use Rattle.rb_machine.specs.declared.state.State.{State}
 

@@ -12,8 +12,8 @@ use Rattle.rb_target.specs.declared.instr.Instr.{Instr}
 use Rattle.rb_target.specs.declared.instr.Instr.TheVariants.{Load, Store}
 use Rattle.rb_machine.proofs.Rest.{unwind_end}
 use Rattle.rb_machine.specs.Runs.{IsNotTrapped}
-use Rattle.rb_machine.specs.Turns.{unwind, waiting_slots, current_slots, world_of, IsQuiet, MayRun}
-use Rattle.rb_machine.specs.Stretches.{IsQuietFrom}
+use Rattle.rb_machine.specs.inner.Turns.{unwind, waiting_slots, current_slots, world_of, IsQuiet, MayRun}
+use Rattle.rb_machine.specs.inner.Stretches.{IsQuietFrom}
 use Rattle.rb_machine.specs.declared.state.Frame.{Frame}
 use Rattle.rb_machine.specs.declared.state.State.{State}
 

@@ -12,7 +12,7 @@ use Rattle.rb_target.specs.declared.outcome.End.TheVariants.{Spent}
 use Rattle.rb_target.specs.declared.code.CodeFun.{CodeFun}
 use Rattle.rb_target.specs.declared.instr.Instr.{Instr}
 use Rattle.rb_target.specs.declared.instr.Instr.TheVariants.{Return}
-use Rattle.rb_machine.specs.Turns.{GoesOn, resume, width_of, unwind, room_at, room_in, held_in}
+use Rattle.rb_machine.specs.inner.Turns.{GoesOn, resume, width_of, unwind, room_at, room_in, held_in}
 use Rattle.rb_machine.specs.declared.state.Frame.{Frame}
 
 -- the function of a number

@@ -7,7 +7,7 @@ use Rattle.rb_target.specs.Laws.{Law, IsFinal}
 use Rattle.rb_target.specs.declared.outcome.End.{End}
 use Rattle.rb_target.specs.declared.outcome.End.TheVariants.{Returned, Spent, Full, Trapped}
 use Rattle.rb_target.specs.declared.instr.Instr.{Instr}
-use Rattle.rb_machine.specs.Turns.{IsFlow, flow_to}
+use Rattle.rb_machine.specs.inner.Turns.{IsFlow, flow_to}
 use Rattle.rb_machine.specs.declared.state.Flow.{Flow}
 use Rattle.rb_machine.specs.declared.state.Flow.TheVariants.{Ends}
 

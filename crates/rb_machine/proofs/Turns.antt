@@ -14,7 +14,7 @@ use Rattle.rb_target.specs.declared.code.CodeFun.{CodeFun}
 use Rattle.rb_target.specs.declared.instr.Instr.{Instr}
 use Rattle.rb_target.specs.declared.instr.Instr.TheVariants.{Call, Return}
 use Rattle.rb_machine.proofs.Rest.{known_at, callee_from, valid_begins, valid_goes_on, IsNoReturn, room_in-push, held_in-push, unwind_push, unwind_final, enter_some, enter_none}
-use Rattle.rb_machine.specs.Turns.{dests_in, width_of, unwind, waiting_slots, current_slots, world_of, rest_of, room_at, room_in, work, held_in, outermost, results_in, IsPlace, IsFrame, StateIsSound, Turned, Ended}
+use Rattle.rb_machine.specs.inner.Turns.{call_dests, width_of, unwind, waiting_slots, current_slots, world_of, rest_of, room_at, room_in, work, held_in, outermost, results_in, IsPlace, IsFrame, StateIsSound, Turned, Ended}
 use Rattle.rb_machine.specs.declared.state.Frame.{Frame}
 use Rattle.rb_machine.specs.declared.state.State.{State}
 
@@ -177,7 +177,7 @@ module _ (funs : List CodeFun) (depth : ℕ) (valid : IsValid funs) where
         let pos : 0 < depth - n = omega (arith, sound.nested) in
         let whole : below ++ slots ≡ s.stack.items = take-append-drop s.base s.stack.items in
         let first = ap (λ o. unwind funs depth s.frames.items below o) (from_at callee s.fun s.pc slots (world_of s m t) (Call f ds froms) instr) in
-        let second = ap (λ o. unwind funs depth s.frames.items below (after_call back.ended back.world (λ words. go (s.pc + 1) (put_slots slots (dests_in o) words) back.world))) (sym instr) in
+        let second = ap (λ o. unwind funs depth s.frames.items below (after_call back.ended back.world (λ words. go (s.pc + 1) (put_slots slots (call_dests o) words) back.world))) (sym instr) in
         let third = sym (unwind_push funs depth s.frames.items (waiting s) below slots back (waiting_length s sound) sound.place.slots) in
         let fourth = ap (λ xs. unwind funs depth (s.frames.items ++ waiting s ∷ []) xs back) whole in
         let fifth = ap (λ o. unwind funs depth (s.frames.items ++ waiting s ∷ []) s.stack.items o) (enter_some funs (depth - n) left f (slots_at slots froms) w l pos) in
@@ -226,7 +226,7 @@ module _ (funs : List CodeFun) (depth : ℕ) (valid : IsValid funs) where
     pub return_turned : (s s' : State) (frames : List Frame) (frame : Frame) (froms : List ℕ) → StateIsSound funs depth s → slice_get (body_of funs s.fun) s.pc ≡ Some (Return froms)
         → s.frames.items ≡ frames ++ frame ∷ [] → s'.frames.items ≡ frames → s'.fun ≡ frame.fun → s'.pc ≡ frame.pc + 1 → s'.left ≡ s.left → s'.switches ≡ s.switches → s'.results.items ≡ s.results.items
         → s'.base + width_of funs frame.fun ≡ s.base
-        → s'.stack.items ≡ take s'.base s.stack.items ++ put_slots (drop s'.base (waiting_slots s)) (dests_in (slice_get (body_of funs frame.fun) frame.pc)) (slots_at (current_slots s) froms)
+        → s'.stack.items ≡ take s'.base s.stack.items ++ put_slots (drop s'.base (waiting_slots s)) (call_dests (slice_get (body_of funs frame.fun) frame.pc)) (slots_at (current_slots s) froms)
         → (m : Memory) → Turned funs depth s m s' m 1
     return_turned s s' frames frame froms sound instr old frames' fun' pc' left' switches' results' base' stack' m =
         let slots = current_slots s in
@@ -246,7 +246,7 @@ module _ (funs : List CodeFun) (depth : ℕ) (valid : IsValid funs) where
         let front_length : length front ≡ s'.base = length-take-le s'.base s.stack.items (omega (arith, sound.fits)) in
         let width : length slots_before ≡ width_of funs frame.fun = omega (arith, length-drop s'.base below) in
         let whole : front ++ slots_before ≡ below = ap (λ xs. xs ++ slots_before) (sym under) ∙ take-append-drop s'.base below in
-        let put = put_slots slots_before (dests_in (slice_get (body_of funs frame.fun) frame.pc)) words in
+        let put = put_slots slots_before (call_dests (slice_get (body_of funs frame.fun) frame.pc)) words in
         let put_length : length put ≡ width_of funs frame.fun = length-put_slots slots_before _ words ∙ width in
         let below' : waiting_slots s' ≡ front = ap (take s'.base) stack' ∙ take_at front put s'.base front_length in
         let slots' : current_slots s' ≡ put = ap (drop s'.base) stack' ∙ drop_at front put s'.base front_length in

@@ -1,3 +1,2 @@
 pub mod Runs
-pub mod Turns
-pub mod Stretches
+pub mod inner

@@ -10,7 +10,7 @@ ghost use Rattle.rb_bytes.specs.Memory.{Memory};
 ghost use Rattle.rb_target.specs.Meaning.{body_of, slots_at, put_slots};
 ghost use Rattle.rb_target.specs.Validity.{IsValid, AreSlots};
 ghost use Rattle.rb_target.specs.Laws.{IsLawful};
-ghost use Rattle.rb_machine.specs.Turns.{StateIsSound, IsCallAt, Turned, TurnGives, IsPlace, current_slots, dests_in};
+ghost use Rattle.rb_machine.specs.inner.Turns.{StateIsSound, IsCallAt, Turned, TurnGives, IsPlace, current_slots, call_dests};
 
 use crate::state::{Frame, State};
 use rb_core::seq::Seq;
@@ -151,7 +151,7 @@ fn put_results(
     requires valid { IsValid funs.now }
     requires place { IsPlace funs.now fun pc slots.old }
     requires froms { AreSlots (length words.now) froms.now }
-    ensures { slots.new ≡ put_slots slots.old (dests_in (slice_get (body_of funs.now fun) pc))
+    ensures { slots.new ≡ put_slots slots.old (call_dests (slice_get (body_of funs.now fun) pc))
         (slots_at words.now froms.now) }
 {
     if let Instr::Call(_, dests, _) = instr_at(funs, fun, pc) {
@@ -175,7 +175,7 @@ fn give_back(
     requires froms { AreSlots (length (drop top stack.old)) froms.now }
     ensures { stack.new ≡ (take base stack.old
         ++ put_slots (drop base (take top stack.old))
-        (dests_in (slice_get (body_of funs.now frame.now.fun) frame.now.pc))
+        (call_dests (slice_get (body_of funs.now frame.now.fun) frame.now.pc))
         (slots_at (drop top stack.old) froms.now)) ++ drop top stack.old }
 {
     let (below, words) = stack.split_at_mut(top);

@@ -8,7 +8,7 @@ ghost use Rattle.rb_core.specs.Limits.{most_calls};
 ghost use Rattle.rb_target.specs.Meaning.{run_of};
 ghost use Rattle.rb_target.specs.Validity.{IsValid};
 ghost use Rattle.rb_machine.specs.Runs.{IsNotTrapped, RanAs, params_in};
-ghost use Rattle.rb_machine.specs.Turns.{StateIsSound, rest_of};
+ghost use Rattle.rb_machine.specs.inner.Turns.{StateIsSound, rest_of};
 
 use crate::calls::push_zeros;
 use crate::state::State;

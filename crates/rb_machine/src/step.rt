@@ -5,7 +5,7 @@ ghost use Rattle.std.specs.Prelude.{◌≡◌, ℕ, ◌<◌, ◌≤◌, ◌+◌,
 ghost use Rattle.rb_bytes.specs.Memory.{IsWidth, load_of, store_of, place_of};
 ghost use Rattle.rb_target.specs.Meaning.{Next, Callee, act, target_of as the_target_of};
 ghost use Rattle.rb_target.specs.Validity.{IsFine};
-ghost use Rattle.rb_machine.specs.Turns.{world, IsFlow, flow_to, MayRun, GoesOn, IsLeft};
+ghost use Rattle.rb_machine.specs.inner.Turns.{world, IsFlow, flow_to, MayRun, GoesOn, IsLeft};
 
 use crate::alu::{alu, low_bits};
 use crate::state::{Flow, Leave};

@@ -7,8 +7,8 @@ ghost use Rattle.rb_bytes.specs.Memory.{Memory};
 ghost use Rattle.rb_target.specs.Meaning.{Callee, from};
 ghost use Rattle.rb_target.specs.Validity.{IsValidFun};
 ghost use Rattle.rb_target.specs.Laws.{Law};
-ghost use Rattle.rb_machine.specs.Turns.{world};
-ghost use Rattle.rb_machine.specs.Stretches.{stop_to, IsStop, IsQuietFrom};
+ghost use Rattle.rb_machine.specs.inner.Turns.{world};
+ghost use Rattle.rb_machine.specs.inner.Stretches.{stop_to, IsStop, IsQuietFrom};
 
 use crate::state::{Flow, Stop};
 use crate::step::step;

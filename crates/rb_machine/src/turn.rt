@@ -7,7 +7,7 @@ ghost use Rattle.rb_bytes.specs.Memory.{Memory};
 ghost use Rattle.rb_target.specs.Meaning.{body_of};
 ghost use Rattle.rb_target.specs.Validity.{IsValid};
 ghost use Rattle.rb_target.specs.Laws.{IsLawful};
-ghost use Rattle.rb_machine.specs.Turns.{StateIsSound, TurnGives, StretchGives, IsQuiet, IsLeave};
+ghost use Rattle.rb_machine.specs.inner.Turns.{StateIsSound, TurnGives, StretchGives, IsQuiet, IsLeave};
 
 use crate::calls::{call_turn, return_turn};
 use crate::state::{Leave, State, Stop};

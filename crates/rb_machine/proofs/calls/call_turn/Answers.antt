@@ -2,7 +2,7 @@ use Rattle.std.proofs.Common.{◌≡◌, ◌-◌, ◌++◌, ◌∷◌, [], ◌�
 use Rattle.std.proofs.lemmas.Option.{slice_get_read}
 use Rattle.rb_target.specs.Meaning.{first_slots, slots_at}
 use Rattle.rb_machine.proofs.Turns.{call_turned, call_few, first_slots_is, waiting}
-use Rattle.rb_machine.specs.Turns.{current_slots}
+use Rattle.rb_machine.specs.inner.Turns.{current_slots}
 use Rattle.rb_machine.proofs.calls.call_turn.Goals as goal
 
 pub push_slots-requires-clause-few : goal.push_slots-requires-clause-few

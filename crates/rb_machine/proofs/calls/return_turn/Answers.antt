@@ -6,7 +6,7 @@ use Rattle.std.proofs.lemmas.List.{with_items_is}
 use Rattle.rb_target.specs.Meaning.{slots_at, put_slots, body_of, slots_in}
 use Rattle.rb_target.specs.Validity.{AreSlots}
 use Rattle.rb_machine.proofs.Turns.{return_turned, return_ended, results_fit, alone, frame_of, frame_fits, frame_place, cut_back, long_fits}
-use Rattle.rb_machine.specs.Turns.{dests_in, width_of, waiting_slots, current_slots}
+use Rattle.rb_machine.specs.inner.Turns.{call_dests, width_of, waiting_slots, current_slots}
 use Rattle.rb_machine.specs.declared.state.State.{State}
 use Rattle.rb_machine.proofs.calls.return_turn.Goals as goal
 
@@ -69,7 +69,7 @@ returns-in-Some c m =
     let known = slice_get_read funs (length funs) frame.fun f refl waits.known c.index-funs-frame.is in
     let fits = frame_fits funs c.args.depth c.requires.valid s c.pop.new.self.items frame f c.requires.sound c.in-Some.ensures.items known in
     let width : width_of funs frame.fun ≡ f.slots = ap slots_in known in
-    let ds = dests_in (slice_get (body_of funs frame.fun) frame.pc) in
+    let ds = call_dests (slice_get (body_of funs frame.fun) frame.pc) in
     let ws = slots_at (current_slots s) c.args.froms.now in
     let given : c.give_back.new.stack ≡ (take (s.base - f.slots) s.stack.items ++ put_slots (drop (s.base - f.slots) (waiting_slots s)) ds ws) ++ drop s.base s.stack.items =
     rw c.as_mut_slice-in-Some.ensures.value at c.give_back.ensures in

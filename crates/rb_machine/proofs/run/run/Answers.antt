@@ -2,7 +2,7 @@ use Rattle.std.proofs.Common.{◌≡◌, ◌+◌, ◌-◌, ◌∙◌, refl, ap, 
 use Rattle.rb_target.specs.Meaning.{Outcome, World, over, run_of}
 use Rattle.rb_target.specs.declared.outcome.End.TheVariants.{Spent}
 use Rattle.rb_machine.specs.Runs.{IsNotTrapped}
-use Rattle.rb_machine.specs.Turns.{rest_of, world_of}
+use Rattle.rb_machine.specs.inner.Turns.{rest_of, world_of}
 use Rattle.rb_machine.proofs.Rest.{enter_none}
 use Rattle.rb_machine.proofs.run.run.Goals as goal
 

@@ -1,6 +1,6 @@
 use Rattle.std.proofs.Common.{◌≡◌, ◌≤◌, ◌-◌}
 use Rattle.rb_target.specs.Meaning.{run_of}
-use Rattle.rb_machine.specs.Turns.{StateIsSound, rest_of, work}
+use Rattle.rb_machine.specs.inner.Turns.{StateIsSound, rest_of, work}
 use Rattle.rb_machine.proofs.run.run.Given as goal
 
 abbrev pub invariant-loop-leave : goal.invariant-loop-leave

@@ -6,7 +6,7 @@ use Rattle.rb_machine.proofs.Rest.{goes_on}
 use Rattle.rb_machine.proofs.Quiet.{may_run, quiet_later}
 use Rattle.rb_machine.proofs.Stretches.{one_more, not_begun}
 use Rattle.rb_target.specs.declared.instr.Instr.{Instr}
-use Rattle.rb_machine.specs.Turns.{IsLeave}
+use Rattle.rb_machine.specs.inner.Turns.{IsLeave}
 use Rattle.rb_machine.specs.declared.state.Flow.TheVariants.{Goes, Ends}
 use Rattle.rb_machine.proofs.stretch.stretch.Goals as goal
 

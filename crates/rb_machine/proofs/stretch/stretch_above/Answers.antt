@@ -1,7 +1,7 @@
 use Rattle.std.proofs.Common.{ℕ, ◌+◌, ◌-◌, ◌∙◌, List, length, sym, ap, subst}
 use Rattle.std.proofs.lemmas.List.{take_at, drop_at}
 use Rattle.rb_target.specs.Meaning.{from}
-use Rattle.rb_machine.specs.Stretches.{stop_to, IsQuietFrom}
+use Rattle.rb_machine.specs.inner.Stretches.{stop_to, IsQuietFrom}
 use Rattle.rb_machine.proofs.stretch.stretch_above.Goals as goal
 
 pub stretch-requires-clause-slots : goal.stretch-requires-clause-slots

@@ -8,8 +8,8 @@ use Rattle.rb_target.specs.Laws.{Law}
 use Rattle.rb_target.specs.declared.instr.Instr.{Instr}
 use Rattle.rb_machine.proofs.Quiet.{quiet_stretch}
 use Rattle.rb_machine.proofs.Turns.{stretch_turned, stretch_ended}
-use Rattle.rb_machine.specs.Turns.{IsLeave, waiting_slots, current_slots}
-use Rattle.rb_machine.specs.Stretches.{IsQuietFrom}
+use Rattle.rb_machine.specs.inner.Turns.{IsLeave, waiting_slots, current_slots}
+use Rattle.rb_machine.specs.inner.Stretches.{IsQuietFrom}
 use Rattle.rb_machine.specs.declared.state.State.{State}
 use Rattle.rb_machine.proofs.turn.stretch_turn.Goals as goal
 

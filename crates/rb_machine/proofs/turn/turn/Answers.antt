@@ -1,4 +1,4 @@
-use Rattle.rb_machine.specs.Turns.{current_slots}
+use Rattle.rb_machine.specs.inner.Turns.{current_slots}
 use Rattle.rb_machine.proofs.Turns.{spent_ended, callee_known, call_fits, return_fits}
 use Rattle.rb_machine.proofs.turn.turn.Goals as goal
 

@@ -8,7 +8,7 @@ use Rattle.rb_target.specs.Meaning.{World, Outcome, Callee, over, from}
 use Rattle.rb_target.specs.Laws.{IsFinal}
 use Rattle.rb_target.specs.declared.instr.Instr.{Instr}
 use Rattle.rb_machine.specs.Runs.{IsNotTrapped}
-use Rattle.rb_machine.specs.Turns.{world, IsLeave}
+use Rattle.rb_machine.specs.inner.Turns.{world, IsLeave}
 use Rattle.rb_machine.specs.declared.state.Stop.{Stop}
 use Rattle.rb_machine.specs.declared.state.Stop.TheVariants.{At, Ends}
 

@@ -23,9 +23,9 @@ use Rattle.rb_machine.specs.declared.state.Leave.{Leave}
 use Rattle.rb_machine.specs.declared.state.Leave.TheVariants.{Calls, Returns}
 
 -- the slots to which a call instruction writes its results; none where there is no call
-abbrev pub dests_in : Option Instr → List ℕ
-dests_in (Some (Call f ds froms)) = ds
-dests_in o = []
+abbrev pub call_dests : Option Instr → List ℕ
+call_dests (Some (Call f ds froms)) = ds
+call_dests o = []
 
 -- what a call that waits, with its slots, makes of the outcome of the call that it made: it goes on where that
 -- returned, and any other end is the end
@@ -33,7 +33,7 @@ abbrev pub resume : List CodeFun → ℕ → Frame → List ℕ → Outcome → 
 resume funs depth frame slots o =
     after_call o.ended o.world
     (λ words. from (body_of funs frame.fun) (enter funs depth) (frame.pc + 1)
-    (put_slots slots (dests_in (slice_get (body_of funs frame.fun) frame.pc)) words) o.world)
+    (put_slots slots (call_dests (slice_get (body_of funs frame.fun) frame.pc)) words) o.world)
 
 -- how many slots function number `fun` has; 0 where there is no such function
 abbrev pub width_of : List CodeFun → ℕ → ℕ
