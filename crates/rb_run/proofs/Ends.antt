@@ -26,8 +26,8 @@ use Rattle.rb_fragment.specs.Plan.{Plan, Rep}
 use Rattle.rb_coding.specs.Decoding.{AreOf}
 use Rattle.rb_compile.specs.Plans.{plan_of}
 use Rattle.rb_compile.specs.Refining.{EndsAs}
-use Rattle.rb_run.specs.Answering.{shown_within}
-use Rattle.rb_run.specs.Counting.{IsTally, left_at}
+use Rattle.rb_run.specs.inner.Ends.{left_at, shown_within}
+use Rattle.rb_run.specs.Counting.{IsTally}
 use Rattle.rb_run.specs.declared.count.Tally.{Tally}
 use Rattle.rb_run.specs.Calling.{IsCalled, IsEndOf, end_over, laid_call}
 

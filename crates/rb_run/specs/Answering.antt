@@ -1,8 +1,5 @@
 -- What a run answers: the value that `main` returns; that it has more nodes than may be shown, where a node is a
 -- number or a construction; that the calls are spent; or the first block that did not fit in the memory.
-use Rattle.std.specs.Prelude.{ℕ, nat_le, if◌then◌else◌}
-use Rattle.rb_core.specs.declared.value.Value.{Value}
-use Rattle.rb_core.specs.Values.{node_count}
 use Rattle.rb_rel.specs.Answers.{Answer as Meant, Full as Unfit, Spent as Stopped, TooLarge as Oversized, Shown as Given}
 use Rattle.rb_run.specs.declared.answer.Answer.{Answer}
 use Rattle.rb_run.specs.declared.answer.Answer.TheVariants.{Full, Spent, TooLarge, Shown}
@@ -13,7 +10,3 @@ meant_by (Full full) = Unfit full
 meant_by Spent = Stopped
 meant_by TooLarge = Oversized
 meant_by (Shown value) = Given value
-
--- the answer that shows a value, where it has at most so many nodes; where it has more, that it is too large
-abbrev pub shown_within : ℕ → Value → Meant
-shown_within nodes v = if nat_le (node_count v) nodes then Given v else Oversized

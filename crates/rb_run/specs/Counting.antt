@@ -6,16 +6,7 @@ use Rattle.rb_bytes.specs.Memory.{least_region}
 use Rattle.rb_core.specs.declared.outcome.SourceEnd.{SourceEnd}
 use Rattle.rb_core.specs.declared.outcome.SourceEnd.TheVariants as source
 use Rattle.rb_rel.specs.Placing.{Laid, Fits, Over}
-use Rattle.rb_target.specs.declared.outcome.End.{End}
-use Rattle.rb_target.specs.declared.outcome.End.TheVariants.{Returned, Spent, Full, Trapped}
 use Rattle.rb_run.specs.declared.count.Tally.{Tally}
-
--- how many calls a run leaves that ends so; 0 where it does not return
-abbrev pub left_at : End → ℕ
-left_at (Returned words left) = left
-left_at Spent = 0
-left_at (Full full) = 0
-left_at (Trapped trap) = 0
 
 -- Where the blocks fit and the source returns: how many of the calls were made, how many blocks there are,
 -- and the bytes up to the next address. Of another end nothing is said.

@@ -1,3 +1,4 @@
 pub mod Calling
 pub mod Counting
 pub mod Answering
+pub mod inner

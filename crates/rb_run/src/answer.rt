@@ -14,8 +14,9 @@ ghost use Rattle.rb_core.specs.Values.{all_of_types, is_of_type};
 ghost use Rattle.rb_rel.specs.Answers.{answer_at, answer_of};
 ghost use Rattle.rb_compile.specs.Plans.{plan_of};
 ghost use Rattle.rb_compile.specs.Refining.{Refines};
-ghost use Rattle.rb_run.specs.Answering.{meant_by, shown_within};
+ghost use Rattle.rb_run.specs.Answering.{meant_by};
 ghost use Rattle.rb_run.specs.Calling.{IsCalled, IsCounted, IsEndOf, laid_call};
+ghost use Rattle.rb_run.specs.inner.Ends.{shown_within};
 
 use crate::count::count_main;
 use rb_bytes::fault::Full;

@@ -13,7 +13,8 @@ ghost use Rattle.rb_compile.specs.Plans.{plan_of};
 ghost use Rattle.rb_compile.specs.Refining.{Refines};
 ghost use Rattle.rb_run.specs.Answering.{meant_by};
 ghost use Rattle.rb_run.specs.Calling.{IsCounted, laid_call};
-ghost use Rattle.rb_run.specs.Counting.{IsTally, left_at};
+ghost use Rattle.rb_run.specs.Counting.{IsTally};
+ghost use Rattle.rb_run.specs.inner.Ends.{left_at};
 
 use crate::answer::{Answer, Bounds, answer_to};
 use crate::call::call_main;
