@@ -16,7 +16,8 @@ use Rattle.rb_layout.specs.declared.layout.Kind.TheVariants.{Const, Bits, Word, 
 use Rattle.rb_fragment.specs.Reads.{is_range}
 use Rattle.rb_rel.proofs.Packing.{number_of, packed, put_below}
 use Rattle.rb_compose.specs.declared.subvalue.Subvalue.{Subvalue}
-use Rattle.rb_compose.specs.inner.Code.{after_constants, capped, constants, is_constant, is_low, is_ready, low_bit, with_constant}
+use Rattle.rb_compose.specs.Counts.{capped}
+use Rattle.rb_compose.specs.inner.Code.{after_constants, constants, is_constant, is_low, is_ready, low_bit, with_constant}
 use Rattle.rb_compose.proofs.Numbers.{AreRanges, IsPut, composed, constants_small, other_kind, others, put_is, turned, with_kind}
 use Rattle.rb_compose.proofs.Skipping.{Each, each_after}
 

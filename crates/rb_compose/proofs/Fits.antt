@@ -23,7 +23,8 @@ use Rattle.rb_fragment.specs.Slots.{AllBelow, AllFrom, IsDistinct}
 use Rattle.rb_fragment.proofs.Adding.{Adds-one, Adds-refl, Adds-trans, push_adds}
 use Rattle.rb_fragment.proofs.Moves.{one-from}
 use Rattle.rb_rel.proofs.Storing.{IsBlock}
-use Rattle.rb_compose.specs.inner.Code.{after_constants, begun_code, block_code, blocks_code, capped, constants, field_slots, is_low, is_ready, joined_code, kind_code, leaf_code, low_bit, part_code, parts_code, put_code, root_code, root_slots, roots_code, shift_of, slot_of, source_slot, stores_code, taken_code, taken_slot, value_code, value_slot, whole_of, whole_slot, word_code}
+use Rattle.rb_compose.specs.Counts.{capped}
+use Rattle.rb_compose.specs.inner.Code.{after_constants, begun_code, block_code, blocks_code, constants, field_slots, is_low, is_ready, joined_code, kind_code, leaf_code, low_bit, part_code, parts_code, put_code, root_code, root_slots, roots_code, shift_of, slot_of, source_slot, stores_code, taken_code, taken_slot, value_code, value_slot, whole_of, whole_slot, word_code}
 use Rattle.rb_compose.proofs.Longer.{begun_by, block_longer, blocks_longer, fresh_root, fresh_word, from_code, joined_by, low_by, part_by, part_longer, root_longer, roots_longer, stores_longer, taken_longer, value_longer, word_by}
 use Rattle.rb_compose.proofs.Numbers.{constants_small, shift_small}
 use Rattle.rb_compose.proofs.Skipping.{each_after}

@@ -15,7 +15,8 @@ use Rattle.rb_layout.specs.declared.layout.Leaf.{Leaf}
 use Rattle.rb_layout.specs.declared.layout.Part.{Part}
 use Rattle.rb_layout.specs.Words.{size_of}
 use Rattle.rb_compose.specs.declared.subvalue.Subvalue.{Subvalue}
-use Rattle.rb_compose.specs.inner.Code.{after_constants, begun_code, block_code, blocks_code, capped, constants, field_slots, is_low, is_ready, joined_code, kind_code, leaf_code, low_bit, part_code, parts_code, put_code, root_code, roots_code, shift_of, source_slot, stores_code, taken_code, taken_slot, value_code, value_slot, whole_slot, word_code}
+use Rattle.rb_compose.specs.Counts.{capped}
+use Rattle.rb_compose.specs.inner.Code.{after_constants, begun_code, block_code, blocks_code, constants, field_slots, is_low, is_ready, joined_code, kind_code, leaf_code, low_bit, part_code, parts_code, put_code, root_code, roots_code, shift_of, source_slot, stores_code, taken_code, taken_slot, value_code, value_slot, whole_slot, word_code}
 
 -- more instructions behind the old ones, and no fewer slots
 pub record IsLonger (b c : Sheet) : Type 0 where

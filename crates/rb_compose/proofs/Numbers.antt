@@ -16,7 +16,8 @@ use Rattle.rb_layout.specs.declared.layout.Kind.TheVariants.{Const, Bits, Word, 
 use Rattle.rb_layout.specs.A4.{IsAlignment}
 use Rattle.rb_fragment.specs.Reads.{is_range}
 use Rattle.rb_rel.proofs.Packing.{number_of, packed, put_below}
-use Rattle.rb_compose.specs.inner.Code.{capped, constants, shift_of, with_constant}
+use Rattle.rb_compose.specs.Counts.{capped}
+use Rattle.rb_compose.specs.inner.Code.{constants, shift_of, with_constant}
 
 pub capped-is : (n : ℕ) → n ≤ 64 → capped n ≡ n
 capped-is n le = omega (arith, le)

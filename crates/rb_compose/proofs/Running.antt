@@ -27,7 +27,8 @@ use Rattle.rb_layout.specs.Words.{bytes_in, size_of}
 use Rattle.rb_compose.specs.declared.subvalue.Subvalue.{Subvalue}
 use Rattle.rb_fragment.proofs.Steps.{set_same}
 use Rattle.rb_rel.proofs.Storing.{IsBlock, written, with_block, above}
-use Rattle.rb_compose.specs.inner.Code.{after_constants, begun_code, block_code, capped, constants, field_slots, is_low, is_ready, joined_code, kind_code, low_bit, part_code, parts_code, put_code, root_code, root_slots, roots_code, shift_of, slot_of, source_slot, stores_code, taken_code, taken_slot, value_code, value_slot, whole_of, word_code}
+use Rattle.rb_compose.specs.Counts.{capped}
+use Rattle.rb_compose.specs.inner.Code.{after_constants, begun_code, block_code, constants, field_slots, is_low, is_ready, joined_code, kind_code, low_bit, part_code, parts_code, put_code, root_code, root_slots, roots_code, shift_of, slot_of, source_slot, stores_code, taken_code, taken_slot, value_code, value_slot, whole_of, word_code}
 use Rattle.rb_compose.proofs.Longer.{IsLonger, begun_by, fresh_root, from_code, joined_by, longer-fresh, low_by, longer-push, part_by, part_longer, parts_longer, root_longer, roots_longer, store_longer, stored_code, stores_longer, taken_longer, value_longer, word_by}
 use Rattle.rb_compose.proofs.Numbers.{other_kind, taken_value}
 use Rattle.rb_compose.proofs.Beside.{begun_number, composed_number, joined_number, low_number, source_word, with_readies, with_ready, word_number}

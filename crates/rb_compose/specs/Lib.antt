@@ -1,3 +1,4 @@
+pub mod Counts
 pub mod Subvalues
 pub mod Making
 pub mod inner

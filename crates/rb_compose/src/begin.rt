@@ -6,8 +6,9 @@
 ghost use Rattle.std.specs.Prelude.{◌≡◌, IfOk, OnOk};
 ghost use Rattle.rb_compose.specs.inner.Code.{after_constants, begun_code, is_constant, is_low, joined_code, low_bit};
 
+use crate::count::bits;
 use crate::subvalue::Subvalue;
-use crate::word::{bits, emit_parts, is_ready, source_slot};
+use crate::word::{emit_parts, is_ready, source_slot};
 use rb_fragment::emit::{emit_alu, emit_const, emit_copy, emit_take};
 use rb_layout::layout::{Kind, Part};
 use rb_target::body::Body;

@@ -6,8 +6,9 @@ ghost use Rattle.std.specs.Prelude.{◌≡◌, ◌+◌, ◌/◌, IfOk, OnOk};
 ghost use Rattle.rb_layout.specs.Words.{bytes_in};
 ghost use Rattle.rb_compose.specs.inner.Code.{block_code, blocks_code, stores_code};
 
+use crate::count::bits;
 use crate::subvalue::Subvalue;
-use crate::word::{bits, emit_value};
+use crate::word::emit_value;
 use rb_core::seq::Seq;
 use rb_layout::layout::{Block, FlatWord};
 use rb_target::body::Body;

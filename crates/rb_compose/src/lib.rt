@@ -46,6 +46,7 @@
 
 mod begin;
 mod block;
+pub mod count;
 pub mod leaf;
 pub mod subvalue;
 mod word;

@@ -8,9 +8,10 @@
 
 ghost use Rattle.std.specs.Prelude.{◌≡◌, ◌≤◌, IfOk, OnOk, slice_index};
 ghost use Rattle.std.specs.Option.{option_copied};
-ghost use Rattle.rb_compose.specs.inner.Code.{capped, constants, field_slots, field_type, is_int, is_ready, kind_code, part_code, parts_code, put_code, root_made, shift_of, slot_of, source_slot, taken_code, taken_slot, value_made, value_slot, whole_kind, whole_part, whole_slot, with_constant, word_code};
+ghost use Rattle.rb_compose.specs.inner.Code.{constants, field_slots, field_type, is_int, is_ready, kind_code, part_code, parts_code, put_code, root_made, shift_of, slot_of, source_slot, taken_code, taken_slot, value_made, value_slot, whole_kind, whole_part, whole_slot, with_constant, word_code};
 
 use crate::begin::{after_constants, emit_begun};
+use crate::count::bits;
 use crate::subvalue::{Subvalue, subvalue_at};
 use rb_bits::{put, take};
 use rb_core::types::Ty;
@@ -336,13 +337,6 @@ fn slot_at(slots: &[usize], number: u64) -> usize
         None => 0,
         Some(slot) => *slot,
     }
-}
-
-// A number of bits, or 64 if it is more: no word has more bits.
-pub(crate) fn bits(count: u64) -> u8
-    ensures { result ≡ capped count }
-{
-    count.min(64) as u8
 }
 
 // Which power of two an alignment from 2 to 64 is; 0 for any other number.

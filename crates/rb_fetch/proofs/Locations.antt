@@ -24,10 +24,10 @@ use Rattle.rb_fragment.specs.WordReads.{AreMeant, AllFit}
 use Rattle.rb_fragment.proofs.MakingAll.{meant-at, slots_fit, slots_meant}
 use Rattle.rb_fragment.proofs.Pieces.{straight_weaken}
 use Rattle.rb_fragment.proofs.ReadForms.{both, mean-Bits, mean-Address, mean-Loaded, fits-Bits, fits-Address, fits-Loaded}
-use Rattle.rb_compose.specs.inner.Code.{capped}
 use Rattle.rb_fetch.specs.Fetching.{StepsFit, LocFits, IsReadAt, FetchesLoc}
 use Rattle.rb_fetch.specs.inner.Fetching.{AreSmall, FetchesAt}
 use Rattle.rb_fetch.specs.declared.span.Span.{Span}
+use Rattle.rb_compose.specs.Counts.{capped}
 use Rattle.rb_fetch.specs.inner.Reads.{IsSmall, Spans, IsSameRange, ReadsRange, is_all, reach, step_span, span_on, read_or, SpansLoc}
 
 -- Fitting

@@ -9,8 +9,9 @@ ghost use Rattle.rb_fetch.specs.inner.Placing.{IsAgreedLeaf};
 ghost use Rattle.rb_fetch.specs.inner.Fields as fields;
 
 use crate::place::{Wanted, find_part};
-use crate::span::{Span, bits};
+use crate::span::Span;
 use crate::way::{spot_read, spot_span};
+use rb_compose::count::bits;
 use rb_core::seq::Seq;
 use rb_core::types::Ty;
 use rb_fragment::reads::{Read, Share};

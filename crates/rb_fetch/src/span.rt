@@ -4,9 +4,9 @@
 //! leads.
 
 ghost use Rattle.std.specs.Prelude.{◌≡◌, ◌+◌, ◌≤◌, true, IfOk, slice_get};
-ghost use Rattle.rb_compose.specs.inner.Code.{capped};
 ghost use Rattle.rb_fetch.specs.inner.Reads.{is_all, IsSameRange, ReadsRange, read_or, reach, SpansLoc, span_on};
 
+use rb_compose::count::bits;
 use rb_core::boxed::Boxed;
 use rb_core::layout_decl::{Loc, Step};
 use rb_fragment::reads::Read;
@@ -154,12 +154,4 @@ fn word_at(alloc: Global, words: &[Read], word: u64) -> Result<Read, AllocError>
             Ok(copy)
         }
     }
-}
-
-/// A number of bits, or 64 where it is more, as no word has more: so it is a number of an
-/// instruction.
-pub fn bits(count: u64) -> u8
-    ensures { result ≡ capped count }
-{
-    count.min(64) as u8
 }

@@ -5,7 +5,7 @@
 -- what they hold: a constant; bits of the integer at a path, from bit a on; word j of the value of a data type at a
 -- path; or the address of block x, counted in units of `align` bytes. A part is ready where a slot holds it in its
 -- place and no other bit: an `or` sets it beside what a word has. Any other is put over it, into its range.
-use Rattle.std.specs.Prelude.{ℕ, ◌+◌, ◌-◌, ◌/◌, ◌==◌, ◌&&◌, min, length, Bool, true, false, List, [], ◌∷◌, ◌++◌, Option, Some, None, slice_get, slice_index, if◌then◌else◌}
+use Rattle.std.specs.Prelude.{ℕ, ◌+◌, ◌-◌, ◌/◌, ◌==◌, ◌&&◌, length, Bool, true, false, List, [], ◌∷◌, ◌++◌, Option, Some, None, slice_get, slice_index, if◌then◌else◌}
 use Rattle.rb_core.specs.declared.types.Ty.{Ty}
 use Rattle.rb_core.specs.declared.types.Ty.TheVariants.{Int, Named}
 use Rattle.rb_bits.specs.Words.{put_of, take_of}
@@ -22,6 +22,7 @@ use Rattle.rb_layout.specs.Words.{size_of}
 use Rattle.rb_fragment.specs.declared.held.Held.{Held}
 use Rattle.rb_fragment.specs.Reads.{is_range}
 use Rattle.rb_compose.specs.declared.subvalue.Subvalue.{Subvalue}
+use Rattle.rb_compose.specs.Counts.{capped}
 use Rattle.rb_compose.specs.Subvalues.{subvalue_at}
 
 -- Where bits come from -------------------------------------------------------------------------
@@ -40,10 +41,6 @@ abbrev pub shift_of : ℕ → ℕ
 shift_of align =
     if align == 2 then 1 else if align == 4 then 2 else if align == 8 then 3
     else if align == 16 then 4 else if align == 32 then 5 else if align == 64 then 6 else 0
-
--- a number of bits, or 64 if it is more: no word has more bits
-abbrev pub capped : ℕ → ℕ
-capped n = min n 64
 
 -- code that leaves bits o up to o + l of slot x in a new slot; none where o is 0, as they stand in x from bit 0 on
 abbrev pub taken_code : ℕ → ℕ → ℕ → Sheet → Sheet

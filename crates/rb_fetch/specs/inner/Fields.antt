@@ -19,9 +19,9 @@ use Rattle.rb_fragment.specs.declared.reads.Read.{Read, Slot}
 use Rattle.rb_fragment.specs.declared.reads.Share.{Share}
 use Rattle.rb_fragment.specs.Reads.{mean, meant_of, joined_over, fits, fits_share}
 use Rattle.rb_fragment.specs.WordReads.{AreMeant, AllFit, IsSlotOf}
-use Rattle.rb_compose.specs.inner.Code.{capped}
 use Rattle.rb_fetch.specs.declared.span.Span.{Span}
 use Rattle.rb_fetch.specs.declared.place.Wanted.TheVariants.{UnitOf}
+use Rattle.rb_compose.specs.Counts.{capped}
 use Rattle.rb_fetch.specs.inner.Reads.{Spans}
 use Rattle.rb_fetch.specs.inner.Placing.{NoSpot}
 

@@ -9,7 +9,7 @@ use Rattle.rb_bits.specs.Words.{IsRange, take_of}
 use Rattle.rb_bytes.specs.Memory.{Memory}
 use Rattle.rb_fragment.specs.Reads.{mean, fits}
 use Rattle.rb_fragment.specs.declared.reads.Read.{Read, Slot, Number, Address, Loaded}
-use Rattle.rb_compose.specs.inner.Code.{capped}
+use Rattle.rb_compose.specs.Counts.{capped}
 use Rattle.rb_fetch.specs.declared.span.Span.{Span}
 
 -- w has at most so many bits as the width says; any number where no width is given

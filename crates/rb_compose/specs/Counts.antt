@@ -1,0 +1,6 @@
+-- Numbers of bits, as instructions have them.
+use Rattle.std.specs.Prelude.{ℕ, min}
+
+-- a number of bits, or 64 if it is more: no word has more bits
+abbrev pub capped : ℕ → ℕ
+capped n = min n 64
