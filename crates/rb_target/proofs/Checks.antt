@@ -6,7 +6,7 @@ use Rattle.std.proofs.lemmas.List.Elements.{All-get_or}
 use Rattle.rb_target.specs.Validity.{CallsFit, IsValid, IsValidFun, IsBounded}
 use Rattle.rb_target.specs.Spelled.{IsSpelledInstr, IsSpelledFun, AreSpelled}
 use Rattle.rb_target.specs.Faults.{MiscountsSlots, HasBadSlot, HasBadJump, HasBadCall, InFun, FaultStands, IsFirstCodeFault, IsBefore, place_of_fault}
-use Rattle.rb_target.specs.Checking.{InstrHolds, CountsSlots, HasGoodSlots, HasGoodJumps, IsFaultless, IsFaultAt, IsFaultIn}
+use Rattle.rb_target.specs.inner.Checking.{InstrHolds, CountsSlots, HasGoodSlots, HasGoodJumps, IsFaultless, IsFaultAt, IsFaultIn}
 use Rattle.rb_target.specs.declared.instr.Instr.{Instr}
 use Rattle.rb_target.specs.declared.code.CodeFun.{CodeFun}
 use Rattle.rb_target.specs.declared.fault.CodeFault.{CodeFault}

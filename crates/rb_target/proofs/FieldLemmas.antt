@@ -12,15 +12,15 @@ use Rattle.std.proofs.lemmas.Grind.{common_steps}
 use Rattle.std.proofs.lemmas.Option.{same_Some}
 use Rattle.rb_core.specs.Decimal.{is_numeral}
 use Rattle.rb_core.proofs.Decimals.{numeral_spelled, numeral-decimal, value-decimal}
-use Rattle.rb_target.specs.Text.{word_text, op_text}
+use Rattle.rb_target.specs.Text.{word_text, op_text, key_text}
 use Rattle.rb_target.specs.Spelled.{IsShort}
 use Rattle.rb_target.specs.inner.Reading.{is_gap}
-use Rattle.rb_target.specs.inner.Fields.{number_of_word, has, leads, is_open, ops, op_of, op_word, named_word, numbered_word, word_in, named_front, numbered_front, is_word_front, key_bytes, keys, key_of}
+use Rattle.rb_target.specs.inner.Fields.{number_of_word, has, leads, is_open, ops, op_of_word, op_word, named_word, numbered_word, word_in, named_front, numbered_front, is_word_front, keys, key_of_word}
 use Rattle.rb_target.specs.declared.instr.AluOp.{AluOp}
 use Rattle.rb_target.specs.declared.instr.AluOp.TheVariants.{Add, Sub, Mul, And, Or, Xor, Eq, Lt}
 use Rattle.rb_target.specs.declared.word.Word.{Word}
 use Rattle.rb_target.specs.declared.word.Word.TheVariants.{Number, Op, Dash, Of}
-use Rattle.rb_target.specs.declared.read.spot.Key.{Key}
+use Rattle.rb_target.specs.declared.word.Key.{Key}
 use Rattle.rb_target.specs.declared.read.spot.Field.{Field}
 use Rattle.rb_target.specs.declared.read.spot.Field.TheVariants.{Upto, FromOne, Width, Align, Range, Operation, OrDash, OrOf, Nothing}
 
@@ -97,17 +97,17 @@ find_told p (y ∷ ys) x e = elim (p y) as (λ (b : Bool). p y ≡ b → cond b 
   | false ↦ λ h g. find_told p ys x g
 ] refl e
 
-pub key_told : (w : List ℕ) (k : Key) → key_of w ≡ Some k → key_bytes k ≡ w
-key_told w k e = same_text (key_bytes k) w (sym (find_told (λ j. pointwise nat_eq (key_bytes j) w) keys k e))
+pub key_told : (w : List ℕ) (k : Key) → key_of_word w ≡ Some k → key_text k ≡ w
+key_told w k e = same_text (key_text k) w (sym (find_told (λ j. pointwise nat_eq (key_text j) w) keys k e))
 
-op_told : (w : List ℕ) (o : Option AluOp) (x : Word) → op_of w ≡ o → op_word o ≡ Some x → Told Operation w x
+op_told : (w : List ℕ) (o : Option AluOp) (x : Word) → op_of_word w ≡ o → op_word o ≡ Some x → Told Operation w x
 op_told w None x e g = absurd (cc g)
 op_told w (Some op) x e g =
     let same : op_text op ≡ w = same_text (op_text op) w (sym (find_told (λ o. pointwise nat_eq (op_text o) w) ops op e)) in
     subst (λ z. Told Operation w z) (same_Some (Op op) x g) (record { text = sym same; may = refl; short = tt })
 
 named_told : (f : Field) (w : List ℕ) (x : Word) → named_word f w ≡ Some x → Told f w x
-named_told Operation w x e = op_told w (op_of w) x refl e
+named_told Operation w x e = op_told w (op_of_word w) x refl e
 named_told OrDash w x e = if_told OrDash w (codes "-") Dash x (λ s. record { text = s; may = refl; short = tt }) e
 named_told OrOf w x e = if_told OrOf w (codes "of") Of x (λ s. record { text = s; may = refl; short = tt }) e
 named_told f w x e = absurd (cc e)

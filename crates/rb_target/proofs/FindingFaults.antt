@@ -7,7 +7,7 @@ use Rattle.std.proofs.lemmas.List.Elements.{All-nil, All-cons, All-head, All-tai
 use Rattle.rb_target.specs.Validity.{SlotsFit, IsTarget, TargetsFit, FitsCall, CallsFit, EndsInReturn, IsValid, IsValidFun, dest_count}
 use Rattle.rb_target.specs.Spelled.{IsSpelledFun, AreSpelled}
 use Rattle.rb_target.specs.Faults.{InstrFails, MiscountsSlots, HasBadSlot, HasBadJump, HasBadCall, InFun, FaultStands, IsFirstCodeFault, IsCountable, place_of_fault}
-use Rattle.rb_target.specs.Checking.{InstrHolds, CountsSlots, HasGoodSlots, HasGoodJumps, HasGoodCalls, IsFaultless, IsFaultAt, IsFaultIn}
+use Rattle.rb_target.specs.inner.Checking.{InstrHolds, CountsSlots, HasGoodSlots, HasGoodJumps, HasGoodCalls, IsFaultless, IsFaultAt, IsFaultIn}
 use Rattle.rb_target.specs.declared.instr.SwitchArm.{SwitchArm}
 use Rattle.rb_target.specs.declared.instr.Instr.{Instr}
 use Rattle.rb_target.specs.declared.instr.Instr.TheVariants.{Const, Copy, Alu, Take, Put, Load, Store, Place, Jump, Switch, Call, Return}

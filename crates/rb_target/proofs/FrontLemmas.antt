@@ -6,16 +6,16 @@ use Rattle.rb_target.proofs.Texts.{spaced-push, body_text-push}
 use Rattle.rb_target.proofs.FieldLemmas.{number_told, key_told, word_told_in, both-left, both-right}
 use Rattle.rb_target.proofs.LineLemmas.{IsSpelledBy, spelled_fit, IsGoodLine, first_good, word_follows, line_spells}
 use Rattle.rb_target.proofs.RunLemmas.{pushed, counts}
-use Rattle.rb_target.specs.Text.{word_text, key_text, spaced, instr_text, head_text, body_text, fun_text}
+use Rattle.rb_target.specs.Text.{word_text, key_text, key_of, spaced, instr_text, head_text, body_text, fun_text}
 use Rattle.rb_target.specs.Validity.{IsLower}
 use Rattle.rb_target.proofs.SpelledForms.{IsFit, AreFit, IsFitFun}
-use Rattle.rb_target.specs.inner.Fields.{number_of_word, is_open, word_in, key_bytes, key_of, next_field, may_end, first_line, after_word, instruction_of}
+use Rattle.rb_target.specs.inner.Fields.{number_of_word, is_open, word_in, key_of_word, next_field, may_end, first_line, after_word, instruction_of}
 use Rattle.rb_target.specs.inner.Reading.{named, line_next, closing, started, worded, headed, step}
 use Rattle.rb_target.specs.declared.instr.Instr.{Instr}
 use Rattle.rb_target.specs.declared.word.Word.{Word}
 use Rattle.rb_target.specs.declared.word.Word.TheVariants.{Number}
 use Rattle.rb_target.specs.declared.code.CodeFun.{CodeFun}
-use Rattle.rb_target.specs.declared.read.spot.Key.{Key}
+use Rattle.rb_target.specs.declared.word.Key.{Key}
 use Rattle.rb_target.specs.declared.read.spot.Turn.{Turn}
 use Rattle.rb_target.specs.declared.read.spot.Turn.TheVariants.{First, Second, Third}
 use Rattle.rb_target.specs.declared.read.spot.Line.{Line}
@@ -32,7 +32,7 @@ opened f = head_text f ++ body_text f.body
 
 -- up to the byte behind a word of an instruction's line
 abbrev pub line_front : CodeFun → Line → List ℕ
-line_front f l = opened f ++ (key_bytes l.key ++ spaced l.words)
+line_front f l = opened f ++ (key_text l.key ++ spaced l.words)
 
 -- how many counts stand before a turn's
 abbrev counts_before : Turn → ℕ
@@ -93,9 +93,9 @@ opened_more f i = ap (λ t. head_text f ++ t) (body_text-push f.body i) ∙ sym 
 -- a whole line with its instruction
 line_whole : (f : CodeFun) (l : Line) (s : IsSpelledBy l.key l.words) → opened (pushed f s.instr) ≡ line_front f l ++ 10 ∷ []
 line_whole f l s =
-    opened_more f s.instr ∙ ap (λ ws. opened f ++ ((key_text s.instr ++ spaced ws) ++ 10 ∷ [])) s.words
-    ∙ ap (λ k. opened f ++ ((k ++ spaced l.words) ++ 10 ∷ [])) s.key
-    ∙ sym (append_assoc (opened f) (key_bytes l.key ++ spaced l.words) (10 ∷ []))
+    opened_more f s.instr ∙ ap (λ ws. opened f ++ ((key_text (key_of s.instr) ++ spaced ws) ++ 10 ∷ [])) s.words
+    ∙ ap (λ k. opened f ++ ((key_text k ++ spaced l.words) ++ 10 ∷ [])) s.key
+    ∙ sym (append_assoc (opened f) (key_text l.key ++ spaced l.words) (10 ∷ []))
 
 -- what the end of a line leaves
 line_closed : (f : CodeFun) (l : Line) (g : ℕ) → IsFitFun f → IsGoodLine l → 10 ≡ g → may_end l.rest ≡ true → Leaves (line_front f l ++ g ∷ []) (To (Starting (pushed f (instruction_of l.key l.words))))
@@ -128,9 +128,9 @@ zero_small = omega arith
 
 -- Words and the bytes behind them ------------------------------------------------------------------
 
-starting_leaves : (f : CodeFun) (w : List ℕ) (g : ℕ) (o : Option Key) → key_of w ≡ o → IsFitFun f → Leaves (opened f ++ (w ++ g ∷ [])) (started f g o)
+starting_leaves : (f : CodeFun) (w : List ℕ) (g : ℕ) (o : Option Key) → key_of_word w ≡ o → IsFitFun f → Leaves (opened f ++ (w ++ g ∷ [])) (started f g o)
 starting_leaves f w g None e h = tt
-starting_leaves f w g (Some k) e h = line_leaves_by (opened f) w f (first_line k) g h (first_good k) (ap (λ t. opened f ++ t) (append-nil (key_bytes k) ∙ key_told w k e))
+starting_leaves f w g (Some k) e h = line_leaves_by (opened f) w f (first_line k) g h (first_good k) (ap (λ t. opened f ++ t) (append-nil (key_text k) ∙ key_told w k e))
 
 closing_leaves : (f : CodeFun) (w : List ℕ) (g : ℕ) → w ≡ codes "end" → IsFitFun f → Leaves (opened f ++ (w ++ g ∷ [])) (closing f g)
 closing_leaves f w g is h =
@@ -141,15 +141,15 @@ closing_leaves f w g is h =
 
 first_leaves : (f : CodeFun) (w : List ℕ) (g : ℕ) → IsFitFun f → Leaves (opened f ++ (w ++ g ∷ [])) (step (Starting f) w g)
 first_leaves f w g h =
-    if_leaves (opened f ++ (w ++ g ∷ [])) (pointwise nat_eq w (codes "end")) (closing f g) (started f g (key_of w))
-    (λ e. closing_leaves f w g (same_text w (codes "end") (sym e)) h) (starting_leaves f w g (key_of w) refl h)
+    if_leaves (opened f ++ (w ++ g ∷ [])) (pointwise nat_eq w (codes "end")) (closing f g) (started f g (key_of_word w))
+    (λ e. closing_leaves f w g (same_text w (codes "end") (sym e)) h) (starting_leaves f w g (key_of_word w) refl h)
 
 -- one word more of a line
 pub word_front_more : (f : CodeFun) (l : Line) (x : Word) → line_front f (after_word l x) ≡ (line_front f l ++ 32 ∷ []) ++ word_text x
 word_front_more f l x =
-    ap (λ t. opened f ++ (key_bytes l.key ++ t)) (spaced-push l.words x)
-    ∙ ap (λ t. opened f ++ t) (sym (append_assoc (key_bytes l.key) (spaced l.words) (32 ∷ word_text x)))
-    ∙ sym (append_assoc (opened f) (key_bytes l.key ++ spaced l.words) (32 ∷ word_text x))
+    ap (λ t. opened f ++ (key_text l.key ++ t)) (spaced-push l.words x)
+    ∙ ap (λ t. opened f ++ t) (sym (append_assoc (key_text l.key) (spaced l.words) (32 ∷ word_text x)))
+    ∙ sym (append_assoc (opened f) (key_text l.key ++ spaced l.words) (32 ∷ word_text x))
     ∙ sym (append_assoc (line_front f l) (32 ∷ []) (word_text x))
 
 within_leaves : (f : CodeFun) (l : Line) (w : List ℕ) (g : ℕ) (o : Option Word) → word_in (next_field l.rest) w ≡ o → IsGoodWithin f l

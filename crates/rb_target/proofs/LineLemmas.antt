@@ -6,11 +6,11 @@ use Rattle.std.proofs.lemmas.Grind.{common_steps}
 use Rattle.rb_bytes.specs.Memory.{IsWidth, IsAlign}
 use Rattle.rb_target.proofs.Texts.{pairs-push}
 use Rattle.rb_target.proofs.FieldLemmas.{may_be, both-left, both-right}
-use Rattle.rb_target.specs.Text.{key_text, words_of, numbers, pairs}
+use Rattle.rb_target.specs.Text.{key_of, words_of, numbers, pairs}
 use Rattle.rb_target.specs.Validity.{IsBounded}
 use Rattle.rb_target.specs.Spelled.{IsShort}
 use Rattle.rb_target.proofs.SpelledForms.{AreShort, IsFit}
-use Rattle.rb_target.specs.inner.Fields.{has, is_open, key_bytes, fields, next_field, behind_field, fields_after, may_end, first_line, after_word, value_of, paired, arms_in, listed, lists_in, instruction_of}
+use Rattle.rb_target.specs.inner.Fields.{has, is_open, fields, next_field, behind_field, fields_after, may_end, first_line, after_word, value_of, paired, arms_in, listed, lists_in, instruction_of}
 use Rattle.rb_target.specs.declared.instr.AluOp.{AluOp}
 use Rattle.rb_target.specs.declared.instr.AluOp.TheVariants.{Add}
 use Rattle.rb_target.specs.declared.instr.SwitchArm.{SwitchArm}
@@ -18,8 +18,8 @@ use Rattle.rb_target.specs.declared.instr.Instr.{Instr}
 use Rattle.rb_target.specs.declared.instr.Instr.TheVariants.{Const, Copy, Alu, Take, Put, Load, Store, Place, Jump, Switch, Call, Return}
 use Rattle.rb_target.specs.declared.word.Word.{Word}
 use Rattle.rb_target.specs.declared.word.Word.TheVariants.{Number, Op, Dash, Of}
-use Rattle.rb_target.specs.declared.read.spot.Key.{Key}
-use Rattle.rb_target.specs.declared.read.spot.Key.TheVariants as key
+use Rattle.rb_target.specs.declared.word.Key.{Key}
+use Rattle.rb_target.specs.declared.word.Key.TheVariants as key
 use Rattle.rb_target.specs.declared.read.spot.Field.{Field}
 use Rattle.rb_target.specs.declared.read.spot.Field.TheVariants.{Any, Upto, FromOne, Width, Align, Range, Operation, OrDash, Pairs, Target, OrOf, Slots, Nothing}
 use Rattle.rb_target.specs.declared.read.spot.Line.{Line}
@@ -317,7 +317,7 @@ words_call (d ∷ ds) froms = words_call ds froms
 pub record IsSpelledBy (k : Key) (ws : List Word) : Type 0 where
   pub instr : Instr
   pub is : instruction_of k ws ≡ instr
-  pub key : key_text instr ≡ key_bytes k
+  pub key : key_of instr ≡ k
   pub words : words_of instr ≡ ws
   pub bounded : IsBounded instr
 
@@ -469,7 +469,7 @@ closed_ends (f ∷ fs) h closed = absurd (cc closed)
 
 -- the words of an instruction are read as its line with the key k
 pub record Reads (k : Key) (j : Instr) : Type 0 where
-  pub key : key_text j ≡ key_bytes k
+  pub key : key_of j ≡ k
   pub whole : whole (fields k) (words_of j) ≡ true
   pub is : instruction_of k (words_of j) ≡ j
 
@@ -526,23 +526,8 @@ reads_call f ds froms = record { key = refl; whole = words_call ds froms; is = a
 reads_return : (froms : List ℕ) → Reads key.Return (Return froms)
 reads_return froms = let told = words_slots froms in record { key = refl; whole = told.0; is = ap Return told.1 }
 
--- the key of an instruction's line
-abbrev pub key_for : Instr → Key
-key_for (Const d c) = key.Const
-key_for (Copy d a) = key.Copy
-key_for (Alu op n d a b) = key.Alu
-key_for (Take d a o l) = key.Take
-key_for (Put d a o l) = key.Put
-key_for (Load d a offset width) = key.Load
-key_for (Store a offset width v) = key.Store
-key_for (Place d size align) = key.Place
-key_for (Jump t) = key.Jump
-key_for (Switch a other arms) = key.Switch
-key_for (Call f ds froms) = key.Call
-key_for (Return froms) = key.Return
-
 -- every instruction within its bounds is read from its words
-pub reads : (j : Instr) → IsBounded j → Reads (key_for j) j
+pub reads : (j : Instr) → IsBounded j → Reads (key_of j) j
 reads (Const d c) h = record { key = refl; whole = refl; is = refl }
 reads (Copy d a) h = record { key = refl; whole = refl; is = refl }
 reads (Alu op n d a b) h = reads_alu op n d a b h

@@ -7,7 +7,8 @@ use Rattle.rb_target.proofs.OneToOne.{valid_spelled}
 use Rattle.rb_target.proofs.StopLemmas.{none_whole}
 use Rattle.rb_target.specs.Text.{code_text}
 use Rattle.rb_target.specs.Validity.{IsValid}
-use Rattle.rb_target.specs.Stopping.{IsTextOf, IsCodeReading}
+use Rattle.rb_target.specs.Stopping.{IsTextOf}
+use Rattle.rb_target.specs.inner.Reading.{IsCodeReading}
 use Rattle.rb_target.specs.Faults.{IsFirstCodeFault}
 use Rattle.rb_target.specs.Refusals.{IsAnswerTo, IsCodeRefusal, IsThese}
 use Rattle.rb_target.specs.declared.code.CodeFun.{CodeFun}

@@ -4,18 +4,18 @@ use Rattle.std.specs.Fmt.{decimal}
 use Rattle.std.proofs.lemmas.Grind.{common_steps}
 use Rattle.std.proofs.lemmas.List.Elements.{All-head, All-tail}
 use Rattle.rb_target.proofs.FieldLemmas.{in_open, number_decimal, word_in_text, Steps, decimal_steps, word_steps}
-use Rattle.rb_target.proofs.LineLemmas.{whole, whole_next, Reads, key_for, reads}
-use Rattle.rb_target.specs.Text.{word_text, words_of, spaced, line, instr_text, head_text, body_text, fun_text, code_text}
+use Rattle.rb_target.proofs.LineLemmas.{whole, whole_next, Reads, reads}
+use Rattle.rb_target.specs.Text.{word_text, key_text, key_of, words_of, spaced, line, instr_text, head_text, body_text, fun_text, code_text}
 use Rattle.rb_target.specs.Validity.{IsSmall, IsNameByte, IsLower}
 use Rattle.rb_target.proofs.SpelledForms.{AreShort, IsFit, AreFit, IsFitFun, AreFitFuns}
-use Rattle.rb_target.specs.inner.Fields.{number_of_word, is_open, key_bytes, next_field, may_end, first_line, after_word, instruction_of}
+use Rattle.rb_target.specs.inner.Fields.{number_of_word, is_open, next_field, may_end, first_line, after_word, instruction_of}
 use Rattle.rb_target.specs.inner.Reading.{is_gap, is_small, is_name_byte, named, line_next, headed, step, is_some, goes_on, Progress, start, moved, feed, then_feed, run}
 use Rattle.rb_target.specs.declared.instr.Instr.{Instr}
 use Rattle.rb_target.specs.declared.word.Word.{Word}
 use Rattle.rb_target.specs.declared.word.Word.TheVariants.{Number}
 use Rattle.rb_target.specs.declared.code.CodeFun.{CodeFun}
-use Rattle.rb_target.specs.declared.read.spot.Key.{Key}
-use Rattle.rb_target.specs.declared.read.spot.Key.TheVariants as key
+use Rattle.rb_target.specs.declared.word.Key.{Key}
+use Rattle.rb_target.specs.declared.word.Key.TheVariants as key
 use Rattle.rb_target.specs.declared.read.spot.Field.{Field}
 use Rattle.rb_target.specs.declared.read.spot.Turn.{Turn}
 use Rattle.rb_target.specs.declared.read.spot.Move.TheVariants.{To}
@@ -102,7 +102,7 @@ abbrev Runs : List CodeFun → CodeFun → Instr → List ℕ → Type 0
 Runs funs f j rest = run (Some (at_spot funs (Starting f) [])) (instr_text j ++ rest) ≡ run (Some (at_spot funs (Starting (pushed f j)) [])) rest
 
 module _ (funs : List CodeFun) (f : CodeFun) (rest : List ℕ) where
-  key_steps : (k : Key) → Steps (goes_on (Starting f)) [] (key_bytes k)
+  key_steps : (k : Key) → Steps (goes_on (Starting f)) [] (key_text k)
   key_steps key.Const = (refl, refl, (refl, refl, (refl, refl, (refl, refl, (refl, refl, tt)))))
   key_steps key.Copy = (refl, refl, (refl, refl, (refl, refl, (refl, refl, tt))))
   key_steps key.Alu = (refl, refl, (refl, refl, (refl, refl, tt)))
@@ -116,7 +116,7 @@ module _ (funs : List CodeFun) (f : CodeFun) (rest : List ℕ) where
   key_steps key.Call = (refl, refl, (refl, refl, (refl, refl, (refl, refl, tt))))
   key_steps key.Return = (refl, refl, (refl, refl, (refl, refl, (refl, refl, (refl, refl, (refl, refl, tt))))))
 
-  key_next : (k : Key) (g : ℕ) → step (Starting f) (key_bytes k) g ≡ line_next f (first_line k) g
+  key_next : (k : Key) (g : ℕ) → step (Starting f) (key_text k) g ≡ line_next f (first_line k) g
   key_next key.Const g = refl
   key_next key.Copy g = refl
   key_next key.Alu g = refl
@@ -132,14 +132,14 @@ module _ (funs : List CodeFun) (f : CodeFun) (rest : List ℕ) where
 
   key_run : (k : Key) (j : Instr) → Reads k j → AreShort (words_of j) → Runs funs f j rest
   key_run k j r short =
-      ap (λ b. run (Some (at_spot funs (Starting f) [])) (line b (words_of j) ++ rest)) r.key
-      ∙ ap (λ r. run (Some (at_spot funs (Starting f) [])) r) (line_split (key_bytes k) (words_of j) rest)
-      ∙ word_run funs (Starting f) (key_bytes k) (gap_before (words_of j)) (behind_gap (words_of j) rest) (key_steps k) (gap_is (words_of j))
+      ap (λ b. run (Some (at_spot funs (Starting f) [])) (line (key_text b) (words_of j) ++ rest)) r.key
+      ∙ ap (λ r. run (Some (at_spot funs (Starting f) [])) r) (line_split (key_text k) (words_of j) rest)
+      ∙ word_run funs (Starting f) (key_text k) (gap_before (words_of j)) (behind_gap (words_of j) rest) (key_steps k) (gap_is (words_of j))
       ∙ ap (λ m. run (moved funs m) (behind_gap (words_of j) rest)) (key_next k (gap_before (words_of j)))
       ∙ line_run funs f (first_line k) (words_of j) j rest r.whole r.is short
 
   instr_run : (j : Instr) → IsFit j → Runs funs f j rest
-  instr_run j h = key_run (key_for j) j (reads j h.bounded) h.short
+  instr_run j h = key_run (key_of j) j (reads j h.bounded) h.short
 
 -- Functions ------------------------------------------------------------------------------------
 

@@ -5,23 +5,24 @@ use Rattle.std.proofs.lemmas.Grind.{common_steps}
 use Rattle.std.proofs.lemmas.Option.{same_Some}
 use Rattle.std.proofs.lemmas.List.{take_more, take_all, take-append-drop}
 use Rattle.std.proofs.lemmas.List.Elements.{All-append, All-cons, All-nil}
+use Rattle.rb_core.specs.Stopping.{BeginsSome}
 use Rattle.rb_target.proofs.Texts.{code_text-push}
 use Rattle.rb_target.proofs.FieldLemmas.{word_in_text, any_told, IsWordFront, word_front_told, starts_rest}
 use Rattle.rb_target.proofs.LineLemmas.{short-append, IsSpelledBy, spelled_fit, IsGoodLine, word_follows, ones_to_come, Completes, completes, IsNext, next_word, closed_ends}
 use Rattle.rb_target.proofs.RunLemmas.{at_spot, pushed, counts, run_none, run_append, reads_code, lower_some}
 use Rattle.rb_target.proofs.FrontLemmas.{opened, line_front, head_front, spot_text, IsGoodHead, IsGoodWithin, IsGood, Leaves, pushed_spelled, opened_more, word_front_more, head_whole, IsNamed, step_leaves, zero_small}
-use Rattle.rb_target.specs.Text.{word_text, key_text, spaced, line, fun_text, code_text}
+use Rattle.rb_target.specs.Text.{word_text, key_text, key_of, spaced, line, fun_text, code_text}
 use Rattle.rb_target.specs.Validity.{IsSmall, IsNameByte, IsLower}
 use Rattle.rb_target.specs.Spelled.{AreSpelled}
-use Rattle.rb_target.specs.Stopping.{IsCode, IsFront, StopsAt, IsTextOf}
+use Rattle.rb_target.specs.Stopping.{IsCode, StopsAt, IsTextOf}
 use Rattle.rb_target.proofs.SpelledForms.{IsFitFun, AreFitFuns, funs_fit, fit_funs}
-use Rattle.rb_target.specs.inner.Fields.{number_of_word, is_open, is_word_front, key_bytes, keys, next_field, after_word}
+use Rattle.rb_target.specs.inner.Fields.{number_of_word, is_open, is_word_front, keys, next_field, after_word}
 use Rattle.rb_target.specs.inner.Reading.{is_gap, is_small, is_name_byte, named, line_next, worded, headed, step, is_some, goes_on, Progress, start, moved, feed, run, is_outside, is_done}
 use Rattle.rb_target.specs.declared.word.Word.{Word}
 use Rattle.rb_target.specs.declared.word.Word.TheVariants.{Number}
 use Rattle.rb_target.specs.declared.code.CodeFun.{CodeFun}
-use Rattle.rb_target.specs.declared.read.spot.Key.{Key}
-use Rattle.rb_target.specs.declared.read.spot.Key.TheVariants as key
+use Rattle.rb_target.specs.declared.word.Key.{Key}
+use Rattle.rb_target.specs.declared.word.Key.TheVariants as key
 use Rattle.rb_target.specs.declared.read.spot.Turn.{Turn}
 use Rattle.rb_target.specs.declared.read.spot.Turn.TheVariants.{First, Second, Third}
 use Rattle.rb_target.specs.declared.read.spot.Line.{Line}
@@ -56,10 +57,10 @@ line_goes f l h good =
     let c : Completes l = completes l good in
     let s : IsSpelledBy l.key (l.words ++ c.more) = c.spelled in
     let whole : opened (pushed f s.instr) ≡ line_front f l ++ (spaced c.more ++ 10 ∷ []) =
-    opened_more f s.instr ∙ ap (λ ws. opened f ++ ((key_text s.instr ++ spaced ws) ++ 10 ∷ [])) s.words
-    ∙ ap (λ t. opened f ++ ((key_text s.instr ++ t) ++ 10 ∷ [])) (spaced-append l.words c.more)
-    ∙ ap (λ k. opened f ++ ((k ++ (spaced l.words ++ spaced c.more)) ++ 10 ∷ [])) s.key
-    ∙ line_parts (opened f) (key_bytes l.key) (spaced l.words) (spaced c.more) (10 ∷ []) in
+    opened_more f s.instr ∙ ap (λ ws. opened f ++ ((key_text (key_of s.instr) ++ spaced ws) ++ 10 ∷ [])) s.words
+    ∙ ap (λ t. opened f ++ ((key_text (key_of s.instr) ++ t) ++ 10 ∷ [])) (spaced-append l.words c.more)
+    ∙ ap (λ k. opened f ++ ((key_text k ++ (spaced l.words ++ spaced c.more)) ++ 10 ∷ [])) s.key
+    ∙ line_parts (opened f) (key_text l.key) (spaced l.words) (spaced c.more) (10 ∷ []) in
     record {
       fun = pushed f s.instr;
       more = (spaced c.more ++ 10 ∷ []) ++ ender;
@@ -132,7 +133,7 @@ abbrev IsGoodWord : Spot → List ℕ → Type 0
 IsGoodWord Naming w = (w ≡ []) ⊎ IsLower w
 IsGoodWord spot w = (w ≡ []) ⊎ CanEnd spot w
 
-key_moves : (f : CodeFun) (k : Key) → Moves (step (Starting f) (key_bytes k) 32)
+key_moves : (f : CodeFun) (k : Key) → Moves (step (Starting f) (key_text k) 32)
 key_moves f key.Const = tt
 key_moves f key.Copy = tt
 key_moves f key.Alu = tt
@@ -149,12 +150,12 @@ key_moves f key.Return = tt
 can_end : (spot : Spot) (w whole rest : List ℕ) (gap : ℕ) → w ++ rest ≡ whole → Moves (step spot whole gap) → CanEnd spot w
 can_end spot w whole rest gap e m = record { rest = rest; gap = gap; moves = subst (λ u. Moves (step spot u gap)) (sym e) m }
 
-starting_can_end : (f : CodeFun) (q : List ℕ) → (starts_with nat_eq (codes "end") q || list_any (λ k. starts_with nat_eq (key_bytes k) q) keys) ≡ true → CanEnd (Starting f) q
-starting_can_end f q h = elim (starts_with nat_eq (codes "end") q) as (λ (b : Bool). starts_with nat_eq (codes "end") q ≡ b → (b || list_any (λ k. starts_with nat_eq (key_bytes k) q) keys) ≡ true → CanEnd (Starting f) q) [
+starting_can_end : (f : CodeFun) (q : List ℕ) → (starts_with nat_eq (codes "end") q || list_any (λ k. starts_with nat_eq (key_text k) q) keys) ≡ true → CanEnd (Starting f) q
+starting_can_end f q h = elim (starts_with nat_eq (codes "end") q) as (λ (b : Bool). starts_with nat_eq (codes "end") q ≡ b → (b || list_any (λ k. starts_with nat_eq (key_text k) q) keys) ≡ true → CanEnd (Starting f) q) [
   | true ↦ λ e g. can_end (Starting f) q (codes "end") (drop (length q) (codes "end")) 10 (starts_rest (codes "end") q e) tt
   | false ↦ λ e g.
-      let k = any_told (λ k. starts_with nat_eq (key_bytes k) q) keys g in
-      can_end (Starting f) q (key_bytes k.0) (drop (length q) (key_bytes k.0)) 32 (starts_rest (key_bytes k.0) q k.1) (key_moves f k.0)
+      let k = any_told (λ k. starts_with nat_eq (key_text k) q) keys g in
+      can_end (Starting f) q (key_text k.0) (drop (length q) (key_text k.0)) 32 (starts_rest (key_text k.0) q k.1) (key_moves f k.0)
 ] refl h
 
 heading_can_end : (f : CodeFun) (t : Turn) (q : List ℕ) (o : Option ℕ) → number_of_word q ≡ o → is_some o ≡ true → CanEnd (Heading f t) q
@@ -312,6 +313,10 @@ read_fed : (bytes : List ℕ) (q : Progress) → run (Some start) bytes ≡ Some
 read_fed bytes q e = run_fed start bytes q (record { funs = tt; spot = tt; word = inl refl }) e
 
 -- Where reading ends -------------------------------------------------------------------------------
+
+-- some code text begins with these bytes, or is them; the empty list is a front, too
+abbrev IsFront : List ℕ → Type 0
+IsFront bytes = BeginsSome IsCode bytes
 
 sound_front : (bytes : List ℕ) (p : Progress) → Fed bytes p → IsFront bytes
 sound_front bytes p fed =

@@ -11,5 +11,4 @@ pub mod Spelled
 pub mod Stopping
 pub mod Refusals
 pub mod Faults
-pub mod Checking
 pub mod inner

@@ -1,11 +1,9 @@
 -- Whose text bytes are, and the byte at which they stop being the front of any.
-use Rattle.std.specs.Prelude.{◌≡◌, ℕ, List, Result, Ok, Err}
-use Rattle.rb_core.specs.Stopping.{BeginsSome, StopsAtIn}
+use Rattle.std.specs.Prelude.{◌≡◌, ℕ, List}
+use Rattle.rb_core.specs.Stopping.{StopsAtIn}
 use Rattle.rb_target.specs.Text.{code_text}
 use Rattle.rb_target.specs.Spelled.{AreSpelled}
 use Rattle.rb_target.specs.declared.code.CodeFun.{CodeFun}
-use Rattle.rb_target.specs.declared.fault.CodeFault.{CodeFault}
-use Rattle.rb_target.specs.declared.fault.CodeFault.TheVariants.{CodeSyntax, Memory}
 
 -- the bytes are the text of these functions, which a text can hold and which may not be valid together; where there
 -- are no functions, there are no bytes
@@ -17,19 +15,7 @@ pub record IsTextOf (bytes : List ℕ) (funs : List CodeFun) : Type 0 where
 abbrev pub IsCode : List ℕ → Type 0
 IsCode bytes = (funs : List CodeFun) × IsTextOf bytes funs
 
--- some code text begins with these bytes, or is them; the empty list is a front, too
-abbrev pub IsFront : List ℕ → Type 0
-IsFront bytes = BeginsSome IsCode bytes
-
 -- the bytes before number `at`, counted from 0, begin some code text; with the byte there they do not, or `at` is the
 -- number of all bytes and they are no whole text. So at most one `at` is so
 abbrev pub StopsAt : List ℕ → ℕ → Type 0
 StopsAt bytes at = StopsAtIn IsCode bytes at
-
--- what reading the bytes may answer: the functions whose text they are, the number of the byte at which no code text
--- goes on, or want of memory; no other fault
-abbrev pub IsCodeReading : List ℕ → Result (List CodeFun) CodeFault → Type 0
-IsCodeReading bytes (Ok funs) = IsTextOf bytes funs
-IsCodeReading bytes (Err (CodeSyntax at)) = StopsAt bytes at
-IsCodeReading bytes (Err Memory) = Unit {0}
-IsCodeReading bytes (Err fault) = ⊥

@@ -1,8 +1,8 @@
 -- Code as text: of each function a line with its name and numbers, a line for each instruction, and the line
 -- `end`. One blank stands between two words of a line.
 --
--- Texts are lists of bytes. A line is its first word, as `const`, the other words of the line, each after a blank,
--- and the byte 10. Only the words after the first are of the type `Word`.
+-- Texts are lists of bytes. A line is its first word, the other words of the line, each after a blank, and the byte
+-- 10. The first word of an instruction's line is its key, as `const`; the others of a line are of the type `Word`.
 use Rattle.std.specs.Prelude.{ℕ, List, [], ◌∷◌, ◌++◌, map, codes, Option, Some, None}
 use Rattle.std.specs.Fmt.{decimal}
 use Rattle.rb_target.specs.declared.instr.AluOp.{AluOp}
@@ -10,6 +10,8 @@ use Rattle.rb_target.specs.declared.instr.AluOp.TheVariants.{Add, Sub, Mul, And,
 use Rattle.rb_target.specs.declared.instr.SwitchArm.{SwitchArm}
 use Rattle.rb_target.specs.declared.instr.Instr.{Instr}
 use Rattle.rb_target.specs.declared.instr.Instr.TheVariants.{Const, Copy, Alu, Take, Put, Load, Store, Place, Jump, Switch, Call, Return}
+use Rattle.rb_target.specs.declared.word.Key.{Key}
+use Rattle.rb_target.specs.declared.word.Key.TheVariants as key
 use Rattle.rb_target.specs.declared.word.Word.{Word}
 use Rattle.rb_target.specs.declared.word.Word.TheVariants.{Number, Op, Dash, Of}
 use Rattle.rb_target.specs.declared.code.CodeFun.{CodeFun}
@@ -32,20 +34,35 @@ word_text (Op op) = op_text op
 word_text Dash = codes "-"
 word_text Of = codes "of"
 
--- the first word of an instruction's line, which says what instruction it is
-abbrev pub key_text : Instr → List ℕ
-key_text (Const d c) = codes "const"
-key_text (Copy d a) = codes "copy"
-key_text (Alu op n d a b) = codes "alu"
-key_text (Take d a o l) = codes "take"
-key_text (Put d a o l) = codes "put"
-key_text (Load d a offset width) = codes "load"
-key_text (Store a offset width v) = codes "store"
-key_text (Place d size align) = codes "place"
-key_text (Jump t) = codes "jump"
-key_text (Switch a other arms) = codes "switch"
-key_text (Call f ds froms) = codes "call"
-key_text (Return froms) = codes "return"
+-- a key's bytes
+abbrev pub key_text : Key → List ℕ
+key_text key.Const = codes "const"
+key_text key.Copy = codes "copy"
+key_text key.Alu = codes "alu"
+key_text key.Take = codes "take"
+key_text key.Put = codes "put"
+key_text key.Load = codes "load"
+key_text key.Store = codes "store"
+key_text key.Place = codes "place"
+key_text key.Jump = codes "jump"
+key_text key.Switch = codes "switch"
+key_text key.Call = codes "call"
+key_text key.Return = codes "return"
+
+-- the key of an instruction's line
+abbrev pub key_of : Instr → Key
+key_of (Const d c) = key.Const
+key_of (Copy d a) = key.Copy
+key_of (Alu op n d a b) = key.Alu
+key_of (Take d a o l) = key.Take
+key_of (Put d a o l) = key.Put
+key_of (Load d a offset width) = key.Load
+key_of (Store a offset width v) = key.Store
+key_of (Place d size align) = key.Place
+key_of (Jump t) = key.Jump
+key_of (Switch a other arms) = key.Switch
+key_of (Call f ds froms) = key.Call
+key_of (Return froms) = key.Return
 
 -- numbers as words, in their order
 abbrev pub numbers : List ℕ → List Word
@@ -88,7 +105,7 @@ line first ws = first ++ spaced ws ++ 10 ∷ []
 
 -- an instruction's line
 abbrev pub instr_text : Instr → List ℕ
-instr_text i = line (key_text i) (words_of i)
+instr_text i = line (key_text (key_of i)) (words_of i)
 
 -- a function's first line: `fun`, its name, and its numbers of parameters, results and slots
 abbrev pub head_text : CodeFun → List ℕ

@@ -11,9 +11,9 @@ use Rattle.rb_target.specs.declared.instr.Instr.{Instr}
 use Rattle.rb_target.specs.declared.instr.Instr.TheVariants.{Const, Copy, Alu, Take, Put, Load, Store, Place, Jump, Switch, Call, Return}
 use Rattle.rb_target.specs.declared.code.CodeFun.{CodeFun}
 
--- The numbers of an instruction that are no slots and no targets are within their bounds: what a machine word can say
--- for a constant and an arm's number, 1 to 64 bits for an operation, a range of at least one bit within 64 bits, an
--- offset of at most 511, and the widths, sizes and alignments that memory takes.
+-- The numbers of an instruction that are no slots, no targets and no function's are within their bounds: what a
+-- machine word can say for a constant and an arm's number, 1 to 64 bits for an operation, a range of at least one bit
+-- within 64 bits, an offset of at most 511, and the widths, sizes and alignments that memory takes.
 abbrev pub IsBounded : Instr → Type 0
 IsBounded (Const d c) = c < 2 ^ 64
 IsBounded (Copy d a) = Unit {0}

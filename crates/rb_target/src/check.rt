@@ -5,7 +5,7 @@ ghost use Rattle.std.specs.Prelude.{◌≡◌, ◌↔◌, ◌<◌, ℕ, IsTrue, 
 ghost use Rattle.rb_target.specs.Validity.{AreSlots, AreArms, IsTarget, SlotsFit, TargetsFit, CallsFit, EndsInReturn, IsValid, IsValidFun, dests};
 ghost use Rattle.rb_target.specs.Spelled.{AreSpelled};
 ghost use Rattle.rb_target.specs.Faults.{IsFirstCodeFault, InFun, HasBadSlot, HasBadJump, HasBadCall};
-ghost use Rattle.rb_target.specs.Checking.{CountsSlots, HasGoodSlots, HasGoodJumps, HasGoodCalls, IsFaultless, IsFaultAt, IsFaultIn};
+ghost use Rattle.rb_target.specs.inner.Checking.{CountsSlots, HasGoodSlots, HasGoodJumps, HasGoodCalls, IsFaultless, IsFaultAt, IsFaultIn};
 
 use crate::code::{Code, CodeFun};
 use crate::fault::CodeFault;
@@ -19,8 +19,8 @@ fn are_slots(slots: usize, items: &[usize]) -> bool
     items.iter().all(|slot| *slot < slots)
 }
 
-// Whether each slot that an instruction names is below the number of slots, `slots`.
-fn slots_fit(slots: usize, instr: &Instr) -> bool
+/// Whether each slot that an instruction names is below the number of slots, `slots`.
+pub fn slots_fit(slots: usize, instr: &Instr) -> bool
     ensures { IsTrue result ↔ SlotsFit slots instr.now }
 {
     match instr {
@@ -40,8 +40,8 @@ fn slots_fit(slots: usize, instr: &Instr) -> bool
     }
 }
 
-// How many slots an instruction names as written; one named twice counts twice.
-fn dest_len(instr: &Instr) -> usize
+/// How many slots an instruction names as written; one named twice counts twice.
+pub fn dest_len(instr: &Instr) -> usize
     ensures { result ≡ length (dests instr.now) }
 {
     match instr {
@@ -87,9 +87,9 @@ fn are_arms(long: usize, pc: usize, arms: &[SwitchArm]) -> bool
     arms.iter().all(|arm| is_target(long, pc, arm.target))
 }
 
-// Whether an instruction's targets, if it has any, lie behind it and within the body: `pc` is its
-// number, and `long` the number of the body's instructions.
-fn targets_fit(long: usize, pc: usize, instr: &Instr) -> bool
+/// Whether an instruction's targets, if it has any, lie behind it and within the body: `pc` is its
+/// number, and `long` the number of the body's instructions.
+pub fn targets_fit(long: usize, pc: usize, instr: &Instr) -> bool
     ensures { IsTrue result ↔ TargetsFit long pc instr.now }
 {
     match instr {
@@ -111,8 +111,8 @@ fn targets_fit(long: usize, pc: usize, instr: &Instr) -> bool
     }
 }
 
-// Whether the last instruction of a body is a return; false for a body that has none.
-fn ends_in_return(body: &[Instr]) -> bool
+/// Whether the last instruction of a body is a return; false for a body that has none.
+pub fn ends_in_return(body: &[Instr]) -> bool
     ensures { IsTrue result ↔ EndsInReturn body.now }
 {
     matches!(body.last(), Some(Instr::Return(_)))

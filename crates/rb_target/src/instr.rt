@@ -26,6 +26,18 @@ pub enum AluOp {
     Lt,
 }
 
+/// Every operation.
+pub(crate) const OPS: [AluOp; 8] = [
+    AluOp::Add,
+    AluOp::Sub,
+    AluOp::Mul,
+    AluOp::And,
+    AluOp::Or,
+    AluOp::Xor,
+    AluOp::Eq,
+    AluOp::Lt,
+];
+
 /// An arm of a switch: the word on which the switch takes it, and the target where it goes on then.
 #[derive(Clone, Copy, PartialEq, Eq)]
 pub struct SwitchArm {

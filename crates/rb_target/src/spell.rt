@@ -8,7 +8,7 @@ ghost use Rattle.rb_target.specs.Text.{words_of, spaced, word_text, line, body_t
 
 use crate::code::{Code, CodeFun};
 use crate::instr::{Instr, SwitchArm};
-use crate::word::{Word, key_name, op_name};
+use crate::word::{Word, key_name, key_of, op_name};
 use rb_core::decimal::digits;
 use std::alloc::{AllocError, Global};
 
@@ -167,7 +167,7 @@ fn push_body(alloc: Global, text: &mut Vec<u8>, body: &[Instr]) -> Result<(), Al
 {
     for instr in body {
         let words = words(alloc, instr)?;
-        push_line(text, key_name(instr), words.as_slice())?;
+        push_line(text, key_name(key_of(instr)), words.as_slice())?;
     }
     Ok(())
 }

@@ -7,7 +7,7 @@ use Rattle.std.specs.Prelude.{ℕ, ◌-◌, ◌%◌, ◌^◌, List, [], ◌∷�
 use Rattle.std.specs.List.{starts_with, list_any, fold}
 use Rattle.std.specs.Cmp.Lexicographic.{pointwise}
 use Rattle.rb_core.specs.Decimal.{number_in}
-use Rattle.rb_target.specs.Text.{op_text}
+use Rattle.rb_target.specs.Text.{op_text, key_text}
 use Rattle.rb_target.specs.declared.instr.AluOp.{AluOp}
 use Rattle.rb_target.specs.declared.instr.AluOp.TheVariants.{Add, Sub, Mul, And, Or, Xor, Eq, Lt}
 use Rattle.rb_target.specs.declared.instr.SwitchArm.{SwitchArm}
@@ -15,8 +15,8 @@ use Rattle.rb_target.specs.declared.instr.Instr.{Instr}
 use Rattle.rb_target.specs.declared.instr.Instr.TheVariants.{Const, Copy, Alu, Take, Put, Load, Store, Place, Jump, Switch, Call, Return}
 use Rattle.rb_target.specs.declared.word.Word.{Word}
 use Rattle.rb_target.specs.declared.word.Word.TheVariants.{Number, Op, Dash, Of}
-use Rattle.rb_target.specs.declared.read.spot.Key.{Key}
-use Rattle.rb_target.specs.declared.read.spot.Key.TheVariants as key
+use Rattle.rb_target.specs.declared.word.Key.{Key}
+use Rattle.rb_target.specs.declared.word.Key.TheVariants as key
 use Rattle.rb_target.specs.declared.read.spot.Field.{Field}
 use Rattle.rb_target.specs.declared.read.spot.Field.TheVariants.{Any, Upto, FromOne, Width, Align, Range, Operation, OrDash, Pairs, Target, OrOf, Slots, Nothing}
 use Rattle.rb_target.specs.declared.read.spot.Line.{Line}
@@ -57,8 +57,8 @@ abbrev pub ops : List AluOp
 ops = Add ∷ Sub ∷ Mul ∷ And ∷ Or ∷ Xor ∷ Eq ∷ Lt ∷ []
 
 -- the operation that is written so, or None if none is
-abbrev pub op_of : List ℕ → Option AluOp
-op_of w = find (λ o. pointwise nat_eq (op_text o) w) ops
+abbrev pub op_of_word : List ℕ → Option AluOp
+op_of_word w = find (λ o. pointwise nat_eq (op_text o) w) ops
 
 -- whether some operation's name begins with these bytes, or is them
 abbrev pub is_op_front : List ℕ → Bool
@@ -71,7 +71,7 @@ op_word (Some op) = Some (Op op)
 
 -- the word that is written so and is no number, if it may stand in a field; else None
 abbrev pub named_word : Field → List ℕ → Option Word
-named_word Operation w = op_word (op_of w)
+named_word Operation w = op_word (op_of_word w)
 named_word OrDash w = if pointwise nat_eq w (codes "-") then Some Dash else None
 named_word OrOf w = if pointwise nat_eq w (codes "of") then Some Of else None
 named_word f w = None
@@ -105,21 +105,6 @@ is_word_front f w = numbered_front f w (number_of_word w)
 
 -- Keys -----------------------------------------------------------------------------------------
 
--- how a key is written
-abbrev pub key_bytes : Key → List ℕ
-key_bytes key.Const = codes "const"
-key_bytes key.Copy = codes "copy"
-key_bytes key.Alu = codes "alu"
-key_bytes key.Take = codes "take"
-key_bytes key.Put = codes "put"
-key_bytes key.Load = codes "load"
-key_bytes key.Store = codes "store"
-key_bytes key.Place = codes "place"
-key_bytes key.Jump = codes "jump"
-key_bytes key.Switch = codes "switch"
-key_bytes key.Call = codes "call"
-key_bytes key.Return = codes "return"
-
 -- every key; `end`, which stands in a line of its own, is none
 abbrev pub keys : List Key
 keys =
@@ -127,12 +112,12 @@ keys =
     ∷ key.Call ∷ key.Return ∷ []
 
 -- the key that is written so, or None if none is
-abbrev pub key_of : List ℕ → Option Key
-key_of w = find (λ k. pointwise nat_eq (key_bytes k) w) keys
+abbrev pub key_of_word : List ℕ → Option Key
+key_of_word w = find (λ k. pointwise nat_eq (key_text k) w) keys
 
 -- whether some key begins with these bytes, or is them
 abbrev pub is_key_front : List ℕ → Bool
-is_key_front w = list_any (λ k. starts_with nat_eq (key_bytes k) w) keys
+is_key_front w = list_any (λ k. starts_with nat_eq (key_text k) w) keys
 
 -- Lines ----------------------------------------------------------------------------------------
 
@@ -215,7 +200,7 @@ abbrev pub op_in : Option Word → AluOp
 op_in (Some (Op op)) = op
 op_in o = Add
 
--- the target that a word is, or None if there is no word or it is `-`
+-- the target that a word is, or None if there is no word or it is no number, as `-`
 abbrev pub target_in : Option Word → Option ℕ
 target_in (Some (Number n)) = Some n
 target_in o = None

@@ -4,13 +4,13 @@
 use Rattle.std.specs.Prelude.{◌≡◌, ℕ, List, [], ◌∷◌, ◌++◌, length, codes, Bool, true, false, ◌&&◌, ◌||◌, ◌==◌, nat_eq, nat_le, nat_lt, if◌then◌else◌, Option, Some, None, Result, Ok, Err}
 use Rattle.std.specs.List.{starts_with}
 use Rattle.std.specs.Cmp.Lexicographic.{pointwise}
-use Rattle.rb_target.specs.Stopping.{StopsAt}
+use Rattle.rb_target.specs.Stopping.{IsTextOf, StopsAt}
 use Rattle.rb_target.specs.declared.fault.CodeFault.{CodeFault}
 use Rattle.rb_target.specs.declared.fault.CodeFault.TheVariants.{CodeSyntax, Memory}
-use Rattle.rb_target.specs.inner.Fields.{number_of_word, is_open, word_in, is_word_front, is_key_front, key_of, next_field, may_end, first_line, after_word, instruction_of}
+use Rattle.rb_target.specs.inner.Fields.{number_of_word, is_open, word_in, is_word_front, is_key_front, key_of_word, next_field, may_end, first_line, after_word, instruction_of}
 use Rattle.rb_target.specs.declared.word.Word.{Word}
 use Rattle.rb_target.specs.declared.code.CodeFun.{CodeFun}
-use Rattle.rb_target.specs.declared.read.spot.Key.{Key}
+use Rattle.rb_target.specs.declared.word.Key.{Key}
 use Rattle.rb_target.specs.declared.read.spot.Turn.{Turn}
 use Rattle.rb_target.specs.declared.read.spot.Turn.TheVariants.{First, Second, Third}
 use Rattle.rb_target.specs.declared.read.spot.Line.{Line}
@@ -74,7 +74,7 @@ abbrev pub step : Spot → List ℕ → ℕ → Move
 step Outside w g = if (g == 32) && pointwise nat_eq w (codes "fun") then To Naming else Refused
 step Naming w g = if (g == 32) && nat_lt 0 (length w) then To (Heading (named w) First) else Refused
 step (Heading f t) w g = headed f t g (number_of_word w)
-step (Starting f) w g = if pointwise nat_eq w (codes "end") then closing f g else started f g (key_of w)
+step (Starting f) w g = if pointwise nat_eq w (codes "end") then closing f g else started f g (key_of_word w)
 step (Within f l) w g = worded f l g (word_in (next_field l.rest) w)
 
 -- a byte of a word ------------------------------------------------------------------------------
@@ -149,3 +149,11 @@ IsRun bytes (Ok p) = run (Some start) bytes ≡ Some p
 IsRun bytes (Err (CodeSyntax at)) = StopsAt bytes at
 IsRun bytes (Err Memory) = Unit {0}
 IsRun bytes (Err fault) = ⊥
+
+-- what reading the bytes may answer: the functions whose text they are, the number of the byte at which no code text
+-- goes on, or want of memory; no other fault
+abbrev pub IsCodeReading : List ℕ → Result (List CodeFun) CodeFault → Type 0
+IsCodeReading bytes (Ok funs) = IsTextOf bytes funs
+IsCodeReading bytes (Err (CodeSyntax at)) = StopsAt bytes at
+IsCodeReading bytes (Err Memory) = Unit {0}
+IsCodeReading bytes (Err fault) = ⊥

@@ -3,71 +3,21 @@
 ghost use Rattle.std.specs.Prelude.{◌≡◌};
 ghost use Rattle.rb_target.specs.inner.Fields as spec;
 
-use super::spot::{Field, Key};
-use crate::instr::AluOp;
-use crate::word::{Word, op_name};
+use super::spot::Field;
+use crate::instr::{AluOp, OPS};
+use crate::word::{KEYS, Key, Word, key_name, op_name};
 use rb_core::decimal::number_in;
 
-// Every key.
-const KEYS: [Key; 12] = [
-    Key::Const,
-    Key::Copy,
-    Key::Alu,
-    Key::Take,
-    Key::Put,
-    Key::Load,
-    Key::Store,
-    Key::Place,
-    Key::Jump,
-    Key::Switch,
-    Key::Call,
-    Key::Return,
-];
-
-// Every operation.
-const OPS: [AluOp; 8] = [
-    AluOp::Add,
-    AluOp::Sub,
-    AluOp::Mul,
-    AluOp::And,
-    AluOp::Or,
-    AluOp::Xor,
-    AluOp::Eq,
-    AluOp::Lt,
-];
-
-impl Key {
-    // The bytes of a key as it is written.
-    fn text(self) -> &'static [u8]
-        ensures { result.now ≡ spec.key_bytes self }
-    {
-        match self {
-            Key::Const => b"const",
-            Key::Copy => b"copy",
-            Key::Alu => b"alu",
-            Key::Take => b"take",
-            Key::Put => b"put",
-            Key::Load => b"load",
-            Key::Store => b"store",
-            Key::Place => b"place",
-            Key::Jump => b"jump",
-            Key::Switch => b"switch",
-            Key::Call => b"call",
-            Key::Return => b"return",
-        }
-    }
-}
-
 /// The key that is written so, or none if none is; `end` is none.
-pub fn key_of(word: &[u8]) -> Option<Key>
-    ensures { result ≡ spec.key_of word.now }
+pub fn key_of_word(word: &[u8]) -> Option<Key>
+    ensures { result ≡ spec.key_of_word word.now }
 {
-    KEYS.iter().copied().find(|key| key.text() == word)
+    KEYS.iter().copied().find(|key| key_name(*key) == word)
 }
 
 // The operation that is written so, or none if none is.
-fn op_of(word: &[u8]) -> Option<AluOp>
-    ensures { result ≡ spec.op_of word.now }
+fn op_of_word(word: &[u8]) -> Option<AluOp>
+    ensures { result ≡ spec.op_of_word word.now }
 {
     OPS.iter().copied().find(|op| op_name(*op) == word)
 }
@@ -76,7 +26,7 @@ fn op_of(word: &[u8]) -> Option<AluOp>
 pub fn is_key_front(word: &[u8]) -> bool
     ensures { result ≡ spec.is_key_front word.now }
 {
-    KEYS.iter().any(|key| key.text().starts_with(word))
+    KEYS.iter().any(|key| key_name(*key).starts_with(word))
 }
 
 // Whether some operation's name begins with these bytes, or is them.
@@ -87,7 +37,7 @@ fn is_op_front(word: &[u8]) -> bool
 }
 
 /// The number below 2^64 that is written so, in decimal without a leading zero, or none.
-pub fn number_of(word: &[u8]) -> Option<u64>
+pub fn number_of_word(word: &[u8]) -> Option<u64>
     ensures { result ≡ spec.number_of_word word.now }
 {
     number_in(0, u64::MAX, word)
@@ -163,7 +113,7 @@ impl Field {
         ensures { result ≡ spec.named_word self text.now }
     {
         match self {
-            Field::Operation => match op_of(text) {
+            Field::Operation => match op_of_word(text) {
                 Some(op) => Some(Word::Op(op)),
                 None => None,
             },
@@ -188,7 +138,7 @@ impl Field {
     pub fn word(self, text: &[u8]) -> Option<Word>
         ensures { result ≡ spec.word_in self text.now }
     {
-        match number_of(text) {
+        match number_of_word(text) {
             Some(number) if self.has(number) => Some(Word::Number(number)),
             Some(_) => None,
             None => self.name(text),
@@ -221,7 +171,7 @@ impl Field {
     pub fn is_front(self, text: &[u8]) -> bool
         ensures { result ≡ spec.is_word_front self text.now }
     {
-        match number_of(text) {
+        match number_of_word(text) {
             Some(number) => self.has(number) || self.leads(number),
             None => self.is_name_front(text),
         }

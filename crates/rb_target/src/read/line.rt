@@ -4,9 +4,9 @@
 ghost use Rattle.std.specs.Prelude.{◌≡◌, IfOk, slice_get, drop, map};
 ghost use Rattle.rb_target.specs.inner.Fields as spec;
 
-use super::spot::{Field, Key, Line};
+use super::spot::{Field, Line};
 use crate::instr::{AluOp, Instr, SwitchArm};
-use crate::word::Word;
+use crate::word::{Key, Word};
 use rb_core::seq::Seq;
 use std::alloc::{AllocError, Global};
 
@@ -205,7 +205,7 @@ fn op_at(words: &[Word], at: usize) -> AluOp
     }
 }
 
-// The target at a place, or none if there is no word or it is `-`.
+// The target at a place, or none if there is no word or it is no number, as `-`.
 fn target_at(words: &[Word], at: usize) -> Option<usize>
     ensures { result ≡ spec.target_in (slice_get words.now at) }
 {

@@ -2,25 +2,8 @@
 //! and what the next word may be.
 
 use crate::code::CodeFun;
-use crate::word::Word;
+use crate::word::{Key, Word};
 use rb_core::seq::Seq;
-
-/// The first word of an instruction's line. `end` begins no such line and is none.
-#[derive(Clone, Copy, PartialEq, Eq)]
-pub enum Key {
-    Const,
-    Copy,
-    Alu,
-    Take,
-    Put,
-    Load,
-    Store,
-    Place,
-    Jump,
-    Switch,
-    Call,
-    Return,
-}
 
 /// Which of the three counts behind a function's name comes next.
 #[derive(Clone, Copy, PartialEq, Eq)]

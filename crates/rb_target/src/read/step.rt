@@ -3,7 +3,7 @@
 ghost use Rattle.std.specs.Prelude.{◌≡◌, ◌∷◌, [], ◌++◌, IfOk, Some, None, true};
 ghost use Rattle.rb_target.specs.inner.Reading as spec;
 
-use super::field::{is_key_front, key_of, number_of};
+use super::field::{is_key_front, key_of_word, number_of_word};
 use super::spot::{Line, Move, Spot, Turn};
 use crate::code::CodeFun;
 use crate::instr::Instr;
@@ -110,7 +110,7 @@ fn starting(alloc: Global, fun: CodeFun, word: &[u8], gap: u8) -> Result<Move, A
     if word == b"end".as_slice() {
         return Ok(closing(fun, gap));
     }
-    match key_of(word) {
+    match key_of_word(word) {
         Some(key) => line_next(alloc, fun, Line::first(alloc, key)?, gap),
         None => Ok(Move::Refused),
     }
@@ -188,7 +188,7 @@ fn step(alloc: Global, spot: Spot, word: &[u8], gap: u8) -> Result<Move, AllocEr
     match spot {
         Spot::Outside => Ok(outside(word, gap)),
         Spot::Naming => named(alloc, word, gap),
-        Spot::Heading(fun, turn) => match number_of(word) {
+        Spot::Heading(fun, turn) => match number_of_word(word) {
             Some(count) => Ok(headed(fun, turn, gap, count as usize)),
             None => Ok(Move::Refused),
         },
@@ -214,7 +214,7 @@ fn goes_on(spot: &Spot, word: &[u8], last: u8) -> bool
                 is_name_byte(last)
             }
         }
-        Spot::Heading(..) => number_of(word).is_some(),
+        Spot::Heading(..) => number_of_word(word).is_some(),
         Spot::Starting(_) => b"end".starts_with(word) || is_key_front(word),
         Spot::Within(_, line) => line.field().is_front(word),
     }

@@ -1,8 +1,8 @@
 //! Whole code texts, read from the first byte to the last.
 
 ghost use Rattle.std.specs.Prelude.{◌≡◌, List, IfOk};
-ghost use Rattle.rb_target.specs.Stopping.{IsCodeReading, IsTextOf};
-ghost use Rattle.rb_target.specs.inner.Reading.{IsRun};
+ghost use Rattle.rb_target.specs.Stopping.{IsTextOf};
+ghost use Rattle.rb_target.specs.inner.Reading.{IsCodeReading, IsRun};
 
 use super::step::Reader;
 use crate::code::CodeFun;

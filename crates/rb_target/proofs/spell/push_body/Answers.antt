@@ -5,7 +5,7 @@ use Rattle.rb_target.proofs.spell.push_body.Goals as goal
 
 pub loop-instr-preserved : goal.loop-instr-preserved
 loop-instr-preserved c =
-    let more = rw (c.key_name.ensures, c.as_slice.ensures.value, c.in_ok-words.ensures) at c.in_ok-push_line.ensures in
+    let more = rw (c.key_name.ensures, c.key_of.ensures, c.as_slice.ensures.value, c.in_ok-words.ensures) at c.in_ok-push_line.ensures in
     let body = c.args.body.now in
     let k = c.loop-instr.instr-index in
     let item = c.instr-item.result in
