@@ -1,11 +1,9 @@
 -- Names that the lexer cuts from a text are spelled as names of their kinds are.
-use Rattle.std.proofs.Common.{◌≡◌, ℕ, List, [], ◌∷◌, take, Bool, true, false, ◌&&◌, ◌||◌, ◌==◌, refl}
+use Rattle.std.proofs.Common.{◌≡◌, ℕ, List, [], ◌∷◌, take, Bool, true, false, ◌&&◌, refl}
 use Rattle.std.specs.List.{list_all}
-use Rattle.std.specs.Char.{is_ascii_digit, is_ascii_uppercase, is_ascii_lowercase}
-use Rattle.rb_core.specs.WellNumbered.{either, is_upper, is_lower, is_capital, is_small, is_between}
-use Rattle.rb_core.specs.WellNumbered as well
+use Rattle.std.specs.Char.{is_ascii_uppercase, is_ascii_lowercase}
+use Rattle.rb_core.specs.WellNumbered.{is_upper, is_lower, is_capital, is_small, is_word_byte}
 use Rattle.rb_names.specs.Written.{AreNamed}
-use Rattle.rb_syntax.specs.Bytes.{is_word_byte}
 use Rattle.rb_syntax.specs.Cutting.{Begins, Cut, stop, gap, token, IsWritten}
 use Rattle.rb_syntax.specs.Tokens.{tokens}
 use Rattle.rb_syntax.specs.declared.token.Placed.{Placed}
@@ -20,33 +18,15 @@ pub and_both : (a b : Bool) → a ≡ true → b ≡ true → (a && b) ≡ true
 and_both true b d e = e
 and_both false b d e = absurd cc
 
--- the same kinds of bytes in another order
-reordered : (d u l x : Bool) → (((d || u) || l) || x) ≡ true → either u (either l (either d x)) ≡ true
-reordered true true l x e = refl
-reordered true false true x e = refl
-reordered true false false x e = refl
-reordered false true l x e = refl
-reordered false false true x e = refl
-reordered false false false x e = e
-
-word_byte : (b : ℕ) → is_word_byte b ≡ true → well.is_word_byte b ≡ true
-word_byte b e = reordered (is_ascii_digit b) (is_ascii_uppercase b) (is_ascii_lowercase b) (b == 95) e
-
-word_bytes : (bs : List ℕ) → list_all is_word_byte bs ≡ true → list_all well.is_word_byte bs ≡ true
-word_bytes [] e = refl
-word_bytes (b ∷ bs) e =
-    let h = both (is_word_byte b) (list_all is_word_byte bs) e in
-    and_both (well.is_word_byte b) (list_all well.is_word_byte bs) (word_byte b h.0) (word_bytes bs h.1)
-
 upper : (name : List ℕ) → Begins is_ascii_uppercase name → list_all is_word_byte name ≡ true → is_upper name ≡ true
 upper [] first all = absurd first
 upper (b ∷ bs) first all =
-    and_both (is_capital b) (list_all well.is_word_byte bs) first (word_bytes bs (both (is_word_byte b) (list_all is_word_byte bs) all).1)
+    and_both (is_capital b) (list_all is_word_byte bs) first (both (is_word_byte b) (list_all is_word_byte bs) all).1
 
 lower : (name : List ℕ) → Begins is_ascii_lowercase name → list_all is_word_byte name ≡ true → is_lower name ≡ true
 lower [] first all = absurd first
 lower (b ∷ bs) first all =
-    and_both (is_small b) (list_all well.is_word_byte bs) first (word_bytes bs (both (is_word_byte b) (list_all is_word_byte bs) all).1)
+    and_both (is_small b) (list_all is_word_byte bs) first (both (is_word_byte b) (list_all is_word_byte bs) all).1
 
 written-named : (t : Token) (text : List ℕ) → IsWritten t text → (ts : List Token) → AreNamed ts → AreNamed (t ∷ ts)
 written-named (tok.Upper name) text w ts h = (upper name w.1 w.2, h)

@@ -4,11 +4,14 @@ use Rattle.std.specs.Char.{is_ascii_digit, is_ascii_uppercase, is_ascii_lowercas
 use Rattle.std.specs.Int.{is_in_range}
 use Rattle.std.specs.List.{list_all, starts_with}
 use Rattle.std.specs.Str.{bytes_eq}
+use Rattle.std.specs.Str.Parse.{digits_value}
 use Rattle.std.proofs.Math.Nat.{le_antisymm}
 use Rattle.std.proofs.lemmas.Bool.Decides.{Decides-eqb}
 use Rattle.std.proofs.lemmas.Grind.{common_steps}
 use Rattle.std.proofs.lemmas.Slice.Eq.{starts_is}
-use Rattle.rb_syntax.specs.Bytes.{is_blank, is_word_byte, value_of}
+use Rattle.rb_core.specs.WellNumbered.{is_word_byte}
+use Rattle.rb_syntax.specs.Bytes.{is_blank}
+use Rattle.rb_syntax.proofs.WordBytes.{digit-word, letter-word}
 use Rattle.rb_syntax.specs.Cutting.{IsGap, IsLongest, Begins, IsNumeral, IsWidth, IsWritten, Cut, HasTokens, IsTokenRun, IsBadBehind, HasBadByte, IsWideNumber, HasWideNumber}
 use Rattle.rb_syntax.specs.Cutting as cut
 use Rattle.rb_syntax.specs.Words.{word_text, symbol_text, symbols, word_of}
@@ -262,12 +265,12 @@ module _ (text : List ℕ) where
   one_token (tok.Uint bits) (tok.Reserved w) h k = absurd (no_width w bits text k h)
   one_token (tok.Uint bits) (tok.Uint other) h k =
       let same : 117 ∷ h.digits ≡ 117 ∷ k.digits = sym h.written ∙ k.written in
-      let digits : h.digits ≡ k.digits = cc in ap tok.Uint (sym h.value ∙ ap value_of digits ∙ k.value)
+      let digits : h.digits ≡ k.digits = cc in ap tok.Uint (sym h.value ∙ ap (digits_value 10) digits ∙ k.value)
   one_token (tok.Num n) (tok.Num m) h k = ap tok.Num (sym h.1 ∙ k.1)
   one_token (tok.Symbol s) (tok.Symbol u) h k = ap tok.Symbol (same_symbol s u (sym h ∙ k))
   one_token t u h k = absurd (other_kind t u (λ e. omega (arith, e)) h k)
 
-  no_wide : (t : Token) → IsWritten t text → IsNumeral text → 2 ^ 64 ≤ value_of text → ⊥
+  no_wide : (t : Token) → IsWritten t text → IsNumeral text → 2 ^ 64 ≤ digits_value 10 text → ⊥
   no_wide (tok.Num n) h numeral wide = omega (arith, h.1, h.2, wide)
   no_wide t h numeral wide = let e : kind_of t ≡ 2 = same_kind (kind_of t) 2 text (written-as t text h).0 (numeral-as text numeral).0 in absurd (omega (arith, e))
 
@@ -284,7 +287,7 @@ digits-words : (ds : List ℕ) → list_all is_ascii_digit ds ≡ true → list_
 digits-words [] e = refl
 digits-words (d ∷ ds) e =
     let h = both (is_ascii_digit d) (list_all is_ascii_digit ds) e in
-    let w : is_word_byte d ≡ true = rw h.0 refl in rw w (digits-words ds h.1)
+    rw (digit-word d h.0) (digits-words ds h.1)
 
 all-front : (p : ℕ → Bool) (k : ℕ) (xs : List ℕ) → list_all p xs ≡ true → list_all p (take k xs) ≡ true
 all-front p zero xs e = refl
@@ -296,9 +299,9 @@ run-begins : (text : List ℕ) → IsTokenRun text → Begins is_word_byte text 
 run-begins text (cut.name first all) = begun text first where
   begun : (xs : List ℕ) → Begins is_ascii_alphabetic xs → Begins is_word_byte xs × Begins is_token_byte xs
   begun [] e = (absurd e, absurd e)
-  begun (b ∷ bs) e = (grind (arith, common_steps), grind (arith, common_steps))
+  begun (b ∷ bs) e = (letter-word b e, grind (arith, common_steps))
 run-begins text (cut.numeral n) =
-    (begins_so is_ascii_digit is_word_byte (λ b e. rw e refl) text (begins_all is_ascii_digit text n.some n.digits), (numeral-as text n).1)
+    (begins_so is_ascii_digit is_word_byte digit-word text (begins_all is_ascii_digit text n.some n.digits), (numeral-as text n).1)
 run-begins text (cut.underscore is) = subst (λ (xs : List ℕ). Begins is_word_byte xs × Begins is_token_byte xs) (sym is) (refl, refl)
 
 -- the front of a name or a number is one, and so is a longer one
@@ -442,7 +445,7 @@ never_wide bytes ps p h k =
     no_gap (take n xs) g (subst (λ (x : ℕ). Begins is_token_byte (take x xs)) e (numeral-as (take b.1.len xs) b.1.numeral).1))
     (λ at n t xs b l w.
     let e : b.1.len ≡ n = same_length b.1.len n xs b.1.longest l in
-    no_wide (take n xs) t w (subst (λ (x : ℕ). IsNumeral (take x xs)) e b.1.numeral) (subst (λ (x : ℕ). 2 ^ 64 ≤ value_of (take x xs)) e b.1.wide))
+    no_wide (take n xs) t w (subst (λ (x : ℕ). IsNumeral (take x xs)) e b.1.numeral) (subst (λ (x : ℕ). 2 ^ 64 ≤ digits_value 10 (take x xs)) e b.1.wide))
     0 bytes ps k.0 h k.1).1 in
     none_wide at_end.1.1 where
       none_wide : IsWideNumber [] → ⊥

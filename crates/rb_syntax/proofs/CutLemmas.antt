@@ -1,9 +1,12 @@
 -- What is read is what stands in the text: its longest pieces, one after the other.
-use Rattle.std.proofs.Common.{◌≡◌, ℕ, zero, suc, ◌+◌, ◌<◌, ◌≤◌, ◌^◌, List, [], ◌∷◌, length, take, drop, codes, take_while, nat_eq, nat_lt, Bool, true, false, ◌==◌, if◌then◌else◌, Option, Some, None, Ok, Err, refl, sym, ◌∙◌, ap, subst, arith, length-drop, eqb-true}
+use Rattle.std.proofs.Common.{◌≡◌, ℕ, zero, suc, ◌+◌, ◌-◌, ◌<◌, ◌≤◌, ◌^◌, List, [], ◌∷◌, length, take, drop, codes, take_while, nat_eq, Bool, true, false, ◌==◌, if◌then◌else◌, Option, Some, None, Ok, Err, refl, sym, ◌∙◌, ap, subst, arith, length-drop, eqb-true}
 use Rattle.std.specs.Char.{is_ascii_digit, is_ascii_alphabetic}
 use Rattle.std.specs.List.{list_all, prefix_len, starts_with}
-use Rattle.std.proofs.lemmas.Bool.{eqb-false, ltb-true, ltb-false}
+use Rattle.std.proofs.lemmas.Bool.{eqb-false}
 use Rattle.std.proofs.lemmas.List.Folds.{length-prefix_len}
+use Rattle.std.specs.Str.Parse.{digits_value}
+use Rattle.rb_core.specs.Decimal.{number_in}
+use Rattle.rb_core.specs.WellNumbered.{is_word_byte}
 use Rattle.rb_syntax.specs.declared.token.Symbol.{Symbol}
 use Rattle.rb_syntax.specs.declared.token.Symbol.TheVariants.{Underscore}
 use Rattle.rb_syntax.specs.declared.token.Token.{Token}
@@ -12,16 +15,16 @@ use Rattle.rb_syntax.specs.declared.token.Placed.{Placed}
 use Rattle.rb_syntax.specs.declared.piece.Piece.{Piece}
 use Rattle.rb_syntax.specs.declared.piece.Piece.TheVariants as piece
 use Rattle.rb_syntax.specs.declared.lex.LexFault.TheVariants.{BadByte, NumberTooWide, Memory}
-use Rattle.rb_syntax.specs.Bytes.{is_blank, is_word_byte, numeral_len, value_of}
+use Rattle.rb_syntax.specs.Bytes.{is_blank, numeral_len}
 use Rattle.rb_syntax.specs.Words.{symbol_at}
-use Rattle.rb_syntax.specs.Pieces.{name_token, number_piece, underscore_piece, run_piece, symbol_piece, first_piece, piece_at}
+use Rattle.rb_syntax.specs.Pieces.{name_token, number_or_fault, number_piece, underscore_piece, run_piece, symbol_piece, first_piece, piece_at}
 use Rattle.rb_syntax.specs.Lexing.{Lexed, before, with_piece, lexed_from, lexed}
 use Rattle.rb_syntax.specs.Cutting.{IsGap, blank, IsLongest, IsNumeral, IsWritten, IsTokenRun, IsBadBehind, IsWideNumber, Cut, IsRight, no_piece, wrong_run}
 use Rattle.rb_syntax.specs.Cutting as cut
 use Rattle.rb_syntax.proofs.PieceLemmas.{run-cons, comment-within, numeral_len-le}
 use Rattle.rb_syntax.proofs.SymbolLemmas.{symbol-length}
 use Rattle.rb_syntax.proofs.LongestLemmas.{prefix-all, blank-longest, comment-longest, comment-gap, run-longest, symbol-is-longest, symbol-front, no-piece}
-use Rattle.rb_syntax.proofs.TokenLemmas.{none-empty, len-numeral, name_token-written, numeral-good, numeral-bad, underscore-bad, is-underscore}
+use Rattle.rb_syntax.proofs.TokenLemmas.{none-empty, len-numeral, number-found, number-wide, name_token-written, numeral-good, numeral-bad, underscore-bad, is-underscore}
 
 -- a piece is what stands at the front of these bytes
 abbrev pub IsFront : List ℕ → Piece → Type 0
@@ -56,21 +59,26 @@ module _ (b : ℕ) (bs rs : List ℕ) (word : is_word_byte b ≡ true) (all : li
   bad-front k h good bad = wrong_run (suc (length rs)) longest h (subst IsTokenRun (front k (omega arith)) good)
       (λ r. bad (subst IsTokenRun (sym (front (suc k) h)) r))
 
-  number-front : is_ascii_digit b ≡ true → IsFront (b ∷ bs) (number_piece (b ∷ rs))
-  unfolding number_piece
-  number-front digit =
+  number_or_fault-front : (o : Option ℕ) → number_in 0 (2 ^ 64 - 1) (b ∷ rs) ≡ o → is_ascii_digit b ≡ true
+      → IsFront (b ∷ bs) (number_or_fault o (b ∷ rs))
+  unfolding number_or_fault
+  number_or_fault-front (Some n) found digit =
+      let f = number-found 0 (2 ^ 64 - 1) (b ∷ rs) n found in token-front (tok.Num n) (f.0, f.1, omega (arith, f.3))
+  number_or_fault-front None found digit =
       if-front (b ∷ bs) (numeral_len (b ∷ rs) == suc (length rs)) _ _
       (λ e. let n : IsNumeral (b ∷ rs) = len-numeral (b ∷ rs) (omega arith) (eqb-true _ _ e) in
-      if-front (b ∷ bs) (nat_lt (value_of (b ∷ rs)) (2 ^ 64)) _ _
-      (λ h. token-front (tok.Num (value_of (b ∷ rs))) (n, refl, ltb-true _ _ h))
-      (λ h. record {
+      record {
         len = suc (length rs);
         longest = longest;
         numeral = subst IsNumeral (sym is) n;
-        wide = subst (λ (xs : List ℕ). 2 ^ 64 ≤ value_of xs) (sym is) (ltb-false _ _ h);
-      }))
+        wide = subst (λ (xs : List ℕ). 2 ^ 64 ≤ digits_value 10 xs) (sym is) (number-wide (b ∷ rs) n found);
+      })
       (λ e. let l : numeral_len (b ∷ rs) < suc (length rs) = below (numeral_len (b ∷ rs)) (suc (length rs)) (numeral_len-le (b ∷ rs)) (eqb-false _ _ e) in
       bad-front (numeral_len (b ∷ rs)) l (cut.numeral (numeral-good b rs digit)) (numeral-bad b rs digit l))
+
+  number-front : is_ascii_digit b ≡ true → IsFront (b ∷ bs) (number_piece (b ∷ rs))
+  unfolding number_piece
+  number-front digit = number_or_fault-front (number_in 0 (2 ^ 64 - 1) (b ∷ rs)) refl digit
 
   underscore-front : b ≡ 95 → IsFront (b ∷ bs) (underscore_piece (b ∷ rs))
   unfolding underscore_piece

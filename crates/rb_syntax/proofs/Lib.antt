@@ -6,10 +6,10 @@ mod FrontLemmas
 mod LexLemmas
 mod ListLemmas
 mod LongestLemmas
-mod NumberLemmas
 pub mod PatternInduction
 mod PieceLemmas
 pub mod SpellingLemmas
 pub mod SplitInduction
 mod SymbolLemmas
 mod TokenLemmas
+pub mod WordBytes

@@ -5,8 +5,9 @@ use Rattle.std.proofs.lemmas.List.{take-append-drop}
 use Rattle.std.proofs.lemmas.List.Folds.{length-prefix_len}
 use Rattle.std.proofs.Math.Seq.{take-append_seam}
 use Rattle.std.proofs.lemmas.List.Sums.{prefix_len-le-length}
+use Rattle.rb_core.specs.WellNumbered.{is_word_byte}
 use Rattle.rb_syntax.specs.declared.token.Symbol.{Symbol}
-use Rattle.rb_syntax.specs.Bytes.{is_blank, is_word_byte, is_in_line}
+use Rattle.rb_syntax.specs.Bytes.{is_blank, is_in_line}
 use Rattle.rb_syntax.specs.Words.{symbol_text, symbol_at, symbols}
 use Rattle.rb_syntax.specs.Cutting.{IsGap, blank, comment, IsPiece, IsLongest}
 use Rattle.rb_syntax.specs.Cutting as cut

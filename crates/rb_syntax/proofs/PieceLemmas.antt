@@ -1,15 +1,17 @@
 -- A piece has a byte, and lies within the bytes at whose front it stands.
-use Rattle.std.proofs.Common.{◌≡◌, ◌≢◌, ℕ, suc, ◌<◌, ◌≤◌, ◌^◌, List, [], ◌∷◌, ◌++◌, length, drop, codes, take_while, nat_eq, nat_lt, if◌then◌else◌, ◌==◌, Bool, true, false, Option, Some, None, refl, ◌∙◌, arith}
+use Rattle.std.proofs.Common.{◌≡◌, ◌≢◌, ℕ, suc, ◌-◌, ◌<◌, ◌≤◌, ◌^◌, List, [], ◌∷◌, ◌++◌, length, drop, codes, take_while, nat_eq, if◌then◌else◌, ◌==◌, Bool, true, false, Option, Some, None, refl, ◌∙◌, arith}
 use Rattle.std.specs.Char.{is_ascii_digit, is_ascii_alphabetic}
 use Rattle.std.specs.List.{prefix_len, starts_with}
 use Rattle.std.proofs.lemmas.List.Sums.{prefix_len-le-length, take_while-cons}
 use Rattle.std.proofs.lemmas.List.Folds.{length-prefix_len}
 use Rattle.std.proofs.lemmas.Grind.{common_steps}
+use Rattle.rb_core.specs.Decimal.{number_in}
+use Rattle.rb_core.specs.WellNumbered.{is_word_byte}
 use Rattle.rb_syntax.specs.declared.token.Symbol.{Symbol}
 use Rattle.rb_syntax.specs.declared.piece.Piece.{Piece}
-use Rattle.rb_syntax.specs.Bytes.{is_blank, is_word_byte, is_in_line, numeral_len, value_of}
+use Rattle.rb_syntax.specs.Bytes.{is_blank, is_in_line, numeral_len}
 use Rattle.rb_syntax.specs.Words.{symbol_text, symbol_at}
-use Rattle.rb_syntax.specs.Pieces.{number_piece, underscore_piece, run_piece, symbol_piece, first_piece, piece_at}
+use Rattle.rb_syntax.specs.Pieces.{number_or_fault, number_piece, underscore_piece, run_piece, symbol_piece, first_piece, piece_at}
 use Rattle.rb_syntax.specs.Lexing.{IsWithin}
 use Rattle.rb_syntax.proofs.SymbolLemmas.{starts-is, symbol-length, symbol-fits}
 
@@ -21,11 +23,16 @@ pub numeral_len-le : (run : List ℕ) → numeral_len run ≤ length run
 numeral_len-le [] = omega arith
 numeral_len-le (d ∷ ds) = grind (arith, common_steps, prefix_len-le-length)
 
+number_or_fault-within : (o : Option ℕ) (m : ℕ) (run : List ℕ) → 0 < length run → length run ≤ m → IsWithin m (number_or_fault o run)
+unfolding number_or_fault
+number_or_fault-within (Some n) m run h k = (h, k)
+number_or_fault-within None m run h k =
+    if-within m (numeral_len run == length run) _ _ (λ _. tt)
+    (λ e. let n : numeral_len run ≢ length run = grind (arith, common_steps) in omega (arith, numeral_len-le run))
+
 number-within : (m : ℕ) (run : List ℕ) → 0 < length run → length run ≤ m → IsWithin m (number_piece run)
 unfolding number_piece
-number-within m run h k =
-    if-within m (numeral_len run == length run) _ _ (λ _. if-within m (nat_lt (value_of run) (2 ^ 64)) _ _ (λ _. (h, k)) (λ _. tt))
-    (λ e. let n : numeral_len run ≢ length run = grind (arith, common_steps) in omega (arith, numeral_len-le run))
+number-within m run h k = number_or_fault-within (number_in 0 (2 ^ 64 - 1) run) m run h k
 
 underscore-within : (m : ℕ) (run : List ℕ) → 0 < length run → length run ≤ m → IsWithin m (underscore_piece run)
 unfolding underscore_piece

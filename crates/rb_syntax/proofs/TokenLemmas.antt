@@ -1,15 +1,19 @@
 -- How the tokens of runs are written, and which byte of a run is bad.
-use Rattle.std.proofs.Common.{◌≡◌, ℕ, suc, ◌+◌, ◌<◌, ◌≤◌, List, [], ◌∷◌, length, take, nat_eq, nat_lt, Bool, true, false, cond, ◌||◌, ◌&&◌, ◌==◌, nat_le, if◌then◌else◌, Option, Some, None, refl, sym, ◌∙◌, ap, subst, arith, leb-true, eqb-true}
+use Rattle.std.proofs.Common.{◌≡◌, ℕ, suc, ◌+◌, ◌-◌, ◌<◌, ◌≤◌, ◌^◌, List, [], ◌∷◌, length, take, nat_eq, Bool, true, false, cond, ◌||◌, ◌&&◌, ◌==◌, nat_le, if◌then◌else◌, Option, Some, None, refl, sym, ◌∙◌, ap, subst, arith, leb-true, eqb-true}
 use Rattle.std.specs.Cmp.Lexicographic.{pointwise}
 use Rattle.std.specs.Char.{is_ascii_digit, is_ascii_uppercase, is_ascii_lowercase, is_ascii_alphabetic}
 use Rattle.std.specs.Int.{is_in_range}
 use Rattle.std.specs.List.{list_all, prefix_len}
 use Rattle.std.proofs.lemmas.Bool.Decides.{Decides-eqb}
 use Rattle.std.proofs.lemmas.Slice.Eq.{slice_eq-Decides}
-use Rattle.std.proofs.lemmas.Bool.{ltb-true, eq-eqb, le-leb, lt-ltb}
+use Rattle.std.proofs.lemmas.Bool.{eqb-false, le-leb}
+use Rattle.std.specs.Str.Parse.{digits_value}
+use Rattle.rb_core.specs.Decimal.{is_numeral, number_in}
+use Rattle.rb_core.specs.WellNumbered.{is_word_byte, either}
+use Rattle.rb_core.proofs.Decimals.{digits-numeral, some-numeral, first-numeral, numeral_by_parts}
 use Rattle.rb_syntax.specs.declared.token.Word.{Word}
 use Rattle.rb_syntax.specs.declared.token.Token.TheVariants as tok
-use Rattle.rb_syntax.specs.Bytes.{is_word_byte, numeral_len, value_of}
+use Rattle.rb_syntax.specs.Bytes.{numeral_len}
 use Rattle.rb_syntax.specs.Words.{word_text, word_of, words, width_of}
 use Rattle.rb_syntax.specs.Pieces.{width_or_name, word_or_name, name_token}
 use Rattle.rb_syntax.specs.Cutting.{IsNumeral, IsWidth, IsNotReserved, IsWritten, IsTokenRun, name, numeral, underscore}
@@ -21,25 +25,12 @@ clash e = cc
 
 -- Numerals.
 
-all-whole : (p : ℕ → Bool) (xs : List ℕ) → list_all p xs ≡ true → prefix_len p xs ≡ length xs
-all-whole p [] e = refl
-all-whole p (x ∷ xs) e =
-    let a : p x ≡ true = and-left (p x) (list_all p xs) e in
-    let i : prefix_len p xs ≡ length xs = all-whole p xs (and-right (p x) (list_all p xs) e) in rw a (omega arith)
-
 whole-all : (p : ℕ → Bool) (xs : List ℕ) → prefix_len p xs ≡ length xs → list_all p xs ≡ true
 whole-all p [] e = refl
 whole-all p (x ∷ xs) e = elim (p x) as (λ (b : Bool). p x ≡ b → cond b (1 + prefix_len p xs) 0 ≡ suc (length xs) → (b && list_all p xs) ≡ true) [
   | true ↦ λ h g. whole-all p xs (omega arith)
   | false ↦ λ h g. absurd (omega arith)
 ] refl e
-
-pub numeral-len : (text : List ℕ) → IsNumeral text → numeral_len text ≡ length text
-numeral-len [] n = refl
-numeral-len (d ∷ ds) n = elim (d == 48) as (λ (b : Bool). (d == 48) ≡ b → (if b then 1 else prefix_len is_ascii_digit (d ∷ ds)) ≡ suc (length ds)) [
-  | true ↦ λ e. sym (n.leading e)
-  | false ↦ λ e. all-whole is_ascii_digit (d ∷ ds) n.digits
-] refl
 
 pub none-empty : (ds : List ℕ) → length ds ≡ 0 → ds ≡ []
 none-empty [] e = refl
@@ -55,48 +46,89 @@ len-numeral (d ∷ ds) h e = elim (d == 48) as (λ (b : Bool). (d == 48) ≡ b �
   | false ↦ λ z g. record { some = omega arith; digits = whole-all is_ascii_digit (d ∷ ds) g; leading = λ k. clash (sym k ∙ z) }
 ] refl e
 
+if-some : (c : Bool) (v n : ℕ) → (if c then Some v else None) ≡ Some n → (c ≡ true) × (v ≡ n)
+if-some true v n e = (refl, cc)
+if-some false v n e = cc
+
+range-is : (lo hi b : ℕ) → is_in_range lo hi b ≡ true → (lo ≤ b) × (b ≤ hi)
+range-is lo hi b e = (leb-true lo b (and-left (nat_le lo b) (nat_le b hi) e), leb-true b hi (and-right (nat_le lo b) (nat_le b hi) e))
+
+is-numeral : (text : List ℕ) → is_numeral text ≡ true → IsNumeral text
+is-numeral [] e = let h : 0 < length {A = ℕ} [] = some-numeral [] e in absurd (omega (arith, h))
+is-numeral (d ∷ ds) e = record {
+  some = omega arith;
+  digits = digits-numeral (d ∷ ds) e;
+  leading = λ k. first-numeral (d ∷ ds) e (eqb-true d 48 k);
+}
+
+numeral-is : (text : List ℕ) → IsNumeral text → is_numeral text ≡ true
+numeral-is [] n = absurd (omega (arith, n.some))
+numeral-is (d ∷ ds) n = numeral_by_parts (d ∷ ds) n.digits first n.some where
+  first : 1 < length (d ∷ ds) → 48 < d
+  first many =
+      let r = range-is 48 57 d (and-left (is_ascii_digit d) (list_all is_ascii_digit ds) n.digits) in
+      elim (d == 48) as (λ (b : Bool). (d == 48) ≡ b → 48 < d) [
+        | true ↦ λ z. absurd (omega (arith, many, n.leading z))
+        | false ↦ λ z. omega (arith, r.0, eqb-false d 48 z)
+      ] refl
+
+-- the number from low to high that the text spells
+pub number-found : (low high : ℕ) (text : List ℕ) (n : ℕ) → number_in low high text ≡ Some n
+    → IsNumeral text × (digits_value 10 text ≡ n) × (low ≤ n) × (n ≤ high)
+number-found low high text n e =
+    let v = digits_value 10 text in
+    let range = nat_le low v && nat_le v high in
+    let c : ((is_numeral text && range) ≡ true) × (v ≡ n) = if-some (is_numeral text && range) v n e in
+    let within : range ≡ true = and-right (is_numeral text) range c.0 in
+    let least : low ≤ v = leb-true low v (and-left (nat_le low v) (nat_le v high) within) in
+    let most : v ≤ high = leb-true v high (and-right (nat_le low v) (nat_le v high) within) in
+    (is-numeral text (and-left (is_numeral text) range c.0), c.1, omega (arith, c.1, least), omega (arith, c.1, most))
+
+pub number-of : (low high : ℕ) (text : List ℕ) (n : ℕ) → IsNumeral text → digits_value 10 text ≡ n → low ≤ n → n ≤ high
+    → number_in low high text ≡ Some n
+number-of low high text n k v least most =
+    let numeral : is_numeral text ≡ true = numeral-is text k in
+    let low_is : nat_le low n ≡ true = le-leb low n least in
+    let high_is : nat_le n high ≡ true = le-leb n high most in
+    rw (numeral, v, low_is, high_is) refl
+
+-- a number without a word below 2 ^ 64 is too wide
+pub number-wide : (text : List ℕ) → IsNumeral text → number_in 0 (2 ^ 64 - 1) text ≡ None → 2 ^ 64 ≤ digits_value 10 text
+number-wide text k e =
+    by_refusal (digits_value 10 text) (λ most. none (sym (number-of 0 (2 ^ 64 - 1) text (digits_value 10 text) k refl (omega arith) most) ∙ e)) where
+      by_refusal : (v : ℕ) → (v ≤ 2 ^ 64 - 1 → ⊥) → 2 ^ 64 ≤ v
+      by_refusal v h = omega (arith, h)
+
+      none : Some (digits_value 10 text) ≡ None → ⊥
+      none h = cc
+
 -- Words and names.
 
 text-is : (xs ys : List ℕ) → pointwise nat_eq xs ys ≡ true → xs ≡ ys
 text-is xs ys e = (slice_eq-Decides Decides-eqb xs ys (pointwise nat_eq xs ys) refl).0 e
 
-if-some : (c : Bool) (v n : ℕ) → (if c then Some v else None) ≡ Some n → (c ≡ true) × (v ≡ n)
-if-some true v n e = (refl, cc)
-if-some false v n e = cc
-
-value-some : (ds : List ℕ) → 0 < value_of ds → 0 < length ds
-value-some [] h = h
-value-some (d ∷ ds) h = omega arith
+if-then : (c : Bool) (o : Option ℕ) (n : ℕ) → (if c then o else None) ≡ Some n → (c ≡ true) × (o ≡ Some n)
+if-then true o n e = (refl, e)
+if-then false o n e = cc
 
 width-written : (run : List ℕ) (bits : ℕ) → width_of run ≡ Some bits → IsWidth bits run
 width-written [] bits e = cc
 width-written (u ∷ ds) bits e =
-    let len = numeral_len ds == length ds in
-    let some = nat_lt 0 (value_of ds) in
-    let most = nat_le (value_of ds) 64 in
-    let c : ((((u == 117) && len && some && most) ≡ true) × (value_of ds ≡ bits)) = if-some _ (value_of ds) bits e in
-    let abc : ((u == 117) && len && some) ≡ true = and-left _ most c.0 in
-    let ab : ((u == 117) && len) ≡ true = and-left _ some abc in
-    let low : 0 < value_of ds = ltb-true 0 (value_of ds) (and-right _ some abc) in
-    let high : value_of ds ≤ 64 = leb-true (value_of ds) 64 (and-right _ most c.0) in
-    let whole : numeral_len ds ≡ length ds = eqb-true (numeral_len ds) (length ds) (and-right _ len ab) in
+    let c : ((u == 117) ≡ true) × (number_in 1 64 ds ≡ Some bits) = if-then (u == 117) (number_in 1 64 ds) bits e in
+    let f = number-found 1 64 ds bits c.1 in
     record {
       digits = ds;
-      written = ap (λ (b : ℕ). b ∷ ds) (eqb-true u 117 (and-left _ len ab));
-      numeral = len-numeral ds (value-some ds low) whole;
-      value = c.1;
-      some = omega arith;
-      most = omega arith;
+      written = ap (λ (b : ℕ). b ∷ ds) (eqb-true u 117 c.0);
+      numeral = f.0;
+      value = f.1;
+      some = f.2;
+      most = f.3;
     }
 
 width-found : (run : List ℕ) (bits : ℕ) → IsWidth bits run → width_of run ≡ Some bits
 width-found run bits w =
-    let e : numeral_len w.digits ≡ length w.digits = numeral-len w.digits w.numeral in
-    let whole : (numeral_len w.digits == length w.digits) ≡ true = eq-eqb (numeral_len w.digits) (length w.digits) e in
-    let low : nat_lt 0 (value_of w.digits) ≡ true = lt-ltb 0 (value_of w.digits) (omega (arith, w.value, w.some)) in
-    let high : nat_le (value_of w.digits) 64 ≡ true = le-leb (value_of w.digits) 64 (omega (arith, w.value, w.most)) in
-    let found : width_of (117 ∷ w.digits) ≡ Some (value_of w.digits) = rw (whole, low, high) refl in
-    subst (λ (xs : List ℕ). width_of xs ≡ Some bits) (sym w.written) (found ∙ ap (λ (n : ℕ). Some n) w.value)
+    let found : width_of (117 ∷ w.digits) ≡ Some bits = number-of 1 64 w.digits bits w.numeral w.value w.some w.most in
+    subst (λ (xs : List ℕ). width_of xs ≡ Some bits) (sym w.written) found
 
 name-not_reserved : (run : List ℕ) → word_of run ≡ None → width_of run ≡ None → IsNotReserved run
 name-not_reserved run e f = (
@@ -126,9 +158,6 @@ name_token-written b bs letter all = elim (is_ascii_uppercase b) as (λ (c : Boo
     ] refl letter
 
 -- Where a run goes wrong.
-
-range-is : (lo hi b : ℕ) → is_in_range lo hi b ≡ true → (lo ≤ b) × (b ≤ hi)
-range-is lo hi b e = (leb-true lo b (and-left (nat_le lo b) (nat_le b hi) e), leb-true b hi (and-right (nat_le lo b) (nat_le b hi) e))
 
 or-cases : (a b : Bool) (P : Type 0) → (a ≡ true → P) → (b ≡ true → P) → (a || b) ≡ true → P
 or-cases true b P f g e = f refl
@@ -183,12 +212,12 @@ underscore-bad b c cs at (numeral n) = let h : is_ascii_digit b ≡ true = and-l
     let k : is_ascii_digit 95 ≡ true = rw at at h in clash (sym k)
 underscore-bad b c cs at (underscore e) = omega (arith, ap length e)
 
-last-of-four : (a u l e : Bool) → (((a || u) || l) || e) ≡ true → (u || l) ≡ false → a ≡ false → e ≡ true
-last-of-four true u l e h g k = clash k
-last-of-four false true l e h g k = clash g
-last-of-four false false true e h g k = clash g
+last-of-four : (u l a e : Bool) → either u (either l (either a e)) ≡ true → (u || l) ≡ false → a ≡ false → e ≡ true
+last-of-four true l a e h g k = clash g
+last-of-four false true a e h g k = clash g
+last-of-four false false true e h g k = clash k
 last-of-four false false false e h g k = h
 
 pub is-underscore : (b : ℕ) → is_word_byte b ≡ true → is_ascii_alphabetic b ≡ false → is_ascii_digit b ≡ false → b ≡ 95
 is-underscore b w no_letter no_digit =
-    eqb-true b 95 (last-of-four (is_in_range 48 57 b) (is_in_range 65 90 b) (is_in_range 97 122 b) (b == 95) w no_letter no_digit)
+    eqb-true b 95 (last-of-four (is_in_range 65 90 b) (is_in_range 97 122 b) (is_in_range 48 57 b) (b == 95) w no_letter no_digit)

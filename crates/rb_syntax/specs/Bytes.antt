@@ -1,16 +1,11 @@
--- Kinds of bytes, and the numbers that digits write.
-use Rattle.std.specs.Prelude.{ℕ, ◌-◌, List, [], ◌∷◌, map, Bool, ◌==◌, ◌||◌, not, if◌then◌else◌}
-use Rattle.std.specs.Char.{is_ascii_digit, is_ascii_alphanumeric}
+-- Kinds of bytes, and how long a number at the front of bytes is.
+use Rattle.std.specs.Prelude.{ℕ, List, [], ◌∷◌, Bool, ◌==◌, ◌||◌, not, if◌then◌else◌}
+use Rattle.std.specs.Char.{is_ascii_digit}
 use Rattle.std.specs.List.{prefix_len}
-use Rattle.std.specs.Int.Digits.{number_from_digits}
 
 -- whether a byte is a blank: tab, line feed, carriage return or space
 abbrev pub is_blank : ℕ → Bool
 is_blank b = (b == 9) || (b == 10) || (b == 13) || (b == 32)
-
--- whether a byte is one of names and numbers: a letter, a digit, or '_', which is 95
-abbrev pub is_word_byte : ℕ → Bool
-is_word_byte b = is_ascii_alphanumeric b || (b == 95)
 
 -- whether a byte goes on with a comment, which ends before a line feed
 abbrev pub is_in_line : ℕ → Bool
@@ -20,7 +15,3 @@ is_in_line b = not (b == 10)
 abbrev pub numeral_len : List ℕ → ℕ
 numeral_len [] = 0
 numeral_len (d ∷ ds) = if d == 48 then 1 else prefix_len is_ascii_digit (d ∷ ds)
-
--- the number that decimal digits write
-abbrev pub value_of : List ℕ → ℕ
-value_of ds = number_from_digits 10 (map (λ d. d - 48) ds)

@@ -2,13 +2,15 @@
 use Rattle.std.specs.Prelude.{◌≡◌, ◌≢◌, ℕ, suc, ◌+◌, ◌<◌, ◌≤◌, ◌^◌, List, [], ◌∷◌, length, take, drop, codes, nat_eq, Bool, true, Ok, Err}
 use Rattle.std.specs.Char.{is_ascii_digit, is_ascii_uppercase, is_ascii_lowercase, is_ascii_alphabetic}
 use Rattle.std.specs.List.{list_all, starts_with}
+use Rattle.std.specs.Str.Parse.{digits_value}
+use Rattle.rb_core.specs.WellNumbered.{is_word_byte}
 use Rattle.rb_syntax.specs.declared.token.Word.{Word}
 use Rattle.rb_syntax.specs.declared.token.Symbol.{Symbol}
 use Rattle.rb_syntax.specs.declared.token.Token.{Token}
 use Rattle.rb_syntax.specs.declared.token.Token.TheVariants as tok
 use Rattle.rb_syntax.specs.declared.token.Placed.{Placed}
 use Rattle.rb_syntax.specs.declared.lex.LexFault.TheVariants.{BadByte, NumberTooWide, Memory}
-use Rattle.rb_syntax.specs.Bytes.{is_blank, is_word_byte, is_in_line, value_of}
+use Rattle.rb_syntax.specs.Bytes.{is_blank, is_in_line}
 use Rattle.rb_syntax.specs.Words.{word_text, symbol_text}
 use Rattle.rb_syntax.specs.Lexing.{Lexed}
 
@@ -49,7 +51,7 @@ pub record IsWidth (bits : ℕ) (text : List ℕ) : Type 0 where
   pub digits : List ℕ
   pub written : text ≡ 117 ∷ digits
   pub numeral : IsNumeral digits
-  pub value : value_of digits ≡ bits
+  pub value : digits_value 10 digits ≡ bits
   pub some : 1 ≤ bits
   pub most : bits ≤ 64
 
@@ -63,7 +65,7 @@ abbrev pub IsWritten : Token → List ℕ → Type 0
 IsWritten (tok.Upper name) text = (text ≡ name) × Begins is_ascii_uppercase name × (list_all is_word_byte name ≡ true)
 IsWritten (tok.Lower name) text =
     (text ≡ name) × Begins is_ascii_lowercase name × (list_all is_word_byte name ≡ true) × IsNotReserved name
-IsWritten (tok.Num n) text = IsNumeral text × (value_of text ≡ n) × (n < 2 ^ 64)
+IsWritten (tok.Num n) text = IsNumeral text × (digits_value 10 text ≡ n) × (n < 2 ^ 64)
 IsWritten (tok.Reserved w) text = text ≡ word_text w
 IsWritten (tok.Uint bits) text = IsWidth bits text
 IsWritten (tok.Symbol s) text = text ≡ symbol_text s
@@ -108,7 +110,7 @@ pub record IsWideNumber (bytes : List ℕ) : Type 0 where
   pub len : ℕ
   pub longest : IsLongest len bytes
   pub numeral : IsNumeral (take len bytes)
-  pub wide : 2 ^ 64 ≤ value_of (take len bytes)
+  pub wide : 2 ^ 64 ≤ digits_value 10 (take len bytes)
 
 -- a number of 2^64 or more begins at byte p of a text, and the bytes before it are cut into their longest pieces
 abbrev pub HasWideNumber : List ℕ → ℕ → Type 0

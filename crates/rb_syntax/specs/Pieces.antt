@@ -1,7 +1,9 @@
 -- The piece at the front of some bytes: a blank, a comment, a run of letters, digits and '_', or a symbol.
-use Rattle.std.specs.Prelude.{ℕ, ◌^◌, List, [], ◌∷◌, length, codes, take_while, nat_eq, ◌==◌, nat_lt, if◌then◌else◌, Option, Some, None}
+use Rattle.std.specs.Prelude.{ℕ, ◌-◌, ◌^◌, List, [], ◌∷◌, length, codes, take_while, nat_eq, ◌==◌, if◌then◌else◌, Option, Some, None}
 use Rattle.std.specs.Char.{is_ascii_digit, is_ascii_uppercase, is_ascii_alphabetic}
 use Rattle.std.specs.List.{prefix_len, starts_with}
+use Rattle.rb_core.specs.Decimal.{number_in}
+use Rattle.rb_core.specs.WellNumbered.{is_word_byte}
 use Rattle.rb_syntax.specs.declared.token.Word.{Word}
 use Rattle.rb_syntax.specs.declared.token.Symbol.{Symbol}
 use Rattle.rb_syntax.specs.declared.token.Symbol.TheVariants.{Underscore}
@@ -9,7 +11,7 @@ use Rattle.rb_syntax.specs.declared.token.Token.{Token}
 use Rattle.rb_syntax.specs.declared.token.Token.TheVariants as tok
 use Rattle.rb_syntax.specs.declared.piece.Piece.{Piece}
 use Rattle.rb_syntax.specs.declared.piece.Piece.TheVariants as piece
-use Rattle.rb_syntax.specs.Bytes.{is_blank, is_word_byte, is_in_line, numeral_len, value_of}
+use Rattle.rb_syntax.specs.Bytes.{is_blank, is_in_line, numeral_len}
 use Rattle.rb_syntax.specs.Words.{word_of, width_of, symbol_text, symbol_at}
 
 -- the token of a run `name` with a small letter first that is no reserved word, u1 to u64 aside, by what `width_of`
@@ -29,13 +31,17 @@ word_or_name None name = width_or_name (width_of name) name
 unfoldable pub name_token : ℕ → List ℕ → Token
 name_token first name = if is_ascii_uppercase first then tok.Upper name else word_or_name (word_of name) name
 
+-- the piece of a run that begins with a digit, by the number below 2^64 that the whole run spells: that number; where it
+-- spells none, it is too wide if the whole run is digits without a leading zero, else the byte behind the longest such
+-- number at its front is bad
+unfoldable pub number_or_fault : Option ℕ → List ℕ → Piece
+number_or_fault (Some n) run = piece.Token (tok.Num n) (length run)
+number_or_fault None run = if numeral_len run == length run then piece.Wide else piece.Bad (numeral_len run)
+
 -- the piece of a run that begins with a digit: a number where the whole run is one without a leading zero, too wide
 -- from 2^64 on; else the byte behind the longest such number at its front is bad
 unfoldable pub number_piece : List ℕ → Piece
-number_piece run =
-    if numeral_len run == length run
-    then (if nat_lt (value_of run) (2 ^ 64) then piece.Token (tok.Num (value_of run)) (length run) else piece.Wide)
-    else piece.Bad (numeral_len run)
+number_piece run = number_or_fault (number_in 0 (2 ^ 64 - 1) run) run
 
 -- the piece of a run that begins with '_': that symbol where nothing else is in the run, else its second byte is bad
 unfoldable pub underscore_piece : List ℕ → Piece

@@ -1,8 +1,8 @@
 -- How words and symbols are written.
-use Rattle.std.specs.Prelude.{ℕ, List, [], ◌∷◌, length, codes, ◌==◌, ◌&&◌, nat_lt, nat_le, if◌then◌else◌, Option, Some, None, find, nat_eq}
+use Rattle.std.specs.Prelude.{ℕ, List, [], ◌∷◌, codes, ◌==◌, if◌then◌else◌, Option, None, find, nat_eq}
 use Rattle.std.specs.List.{starts_with}
 use Rattle.std.specs.Cmp.Lexicographic.{pointwise}
-use Rattle.rb_syntax.specs.Bytes.{numeral_len, value_of}
+use Rattle.rb_core.specs.Decimal.{number_in}
 use Rattle.rb_syntax.specs.declared.token.Word.{Word}
 use Rattle.rb_syntax.specs.declared.token.Word.TheVariants as word
 use Rattle.rb_syntax.specs.declared.token.Symbol.{Symbol}
@@ -77,6 +77,4 @@ symbol_at bytes = find (λ s. starts_with nat_eq bytes (symbol_text s)) symbols
 -- the width of the type of integers that is written so, if there is one: u1 to u64
 abbrev pub width_of : List ℕ → Option ℕ
 width_of [] = None
-width_of (u ∷ ds) =
-    if (u == 117) && (numeral_len ds == length ds) && nat_lt 0 (value_of ds) && nat_le (value_of ds) 64
-    then Some (value_of ds) else None
+width_of (u ∷ ds) = if u == 117 then number_in 1 64 ds else None

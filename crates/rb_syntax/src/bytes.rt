@@ -1,8 +1,9 @@
-//! Kinds of bytes, and the numbers that digits write.
+//! Kinds of bytes, and how many at the front of bytes are a run, a line, digits or a number.
 
-ghost use Rattle.std.specs.Prelude.{◌≡◌, ◌<◌, ◌^◌, nat_lt, if◌then◌else◌, Some, None};
+ghost use Rattle.std.specs.Prelude.{◌≡◌};
 ghost use Rattle.std.specs.Char.{is_ascii_digit};
 ghost use Rattle.std.specs.List.{prefix_len};
+ghost use Rattle.rb_core.specs.WellNumbered as name;
 ghost use Rattle.rb_syntax.specs.Bytes as kind;
 
 /// Whether a blank: tab, line feed, carriage return or space.
@@ -14,14 +15,14 @@ pub fn is_blank(b: u8) -> bool
 
 /// Whether a byte of names and numbers: a letter, a digit or `_`.
 pub fn is_word_byte(b: u8) -> bool
-    ensures { result ≡ kind.is_word_byte b }
+    ensures { result ≡ name.is_word_byte b }
 {
-    b.is_ascii_alphanumeric() || b == b'_'
+    b.is_ascii_uppercase() || b.is_ascii_lowercase() || b.is_ascii_digit() || b == b'_'
 }
 
 /// How many bytes at the front are bytes of names and numbers, up to the first other one.
 pub fn run_len(bytes: &[u8]) -> usize
-    ensures { result ≡ prefix_len kind.is_word_byte bytes.now }
+    ensures { result ≡ prefix_len name.is_word_byte bytes.now }
 {
     bytes.iter().take_while(|b| is_word_byte(**b)).count()
 }
@@ -50,17 +51,4 @@ pub fn numeral_len(bytes: &[u8]) -> usize
         [b'0', ..] => 1,
         [_, ..] => digits_len(bytes),
     }
-}
-
-/// The number that decimal digits write, or `None` where it has more than 64 bits.
-pub fn number(digits: &[u8]) -> Option<u64>
-    ensures { result ≡ (if nat_lt (kind.value_of digits.now) (2 ^ 64) then Some (kind.value_of digits.now) else None) }
-{
-    let mut n: u64 = 0;
-    for digit in digits {
-        n = n
-            .checked_mul(10)?
-            .checked_add(u64::from(digit.saturating_sub(b'0')))?;
-    }
-    Some(n)
 }

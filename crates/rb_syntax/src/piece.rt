@@ -6,9 +6,10 @@ ghost use Rattle.rb_syntax.specs.Words as text;
 ghost use Rattle.rb_syntax.specs.Pieces as piece;
 ghost use Rattle.rb_syntax.specs.Lexing.{IsWithin};
 
-use crate::bytes::{is_blank, is_word_byte, line_len, number, numeral_len, run_len};
+use crate::bytes::{is_blank, is_word_byte, line_len, numeral_len, run_len};
 use crate::token::{Symbol, Token};
 use crate::words::{symbol_at, width_of, word_of};
+use rb_core::decimal::number_in;
 use rb_core::seq::Seq;
 use std::alloc::{AllocError, Global};
 
@@ -27,17 +28,18 @@ pub enum Piece {
 // The piece of a run of digits and other bytes of words, of which the first is a digit: a number
 // where the whole run is one without a leading zero, `Wide` from 2^64 on, else `Bad` at the byte
 // behind the longest such number at its front.
-#[tactic(auto, unfolding(crate::specs::Pieces::number_piece))]
+#[tactic(auto, unfolding(crate::specs::Pieces::number_piece, crate::specs::Pieces::number_or_fault))]
 fn number_piece(run: &[u8]) -> Piece
     ensures { result ≡ piece.number_piece run.now }
 {
-    let len = numeral_len(run);
-    if len != run.len() {
-        return Piece::Bad(len);
+    if let Some(n) = number_in(0, u64::MAX, run) {
+        return Piece::Token(Token::Num(n), run.len());
     }
-    match number(run) {
-        Some(n) => Piece::Token(Token::Num(n), len),
-        None => Piece::Wide,
+    let len = numeral_len(run);
+    if len == run.len() {
+        Piece::Wide
+    } else {
+        Piece::Bad(len)
     }
 }
 

@@ -3,8 +3,8 @@
 ghost use Rattle.std.specs.Prelude.{◌≡◌};
 ghost use Rattle.rb_syntax.specs.Words as text;
 
-use crate::bytes::{number, numeral_len};
 use crate::token::{SYMBOLS, Symbol, WORDS, Word};
+use rb_core::decimal::number_in;
 
 /// The reserved word that is written so, `u1` to `u64` aside; `None` where there is none.
 pub fn word_of(name: &[u8]) -> Option<Word>
@@ -28,9 +28,9 @@ pub fn width_of(name: &[u8]) -> Option<u8>
     ensures { result ≡ text.width_of name.now }
 {
     match name {
-        [b'u', digits @ ..] if numeral_len(digits) == digits.len() => match number(digits) {
-            Some(width) if 0 < width && width <= 64 => Some(width as u8),
-            _ => None,
+        [b'u', digits @ ..] => match number_in(1, 64, digits) {
+            Some(width) => Some(width as u8),
+            None => None,
         },
         _ => None,
     }

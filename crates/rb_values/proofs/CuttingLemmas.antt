@@ -1,26 +1,23 @@
 -- The signs of a text that is put together from pieces: names, numbers and what stands between them.
-use Rattle.std.proofs.Common.{◌≡◌, ℕ, zero, suc, ◌+◌, ◌-◌, ◌*◌, ◌<◌, ◌≤◌, ◌^◌, List, [], ◌∷◌, ◌++◌, length, drop, take, map, codes, take_while, nat_lt, nat_le, Bool, true, false, ◌&&◌, ◌||◌, ◌==◌, if◌then◌else◌, None, refl, sym, ◌∙◌, ap, subst, arith, length-append, eqb-true}
+use Rattle.std.proofs.Common.{◌≡◌, ℕ, zero, suc, ◌+◌, ◌-◌, ◌<◌, ◌≤◌, ◌^◌, List, [], ◌∷◌, ◌++◌, length, drop, take, codes, take_while, nat_le, Bool, true, false, ◌&&◌, ◌||◌, ◌==◌, Some, None, refl, ◌∙◌, ap, subst, arith, length-append, eqb-true}
 use Rattle.std.specs.Fmt.{decimal}
-use Rattle.std.specs.Char.{is_ascii_digit, is_ascii_uppercase, is_ascii_lowercase, is_ascii_alphabetic, digit_value}
+use Rattle.std.specs.Char.{is_ascii_digit, is_ascii_uppercase, is_ascii_alphabetic}
 use Rattle.std.specs.Int.{is_in_range}
-use Rattle.std.specs.Int.Digits.{number_from_digits_after}
 use Rattle.std.specs.List.{list_all, prefix_len}
-use Rattle.std.specs.Str.Parse.{digits_value_after}
-use Rattle.std.proofs.lemmas.Bool.{leb-true, lt-ltb, eq-eqb}
-use Rattle.std.proofs.lemmas.Str.{digit_value_digit}
+use Rattle.std.proofs.lemmas.Bool.{leb-true, le-leb}
 use Rattle.std.proofs.lemmas.Grind.{common_steps}
-use Rattle.rb_core.specs.Decimal.{is_numeral}
-use Rattle.rb_core.specs.WellNumbered.{is_upper, is_capital, is_small, is_between, either}
-use Rattle.rb_core.specs.WellNumbered as well
-use Rattle.rb_core.proofs.Decimals.{numeral-decimal, value-decimal, digits-numeral, some-numeral, first-numeral}
+use Rattle.rb_core.specs.Decimal.{is_numeral, number_in}
+use Rattle.rb_core.specs.WellNumbered.{is_upper, is_capital, is_word_byte, either}
+use Rattle.rb_core.proofs.Decimals.{numeral-decimal, value-decimal, digits-numeral, some-numeral}
 use Rattle.rb_syntax.specs.declared.token.Symbol.TheVariants as symbol
 use Rattle.rb_syntax.specs.declared.token.Token.{Token}
 use Rattle.rb_syntax.specs.declared.token.Token.TheVariants as tok
 use Rattle.rb_syntax.specs.declared.token.Placed.{Placed}
 use Rattle.rb_syntax.specs.declared.piece.Piece.{Piece}
 use Rattle.rb_syntax.specs.declared.piece.Piece.TheVariants as piece
-use Rattle.rb_syntax.specs.Bytes.{is_blank, is_word_byte, numeral_len, value_of}
-use Rattle.rb_syntax.specs.Pieces.{name_token, number_piece, run_piece, symbol_piece, first_piece, piece_at}
+use Rattle.rb_syntax.specs.Bytes.{is_blank}
+use Rattle.rb_syntax.specs.Pieces.{name_token, number_or_fault, number_piece, run_piece, symbol_piece, first_piece, piece_at}
+use Rattle.rb_syntax.proofs.WordBytes.{digit-word, letter-word}
 use Rattle.rb_syntax.specs.Fronts.{Front, ends, behind, with_front, front_from}
 use Rattle.rb_values.specs.declared.sign.Sign.{Sign}
 use Rattle.rb_values.specs.declared.sign.Sign.TheVariants as sign
@@ -149,11 +146,16 @@ or-cases false b P f g e = g e
 in-range : (low high b : ℕ) → is_in_range low high b ≡ true → low ≤ b
 in-range low high b e = leb-true low b (both (nat_le low b) (nat_le b high) e).0
 
+four-cases : (u l d x : Bool) (P : Type 0) → (u ≡ true → P) → (l ≡ true → P) → (d ≡ true → P) → (x ≡ true → P)
+    → either u (either l (either d x)) ≡ true → P
+four-cases true l d x P f g h i e = f refl
+four-cases false true d x P f g h i e = g refl
+four-cases false false true x P f g h i e = h refl
+four-cases false false false x P f g h i e = i e
+
 word-high : (b : ℕ) → is_word_byte b ≡ true → 33 ≤ b
-word-high b = or-cases ((is_in_range 48 57 b || is_in_range 65 90 b) || is_in_range 97 122 b) (b == 95) (33 ≤ b)
-    (or-cases (is_in_range 48 57 b || is_in_range 65 90 b) (is_in_range 97 122 b) (33 ≤ b)
-    (or-cases (is_in_range 48 57 b) (is_in_range 65 90 b) (33 ≤ b) (λ e. omega (arith, in-range 48 57 b e)) (λ e. omega (arith, in-range 65 90 b e)))
-    (λ e. omega (arith, in-range 97 122 b e)))
+word-high b = four-cases (is_in_range 65 90 b) (is_in_range 97 122 b) (is_in_range 48 57 b) (b == 95) (33 ≤ b)
+    (λ e. omega (arith, in-range 65 90 b e)) (λ e. omega (arith, in-range 97 122 b e)) (λ e. omega (arith, in-range 48 57 b e))
     (λ e. omega (arith, eqb-true b 95 e))
 
 other : (b c : ℕ) → c < b → (b == c) ≡ false
@@ -182,21 +184,6 @@ run-at b bs rest all stops =
     let word = (both (is_word_byte b) (list_all is_word_byte bs) all).0 in
     first-run b ((b ∷ bs) ++ rest) (no-blank b (word-high b word)) word ∙ ap (run_piece b) (run-front (b ∷ bs) rest all stops)
 
--- the same kinds of bytes in another order
-reordered : (d u l x : Bool) → either u (either l (either d x)) ≡ true → (((d || u) || l) || x) ≡ true
-reordered true true l x e = refl
-reordered true false true x e = refl
-reordered true false false x e = refl
-reordered false true l x e = refl
-reordered false false true x e = refl
-reordered false false false x e = e
-
-word-bytes : (bs : List ℕ) → list_all well.is_word_byte bs ≡ true → list_all is_word_byte bs ≡ true
-word-bytes [] e = refl
-word-bytes (b ∷ bs) e =
-    let h = both (well.is_word_byte b) (list_all well.is_word_byte bs) e in
-    joined (is_word_byte b) (list_all is_word_byte bs) (reordered (is_ascii_digit b) (is_ascii_uppercase b) (is_ascii_lowercase b) (b == 95) h.0) (word-bytes bs h.1)
-
 or-left : (a b : Bool) → a ≡ true → (a || b) ≡ true
 or-left true b e = refl
 or-left false b e = cc
@@ -204,11 +191,6 @@ or-left false b e = cc
 or-right : (a b : Bool) → b ≡ true → (a || b) ≡ true
 or-right true b e = refl
 or-right false b e = e
-
-capital-word : (b : ℕ) → is_capital b ≡ true → is_word_byte b ≡ true
-capital-word b e =
-    or-left ((is_in_range 48 57 b || is_in_range 65 90 b) || is_in_range 97 122 b) (b == 95)
-    (or-left (is_in_range 48 57 b || is_in_range 65 90 b) (is_in_range 97 122 b) (or-right (is_in_range 48 57 b) (is_in_range 65 90 b) e))
 
 capital-piece : (b : ℕ) (bs : List ℕ) → is_capital b ≡ true → run_piece b (b ∷ bs) ≡ piece.Token (tok.Upper (b ∷ bs)) (length (b ∷ bs))
 unfolding run_piece name_token
@@ -219,17 +201,13 @@ pub shows-name : (at from : ℕ) (name rest : List ℕ) (ss : List Sign) → is_
     → Shows at (name ++ rest) (sign.Name at name ∷ ss)
 shows-name at from [] rest ss e stops f next = cc
 shows-name at from (b ∷ bs) rest ss e stops f next =
-    let h = both (is_capital b) (list_all well.is_word_byte bs) e in
-    let all : list_all is_word_byte (b ∷ bs) ≡ true = joined (is_word_byte b) (list_all is_word_byte bs) (capital-word b h.0) (word-bytes bs h.1) in
+    let h = both (is_capital b) (list_all is_word_byte bs) e in
+    let letter : is_ascii_alphabetic b ≡ true = or-left (is_in_range 65 90 b) (is_in_range 97 122 b) h.0 in
+    let all : list_all is_word_byte (b ∷ bs) ≡ true = joined (is_word_byte b) (list_all is_word_byte bs) (letter-word b letter) h.1 in
     shows-token at (length (b ∷ bs)) (b ∷ bs) rest ss (omega arith) refl (shows-from (at + length (b ∷ bs)) from rest ss f next)
     (tok.Upper (b ∷ bs)) (sign.Name at (b ∷ bs)) refl (run-at b bs rest all stops ∙ capital-piece b bs h.0)
 
 -- Numbers ---------------------------------------------------------------------------------------
-
-digit-word : (b : ℕ) → is_ascii_digit b ≡ true → is_word_byte b ≡ true
-digit-word b e =
-    or-left ((is_in_range 48 57 b || is_in_range 65 90 b) || is_in_range 97 122 b) (b == 95)
-    (or-left (is_in_range 48 57 b || is_in_range 65 90 b) (is_in_range 97 122 b) (or-left (is_in_range 48 57 b) (is_in_range 65 90 b) e))
 
 digit-words : (bs : List ℕ) → list_all is_ascii_digit bs ≡ true → list_all is_word_byte bs ≡ true
 digit-words [] e = refl
@@ -247,51 +225,34 @@ no-letter b e =
     let low : nat_le 97 b ≡ false = grind (arith, common_steps, h.1) in
     rw (up, low) refl
 
-same-value : (n : ℕ) (ds : List ℕ) → list_all is_ascii_digit ds ≡ true → number_from_digits_after 10 n (map (λ d. d - 48) ds) ≡ digits_value_after 10 n ds
-same-value n [] e = refl
-same-value n (d ∷ ds) e =
-    let h = both (is_ascii_digit d) (list_all is_ascii_digit ds) e in
-    let one : n * 10 + (d - 48) ≡ n * 10 + digit_value d = omega (arith, digit_value_digit d (digit-range d h.0)) in
-    ap (λ (m : ℕ). number_from_digits_after 10 m (map (λ d. d - 48) ds)) one ∙ same-value (n * 10 + digit_value d) ds h.1
-
-all-digits : (ds : List ℕ) → list_all is_ascii_digit ds ≡ true → prefix_len is_ascii_digit ds ≡ length ds
-all-digits [] e = refl
-all-digits (d ∷ ds) e =
-    let h = both (is_ascii_digit d) (list_all is_ascii_digit ds) e in
-    let i : prefix_len is_ascii_digit ds ≡ length ds = all-digits ds h.1 in
-    rw h.0 (omega (arith, i))
-
-whole-numeral : (d : ℕ) (ds : List ℕ) → is_numeral (d ∷ ds) ≡ true → numeral_len (d ∷ ds) ≡ length (d ∷ ds)
-whole-numeral d ds e = elim (d == 48) as (λ (b : Bool). (d == 48) ≡ b → (if b then 1 else prefix_len is_ascii_digit (d ∷ ds)) ≡ length (d ∷ ds)) [
-  | true ↦ λ z. sym (first-numeral (d ∷ ds) e (eqb-true d 48 z))
-  | false ↦ λ z. all-digits (d ∷ ds) (digits-numeral (d ∷ ds) e)
-] refl
-
 digit-run : (d : ℕ) (run : List ℕ) → is_ascii_alphabetic d ≡ false → is_ascii_digit d ≡ true → run_piece d run ≡ number_piece run
 unfolding run_piece
 digit-run d run e f = rw (e, f) refl
 
-number-run : (run : List ℕ) (n : ℕ) → (numeral_len run == length run) ≡ true → value_of run ≡ n → nat_lt n (2 ^ 64) ≡ true
-    → number_piece run ≡ piece.Token (tok.Num n) (length run)
-unfolding number_piece
-number-run run n whole v fits = rw (whole, v, fits) refl
+number-run : (run : List ℕ) (n : ℕ) → number_in 0 (2 ^ 64 - 1) run ≡ Some n → number_piece run ≡ piece.Token (tok.Num n) (length run)
+unfolding number_piece number_or_fault
+number-run run n e = ap (λ o. number_or_fault o run) e
 
-digits-piece : (d : ℕ) (ds : List ℕ) (n : ℕ) → is_numeral (d ∷ ds) ≡ true → value_of (d ∷ ds) ≡ n → n < 2 ^ 64
+digits-piece : (d : ℕ) (ds : List ℕ) (n : ℕ) → is_numeral (d ∷ ds) ≡ true → number_in 0 (2 ^ 64 - 1) (d ∷ ds) ≡ Some n
     → run_piece d (d ∷ ds) ≡ piece.Token (tok.Num n) (length (d ∷ ds))
-digits-piece d ds n e v small =
+digits-piece d ds n e v =
     let digit : is_ascii_digit d ≡ true = (both (is_ascii_digit d) (list_all is_ascii_digit ds) (digits-numeral (d ∷ ds) e)).0 in
-    let whole : (numeral_len (d ∷ ds) == length (d ∷ ds)) ≡ true = eq-eqb (numeral_len (d ∷ ds)) (length (d ∷ ds)) (whole-numeral d ds e) in
-    digit-run d (d ∷ ds) (no-letter d digit) digit ∙ number-run (d ∷ ds) n whole v (lt-ltb n (2 ^ 64) small)
+    digit-run d (d ∷ ds) (no-letter d digit) digit ∙ number-run (d ∷ ds) n v
 
-numeral-piece : (ds rest : List ℕ) (n : ℕ) → is_numeral ds ≡ true → value_of ds ≡ n → n < 2 ^ 64 → Stops rest → piece_at (ds ++ rest) ≡ piece.Token (tok.Num n) (length ds)
-numeral-piece [] rest n e v small stops = let h : 0 < length {A = ℕ} [] = some-numeral [] e in absurd (omega (arith, h))
-numeral-piece (d ∷ ds) rest n e v small stops =
-    run-at d ds rest (digit-words (d ∷ ds) (digits-numeral (d ∷ ds) e)) stops ∙ digits-piece d ds n e v small
+numeral-piece : (ds rest : List ℕ) (n : ℕ) → is_numeral ds ≡ true → number_in 0 (2 ^ 64 - 1) ds ≡ Some n → Stops rest
+    → piece_at (ds ++ rest) ≡ piece.Token (tok.Num n) (length ds)
+numeral-piece [] rest n e v stops = let h : 0 < length {A = ℕ} [] = some-numeral [] e in absurd (omega (arith, h))
+numeral-piece (d ∷ ds) rest n e v stops =
+    run-at d ds rest (digit-words (d ∷ ds) (digits-numeral (d ∷ ds) e)) stops ∙ digits-piece d ds n e v
+
+number-decimal : (n : ℕ) → n < 2 ^ 64 → number_in 0 (2 ^ 64 - 1) (decimal n) ≡ Some n
+number-decimal n small =
+    let most : nat_le n (2 ^ 64 - 1) ≡ true = le-leb n (2 ^ 64 - 1) (omega (arith, small)) in
+    rw (numeral-decimal n small, value-decimal n small, most) refl
 
 pub shows-number : (at from n : ℕ) (rest : List ℕ) (ss : List Sign) → n < 2 ^ 64 → Stops rest → from ≡ at + length (decimal n) → Shows from rest ss
     → Shows at (decimal n ++ rest) (sign.Number at n ∷ ss)
 shows-number at from n rest ss small stops f next =
     let e : is_numeral (decimal n) ≡ true = numeral-decimal n small in
-    let v : value_of (decimal n) ≡ n = same-value 0 (decimal n) (digits-numeral (decimal n) e) ∙ value-decimal n small in
     shows-token at (length (decimal n)) (decimal n) rest ss (some-numeral (decimal n) e) refl (shows-from (at + length (decimal n)) from rest ss f next)
-    (tok.Num n) (sign.Number at n) refl (numeral-piece (decimal n) rest n e v small stops)
+    (tok.Num n) (sign.Number at n) refl (numeral-piece (decimal n) rest n e (number-decimal n small) stops)

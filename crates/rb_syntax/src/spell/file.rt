@@ -1,4 +1,4 @@
-//! Items and files.
+//! Items and files. Tokens are put the last one first, and turned round at the end.
 
 ghost use Rattle.std.specs.Prelude.{◌≡◌, ◌∷◌, map, OnOk, IfOk};
 ghost use Rattle.rb_core.specs.declared.types.Auto.{Auto};
@@ -19,6 +19,7 @@ use crate::tree::{
 };
 use std::alloc::{AllocError, Global};
 
+/// A type, as one of a list of fields.
 impl Spell for TyTree {
     ghost writing = { ty_written };
 
@@ -43,6 +44,7 @@ fn put_field_types(alloc: Global, out: &mut Vec<Token>, fields: &[TyTree]) -> Re
     }
 }
 
+/// A constructor with the types of its fields.
 impl Spell for ConTree {
     ghost writing = { con_written };
 
@@ -90,6 +92,7 @@ fn put_layout(alloc: Global, out: &mut Vec<Token>, tree: &LayoutTree) -> Result<
     Ok(())
 }
 
+/// A parameter with its type.
 impl Spell for ParamTree {
     ghost writing = { param_written };
 
@@ -147,6 +150,7 @@ fn put_derived(
     Ok(())
 }
 
+/// An item: a type, a layout, a function, or a layout that is left to the compiler.
 impl Spell for ItemTree {
     ghost writing = { item_written };
 

@@ -1,4 +1,5 @@
-//! Locations and the items of leaves and blocks.
+//! Locations and the items of leaves and blocks. Tokens are put the last one first, and turned round
+//! at the end.
 
 ghost use Rattle.std.specs.Prelude.{◌≡◌, ◌∷◌, ℕ, map, OnOk};
 ghost use Rattle.rb_syntax.specs.Backward.{Wrote};
@@ -45,7 +46,7 @@ fn put_path(alloc: Global, out: &mut Vec<Token>, path: &[u32]) -> Result<(), All
     Ok(())
 }
 
-/// `-> 4 @0:8[0:8]`
+/// A step of a location, its alignment, byte, width and range: `-> 4 @0:8[0:8]`.
 impl Spell for Step {
     ghost writing = { loc_step_written };
 
