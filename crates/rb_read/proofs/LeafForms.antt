@@ -20,7 +20,7 @@ use Rattle.rb_read.specs.inner.Combining.{Reader, Reading, ◌>>=◌, pair, into
 use Rattle.rb_read.proofs.Open.{Open, one, maybe, many, first, the, a_number, a_field, a_range, into_field, begins, if_so, ahead_of}
 use Rattle.rb_read.proofs.Open as open_at
 use Rattle.rb_read.specs.inner.Tokens.{number, field}
-use Rattle.rb_read.specs.inner.Reading.{PathEnd, sliced, numbered, ends_path, range_rest, range, field_in, more_fields, path, path_end_from, held, part_kind_from, part_kind, part, item_from, item_one, no_pointer, pointer, lay_item_tree, held_of, pointer_of, word_of}
+use Rattle.rb_read.specs.inner.Reading.{PathEnd, sliced, numbered, ends_path, range_rest, range, field_in, more_fields, path, path_end_from, field_part, part_kind_from, part_kind, part, item_from, item_one, no_pointer, pointer, lay_item_tree, field_part_of, pointer_of, word_of}
 use Rattle.rb_read.specs.inner.Reading as reading
 use Rattle.rb_read.proofs.Forms.{IsRight, Again, Clear, IsForm}
 use Rattle.rb_read.proofs.FormLaws.{nat_lt-zero, all-clear, pair-form, first-strict, iso-form, bars-form, into-strict, alias-form}
@@ -89,18 +89,18 @@ dotted-form total limit = before-any (field-part total limit).form (pair-form (m
   clear (Some (sliced a b)) rest c = refl
   clear (Some (numbered j)) rest c = refl
 
-held-written : (n : ℕ) (ns : List ℕ) (o : Option PathEnd) (l : ℕ) (rest : List Written) → kind_written (held (n ∷ ns) o) l rest
+field_part-written : (n : ℕ) (ns : List ℕ) (o : Option PathEnd) (l : ℕ) (rest : List Written) → kind_written (field_part (n ∷ ns) o) l rest
     ≡ token (tok.Symbol symbol.Dot) ∷ field_number n (each (map field_written ns) (perhaps end_written o rest))
-held-written n ns None l rest = kind-Whole (n ∷ ns) l rest
-held-written n ns (Some (sliced a b)) l rest = kind-Slice (n ∷ ns) a b l rest
-held-written n ns (Some (numbered j)) l rest = kind-Word (n ∷ ns) j l rest
+field_part-written n ns None l rest = kind-Whole (n ∷ ns) l rest
+field_part-written n ns (Some (sliced a b)) l rest = kind-Slice (n ∷ ns) a b l rest
+field_part-written n ns (Some (numbered j)) l rest = kind-Word (n ∷ ns) j l rest
 
 into-into : {A B X : Type 0} (f : B → X) (g : A → B) (r : Reading A) → ((r >>= λ x. Ok (g x.0, x.1)) >>= λ y. Ok (f y.0, y.1)) ≡ (r >>= λ x. Ok (f (g x.0), x.1))
 into-into f g (Ok x) = refl
 into-into f g (Err e) = refl
 
 -- no path is empty
-flawed-path : (total : ℕ) (o : Option PathEnd) (l : ℕ) (rest : List Written) → IsRight total (kind_written (held [] o) l rest) → ⊥
+flawed-path : (total : ℕ) (o : Option PathEnd) (l : ℕ) (rest : List Written) → IsRight total (kind_written (field_part [] o) l rest) → ⊥
 flawed-path total None l rest i = let j : IsRight total (flaw ∷ rest) = subst (λ ws. IsRight total ws) (kind-Whole [] l rest) i in j.0
 flawed-path total (Some (sliced a b)) l rest i = let j : IsRight total (flaw ∷ range_written a b rest) = subst (λ ws. IsRight total ws) (kind-Slice [] a b l rest) i in j.0
 flawed-path total (Some (numbered j)) l rest i = let k : IsRight total (flaw ∷ reserved word.Word ∷ num j ∷ rest) = subst (λ ws. IsRight total ws) (kind-Word [] j l rest) i in k.0
@@ -157,18 +157,18 @@ module _ (total limit l : ℕ) (pointed : Reader PartKind) (arrow : IsPointed to
   unfolding begins part_kind part_kind_from
   kind-on (tok.Symbol symbol.Equals) = node-at (number-part total limit).form 0 refl (nat_lt-zero limit) (λ at n. K.Const n) (λ ts. refl) (λ at. [])
       (λ at. tt) (λ at. tt) (λ at. refl) (λ at n rest. kind-Const n l rest)
-  kind-on (tok.Symbol symbol.Dot) = node-at (dotted-form total limit) 0 refl (nat_lt-zero limit) (λ at. held_of) (λ ts. refl) (λ at. [])
-      (λ at. tt) (λ at. tt) (λ at. refl) (λ at p rest. held-written p.0 p.1.0 p.1.1 l rest)
+  kind-on (tok.Symbol symbol.Dot) = node-at (dotted-form total limit) 0 refl (nat_lt-zero limit) (λ at. field_part_of) (λ ts. refl) (λ at. [])
+      (λ at. tt) (λ at. tt) (λ at. refl) (λ at p rest. field_part-written p.0 p.1.0 p.1.1 l rest)
   kind-on (tok.Symbol symbol.Arrow) = arrow.on
   kind-on _ = none-at refl (λ ts. refl)
 
   -- a path of a field or more is held as it is written
-  held-again : (ns : List ℕ) (o : Option PathEnd) (rest : List Written) → IsRight total (at_kind l (held ns o) rest) → Clear path_bars (tokens_in rest)
-      → Again total limit (part_kind pointed) (held ns o) (at_kind l (held ns o) rest) rest
+  field_part-again : (ns : List ℕ) (o : Option PathEnd) (rest : List Written) → IsRight total (at_kind l (field_part ns o) rest) → Clear path_bars (tokens_in rest)
+      → Again total limit (part_kind pointed) (field_part ns o) (at_kind l (field_part ns o) rest) rest
   unfolding part_kind part_kind_from
-  held-again [] o rest i c = absurd (flawed-path total o l rest i)
-  held-again (n ∷ ns) o rest i c = node-again (dotted-form total limit) (tok.Symbol symbol.Dot) (λ at. held_of) (λ ts. refl) [] tt refl _ (n, (ns, o)) rest _
-      (held-written n ns o l rest) (λ at h. refl) i c
+  field_part-again [] o rest i c = absurd (flawed-path total o l rest i)
+  field_part-again (n ∷ ns) o rest i c = node-again (dotted-form total limit) (tok.Symbol symbol.Dot) (λ at. field_part_of) (λ ts. refl) [] tt refl _ (n, (ns, o)) rest _
+      (field_part-written n ns o l rest) (λ at h. refl) i c
 
   kind-again : (rest : List Written) → Clear path_bars (tokens_in rest) → (k : PartKind) → IsRight total (at_kind l k rest)
       → Again total limit (part_kind pointed) k (at_kind l k rest) rest
@@ -176,9 +176,9 @@ module _ (total limit l : ℕ) (pointed : Reader PartKind) (arrow : IsPointed to
   kind-again rest c = kind_by_form (λ k. IsRight total (at_kind l k rest) → Again total limit (part_kind pointed) k (at_kind l k rest) rest)
       (λ n i. node-again (number-part total limit).form (tok.Symbol symbol.Equals) (λ at n. K.Const n) (λ ts. refl) [] tt refl _ n rest _
       (kind-Const n l rest) (λ at h. refl) i (all-clear (tokens_in rest)))
-      (λ p i. held-again p None rest i c)
-      (λ p a b i. held-again p (Some (sliced a b)) rest i c)
-      (λ p j i. held-again p (Some (numbered j)) rest i c)
+      (λ p i. field_part-again p None rest i c)
+      (λ p a b i. field_part-again p (Some (sliced a b)) rest i c)
+      (λ p j i. field_part-again p (Some (numbered j)) rest i c)
       (λ align items i. arrow.again align items rest i)
 
   kind-part : IsPart total limit path_bars (open_at.part_kind l) (at_kind l) (part_kind pointed)

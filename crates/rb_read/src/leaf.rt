@@ -65,8 +65,8 @@ fn read_path_end(placed: &[Placed]) -> Result<(Option<PathEnd>, &[Placed]), Stop
 
 // What a part holds of the field at a path: all of it where nothing stands behind the path, some
 // bits, or one word.
-fn held(path: Seq<u32>, end: Option<PathEnd>) -> PartKind
-    ensures { result ≡ reading.held path (seen_end end) }
+fn field_part(path: Seq<u32>, end: Option<PathEnd>) -> PartKind
+    ensures { result ≡ reading.field_part path (seen_end end) }
 {
     match end {
         None => PartKind::Whole(path),
@@ -77,7 +77,7 @@ fn held(path: Seq<u32>, end: Option<PathEnd>) -> PartKind
 
 // What a part holds of a field, behind its path's first dot.
 #[tactic(auto, unfolding(crate::specs::inner::Reading::part_kind_from, crate::specs::inner::Combining::pair, crate::specs::inner::Combining::into))]
-fn read_held(alloc: Global, placed: &[Placed]) -> Result<(PartKind, &[Placed]), Stop>
+fn read_field_part(alloc: Global, placed: &[Placed]) -> Result<(PartKind, &[Placed]), Stop>
     ensures { Gives (λ x. (x.0, tokens x.1.now)) result
         (reading.part_kind_from reading.no_pointer (token.Symbol symbol.Dot) (tokens placed.now)) }
 {
@@ -85,7 +85,7 @@ fn read_held(alloc: Global, placed: &[Placed]) -> Result<(PartKind, &[Placed]), 
     let (others, rest) = read_more_fields(alloc, rest)?;
     let (end, rest) = read_path_end(rest)?;
     let path = joined(first, others)?;
-    let kind = held(path, end);
+    let kind = field_part(path, end);
     Ok((kind, rest))
 }
 
@@ -126,7 +126,7 @@ fn read_part_kind<'a>(
                 let (n, rest) = read_number(rest)?;
                 Ok((PartKind::Const(n), rest))
             }
-            Token::Symbol(Symbol::Dot) => read_held(alloc, rest),
+            Token::Symbol(Symbol::Dot) => read_field_part(alloc, rest),
             Token::Symbol(Symbol::Arrow) => read_pointed(alloc, levels, rest),
             _ => Err(Stop::Stuck(placed.len())),
         },

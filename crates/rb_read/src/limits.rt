@@ -105,7 +105,7 @@ fn type_of(item: &ItemTree) -> usize
 {
     match item {
         ItemTree::Types(_) => 1,
-        _ => 0,
+        ItemTree::Layouts(_) | ItemTree::Funs(_) | ItemTree::Derived(_, _) => 0,
     }
 }
 
@@ -117,7 +117,7 @@ fn function_of(item: &ItemTree) -> usize
 {
     match item {
         ItemTree::Funs(_) => 1,
-        _ => 0,
+        ItemTree::Types(_) | ItemTree::Layouts(_) | ItemTree::Derived(_, _) => 0,
     }
 }
 

@@ -37,6 +37,7 @@ pub fn form_of(word: Word) -> Form
         Word::To => Form::Conversion,
         Word::Let => Form::Binding,
         Word::Match => Form::Matching,
-        _ => Form::Other,
+        Word::Type | Word::Layout | Word::Fun | Word::In | Word::Word => Form::Other,
+        Word::Split | Word::Else | Word::Inline | Word::Boxed | Word::Packed => Form::Other,
     }
 }

@@ -27,7 +27,7 @@ abbrev pub Gives : {X R : Type 0} → (X → R) → Result X stops.Stop → Resu
 Gives seen (Ok x) r = r ≡ Ok (seen x)
 Gives seen (Err e) r = Fails e r
 
--- a part and the tokens behind it, or why reading stops
+-- what code answers: what it read, an A, and the tokens behind it, or why reading stops
 abbrev pub Answer : Type 0 → Type 0
 Answer A = Result (A × Bor (List Placed)) stops.Stop
 

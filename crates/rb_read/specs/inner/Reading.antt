@@ -326,14 +326,14 @@ path_end (t ∷ ts) = path_end_from t ts
 
 -- what a part holds of the field at a path: all of it where nothing stands behind the path, some bits by first bit
 -- and length, or the word with a number
-abbrev pub held : List ℕ → Option PathEnd → PartKind
-held fields None = kind.Whole fields
-held fields (Some (sliced first bits)) = kind.Slice fields first bits
-held fields (Some (numbered j)) = kind.Word fields j
+abbrev pub field_part : List ℕ → Option PathEnd → PartKind
+field_part fields None = kind.Whole fields
+field_part fields (Some (sliced first bits)) = kind.Slice fields first bits
+field_part fields (Some (numbered j)) = kind.Word fields j
 
 -- what a part holds of a field, made of its path's first field, the others, and what stands behind the path
-abbrev pub held_of : ℕ × (List ℕ × Option PathEnd) → PartKind
-held_of (first, (others, end)) = held (first ∷ others) end
+abbrev pub field_part_of : ℕ × (List ℕ × Option PathEnd) → PartKind
+field_part_of (first, (others, end)) = field_part (first ∷ others) end
 
 -- a part of a word made of its range of bits, by first bit and length, and what it holds
 abbrev pub part_of : (ℕ × ℕ) × PartKind → PartDecl
@@ -349,7 +349,7 @@ module _ (pointed : Reader PartKind) where
   unfoldable pub part_kind_from : Token → Reader PartKind
   part_kind_from (token.Symbol symbol.Equals) ts = into (λ n. kind.Const n) number ts
   part_kind_from (token.Symbol symbol.Dot) ts =
-      into held_of (pair field (pair more_fields (optional ends_path path_end))) ts
+      into field_part_of (pair field (pair more_fields (optional ends_path path_end))) ts
   part_kind_from (token.Symbol symbol.Arrow) ts = pointed ts
   part_kind_from _ ts = refused ts
 
