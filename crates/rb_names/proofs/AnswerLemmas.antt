@@ -7,8 +7,9 @@ use Rattle.std.proofs.lemmas.List.{append_assoc}
 use Rattle.rb_names.specs.Scopes.{Scope}
 use Rattle.rb_names.specs.Numbering.{Resolved, Numbered, Numbering, numbered_as, and_then, in_turn}
 use Rattle.rb_names.proofs.ListLemmas.{drop-here}
-use Rattle.rb_names.specs.Answers.{AnswersNumbering, AnswersFrom}
-use Rattle.rb_names.specs.Joining.{behind_in_turn}
+use Rattle.rb_names.specs.Answers.{AnswersNumbering}
+use Rattle.rb_names.specs.inner.Parts.{AnswersFrom}
+use Rattle.rb_names.specs.inner.Joining.{behind_in_turn}
 
 through : {A B : Type 0} (fault : NameFault) (here : Resolved A) (gives : Resolved B)
     → AnswersNumbering (Err fault) here → ((f : NameFault) → here ≡ Err f → gives ≡ Err f) → AnswersNumbering (Err fault) gives

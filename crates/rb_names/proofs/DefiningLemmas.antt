@@ -12,7 +12,7 @@ use Rattle.rb_names.specs.Tables.{Name, Table, meaning}
 use Rattle.rb_names.specs.Definitions.{Kind, OfType, OfConstructor, OfFunction, OfLayout, Definition, same_kind, first_again}
 use Rattle.rb_names.specs.Programs.{no_twice}
 use Rattle.rb_names.specs.Answers.{AnswersNumbering}
-use Rattle.rb_names.specs.Defining.{is_defined, Knows, AreKnown, AreAdded, IsAgain, made_again}
+use Rattle.rb_names.specs.inner.Defining.{is_defined, Knows, AreKnown, AreAdded, IsAgain, made_again}
 
 pub any-append : {A : Type 0} (p : A → Bool) (xs ys : List A) → list_any p (xs ++ ys) ≡ (list_any p xs || list_any p ys)
 any-append p [] ys = refl

@@ -14,7 +14,8 @@ use Rattle.rb_syntax.specs.declared.tree.ExprTree.TheFolds.{fold-roll-ExprTree, 
 use Rattle.rb_names.specs.declared.tables.Tables.{Tables}
 use Rattle.rb_names.specs.Scopes.{Scope}
 use Rattle.rb_names.proofs.PatternEquations.{names-Wild, names-Var, names-Num, names-Con, pattern-Wild, pattern-Var, pattern-Num, pattern-Con}
-use Rattle.rb_names.specs.Numbering.{Numbering, expr_step, clause_step, numbered_expression, numbered_clause}
+use Rattle.rb_names.specs.Numbering.{Numbering, expr_step, clause_step, numbered_expression}
+use Rattle.rb_names.specs.inner.Parts.{numbered_clause}
 
 module _ (t : Tables) where
   pub clause-is : (c : ClauseTree) → numbered_clause t c ≡ clause_step t (record { pat = c.pat; body = numbered_expression t c.body })

@@ -7,7 +7,8 @@ use Rattle.rb_core.specs.declared.types.Auto.{Auto}
 use Rattle.rb_syntax.specs.declared.tree.ItemTree.{ItemTree}
 use Rattle.rb_syntax.specs.declared.tree.FileTree.{FileTree}
 use Rattle.rb_names.specs.declared.tables.Tables.{Tables}
-use Rattle.rb_names.specs.Tables.{Name, Table, meaning, defined}
+use Rattle.rb_names.specs.Tables.{Name, Table, meaning}
+use Rattle.rb_names.specs.inner.Defining.{defined}
 use Rattle.rb_names.specs.Definitions.{defined_twice, tables_of, type_names}
 use Rattle.rb_names.specs.Numbering.{and_then}
 use Rattle.rb_names.specs.Programs.{no_twice}

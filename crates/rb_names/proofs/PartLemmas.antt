@@ -24,7 +24,8 @@ use Rattle.rb_names.specs.Scopes.{Scope, inside, binders_of, param_binders}
 use Rattle.rb_names.specs.inner.Frames.{scope_of}
 use Rattle.rb_syntax.specs.declared.tree.NameTree.{NameTree}
 use Rattle.rb_names.specs.Programs.{no_twice}
-use Rattle.rb_names.specs.Numbering.{Resolved, and_then, Numbered, Numbering, all_of, numbered_pattern, numbered_expression, numbered_clause, numbered_param, numbered_type, numbered_function, split_step, arm_step, numbered_split}
+use Rattle.rb_names.specs.Numbering.{Resolved, and_then, Numbered, Numbering, all_of, numbered_pattern, numbered_expression, numbered_param, numbered_type, numbered_function, split_step, arm_step, numbered_split}
+use Rattle.rb_names.specs.inner.Parts.{numbered_clause}
 use Rattle.rb_names.proofs.ExpressionEquations.{clause-is}
 
 module _ (t : Tables) where

@@ -3,7 +3,8 @@ use Rattle.std.proofs.Common.{◌≡◌, Bool, true, false, List, [], ◌∷◌,
 use Rattle.std.proofs.lemmas.List.{map-append}
 use Rattle.std.specs.Map.{lookup}
 use Rattle.std.specs.Str.{bytes_eq}
-use Rattle.rb_names.specs.Tables.{Name, Table, meaning, defined}
+use Rattle.rb_names.specs.Tables.{Name, Table, meaning}
+use Rattle.rb_names.specs.inner.Defining.{defined}
 
 -- a lookup by the names of the keys
 pub meaning-entries : {K A : Type 0} (name_of : K → Name) (q : Name) (test : K → Bool) → ((k : K) → test k ≡ bytes_eq q (name_of k))

@@ -38,7 +38,8 @@ use Rattle.rb_syntax.proofs.ExpressionInduction.{Each, EachBody, induction}
 use Rattle.rb_names.specs.declared.tables.Tables.{Tables}
 use Rattle.rb_names.specs.Tables.{Name, meaning}
 use Rattle.rb_names.specs.Scopes.{Scope, inside, with_name, with_names, names_in, binders_of}
-use Rattle.rb_names.specs.Numbering.{known, Numbered, Numbering, in_turn, numbered_type, numbered_pattern, numbered_expression, numbered_clause}
+use Rattle.rb_names.specs.Numbering.{known, Numbered, Numbering, in_turn, numbered_type, numbered_pattern, numbered_expression}
+use Rattle.rb_names.specs.inner.Parts.{numbered_clause}
 use Rattle.rb_names.proofs.ExpressionEquations as numbering
 use Rattle.rb_names.proofs.Rising.{Rise, rise-wider, rise-append, Right, place}
 use Rattle.rb_names.proofs.Inverting.{then-ok, known-ok, ok-is}

@@ -32,7 +32,8 @@ use Rattle.rb_syntax.specs.Spelling.{comma, prov_written, loc_step_written, loc_
 use Rattle.rb_syntax.proofs.SpellingLemmas.{arm-is, split-Leaf, split-None, split-Some}
 use Rattle.rb_names.specs.declared.tables.Tables.{Tables}
 use Rattle.rb_names.specs.Tables.{Name, meaning}
-use Rattle.rb_names.specs.Numbering.{Resolved, and_then, all_of, known, numbered_pattern, numbered_else, split_step, arm_step, numbered_split, numbered_arm, numbered_layout}
+use Rattle.rb_names.specs.Numbering.{Resolved, and_then, all_of, known, numbered_pattern, numbered_else, split_step, arm_step, numbered_split, numbered_layout}
+use Rattle.rb_names.specs.inner.Parts.{numbered_arm}
 use Rattle.rb_names.proofs.Rising.{Right}
 use Rattle.rb_names.proofs.Inverting.{then-ok, known-ok, ok-is}
 use Rattle.rb_core.proofs.LayoutInduction as lay-items

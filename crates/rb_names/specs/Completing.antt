@@ -16,7 +16,7 @@ use Rattle.rb_names.specs.declared.complete.Completed.{Completed}
 use Rattle.rb_names.specs.Tables.{Table, meaning}
 use Rattle.rb_names.specs.Definitions.{tables_of, type_names}
 
--- the types whose layouts are left to the compiler, each with the layout that is asked for, in the file's order
+-- the types whose layouts are left to the compiler, each with the kind that is asked for, in the file's order
 abbrev pub left_in : List ItemTree → Table Auto
 left_in [] = []
 left_in (top.Types t ∷ items) = left_in items

@@ -1,8 +1,6 @@
 pub mod Answers
 pub mod Completing
-pub mod Defining
 pub mod Definitions
-pub mod Joining
 pub mod Numbering
 pub mod Programs
 pub mod Scopes

@@ -30,17 +30,17 @@ use Rattle.rb_syntax.specs.declared.tree.PatTree.TheFolds.{fold-PatTree}
 use Rattle.rb_syntax.specs.declared.tree.PatTree.TheOpen as pat
 use Rattle.rb_syntax.specs.declared.tree.PatTree.TheOpen.{PatTree-F}
 use Rattle.rb_syntax.specs.declared.tree.ExprTree.{ExprTree}
-use Rattle.rb_syntax.specs.declared.tree.ExprTree.TheFolds.{fold-ExprTree, fold-ClauseTree}
+use Rattle.rb_syntax.specs.declared.tree.ExprTree.TheFolds.{fold-ExprTree}
 use Rattle.rb_syntax.specs.declared.tree.ExprTree.TheOpen as expr
 use Rattle.rb_syntax.specs.declared.tree.ExprTree.TheOpen.{ExprTree-F}
-use Rattle.rb_syntax.specs.declared.tree.ClauseTree.{ClauseTree, ClauseTree-F}
+use Rattle.rb_syntax.specs.declared.tree.ClauseTree.{ClauseTree-F}
 use Rattle.rb_syntax.specs.declared.tree.ParamTree.{ParamTree}
 use Rattle.rb_syntax.specs.declared.tree.FunTree.{FunTree}
 use Rattle.rb_syntax.specs.declared.tree.SplitTree.{SplitTree}
-use Rattle.rb_syntax.specs.declared.tree.SplitTree.TheFolds.{fold-SplitTree, fold-ArmTree}
+use Rattle.rb_syntax.specs.declared.tree.SplitTree.TheFolds.{fold-SplitTree}
 use Rattle.rb_syntax.specs.declared.tree.SplitTree.TheOpen as split
 use Rattle.rb_syntax.specs.declared.tree.SplitTree.TheOpen.{SplitTree-F}
-use Rattle.rb_syntax.specs.declared.tree.ArmTree.{ArmTree, ArmTree-F}
+use Rattle.rb_syntax.specs.declared.tree.ArmTree.{ArmTree-F}
 use Rattle.rb_syntax.specs.declared.tree.LayoutTree.{LayoutTree}
 use Rattle.rb_names.specs.declared.fault.NameFault.{NameFault}
 use Rattle.rb_names.specs.declared.fault.NameFault.TheVariants.{Unknown}
@@ -153,10 +153,6 @@ expr_step t (expr.Match at e cs) scope next =
 abbrev pub numbered_expression : Tables → ExprTree → Numbering Expr
 numbered_expression t = fold-ExprTree (Numbering Expr) (Numbering Clause) (expr_step t) (clause_step t)
 
--- how a clause of a `match` is numbered, its pattern and then its body
-abbrev pub numbered_clause : Tables → ClauseTree → Numbering Clause
-numbered_clause t = fold-ClauseTree (Numbering Expr) (Numbering Clause) (expr_step t) (clause_step t)
-
 -- Functions and layouts ---------------------------------------------------------------------
 
 -- a parameter, with its type numbered and its variable's number from the scope of all parameters
@@ -192,10 +188,6 @@ arm_step a = and_then a.under (λ u. Ok (record { literal = a.literal; under = u
 -- a layout's tree of splits, with its leaves' provenances numbered
 abbrev pub numbered_split : Tables → SplitTree → Resolved LayTree
 numbered_split t = fold-SplitTree (Resolved LayTree) (Resolved Arm) (split_step t) arm_step
-
--- an arm of a split in a layout, with the provenances in the tree below it numbered
-abbrev pub numbered_arm : Tables → ArmTree → Resolved Arm
-numbered_arm t = fold-ArmTree (Resolved LayTree) (Resolved Arm) (split_step t) arm_step
 
 -- a written layout, with its type's number and its tree numbered
 abbrev pub numbered_layout : Tables → LayoutTree → Resolved LayoutDecl

@@ -6,7 +6,7 @@ ghost use Rattle.std.specs.Prelude.{◌≡◌, ◌∷◌, List, Err, OnOk, IfErr
 ghost use Rattle.rb_syntax.specs.declared.tree.ItemTree.{ItemTree as Tree};
 ghost use Rattle.rb_names.specs.declared.items.Items.{Items as Parts};
 ghost use Rattle.rb_names.specs.Answers.{AnswersNumbering};
-ghost use Rattle.rb_names.specs.Joining.{behind_items};
+ghost use Rattle.rb_names.specs.inner.Joining.{behind_items};
 ghost use Rattle.rb_names.specs.Programs.{numbered_items};
 
 use crate::fault::{NameFault, known};

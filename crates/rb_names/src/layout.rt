@@ -5,7 +5,8 @@
 
 ghost use Rattle.std.specs.Prelude.{[], map};
 ghost use Rattle.rb_names.specs.Answers.{AnswersNumbering};
-ghost use Rattle.rb_names.specs.Numbering.{all_of, numbered_arm, numbered_layout, numbered_split};
+ghost use Rattle.rb_names.specs.Numbering.{all_of, numbered_layout, numbered_split};
+ghost use Rattle.rb_names.specs.inner.Parts.{numbered_arm};
 
 use crate::fault::{NameFault, known};
 use crate::pattern::number_pattern;

@@ -1,7 +1,8 @@
 //! Tables of names. A table says what names stand for; a name is the bytes of its text.
 
 ghost use Rattle.std.specs.Prelude.{◌≡◌, [], ◌∷◌, is_some, length, not, reverse, IfOk, OnOk};
-ghost use Rattle.rb_names.specs.Tables.{meaning, defined};
+ghost use Rattle.rb_names.specs.Tables.{meaning};
+ghost use Rattle.rb_names.specs.inner.Defining.{defined};
 
 use indexmap::IndexMap;
 use std::alloc::{AllocError, Global};

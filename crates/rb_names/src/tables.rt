@@ -10,7 +10,7 @@ ghost use Rattle.rb_syntax.specs.declared.tree.ItemTree.{ItemTree as Tree};
 ghost use Rattle.rb_syntax.specs.declared.tree.ItemTree.TheVariants.{Types};
 ghost use Rattle.rb_names.specs.declared.fault.NameFault.TheVariants.{Memory};
 ghost use Rattle.rb_names.specs.Answers.{AnswersNumbering};
-ghost use Rattle.rb_names.specs.Defining.{AreAdded, AreKnown, HasNames, IsAgain, made_again, with_rest};
+ghost use Rattle.rb_names.specs.inner.Defining.{AreAdded, AreKnown, HasNames, IsAgain, made_again, with_rest};
 ghost use Rattle.rb_names.specs.Definitions as spec;
 ghost use Rattle.rb_names.specs.Definitions.{Definition, OfFunction, constructor_definition, constructors_from, defined_twice, definitions, layout_definition, tables_of};
 ghost use Rattle.rb_names.specs.Numbering.{and_then};

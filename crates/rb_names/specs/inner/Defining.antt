@@ -2,7 +2,7 @@
 -- of the file defines, with its kind, which says in which table: that of types, of constructors, of functions, or of
 -- types that have a layout. `before` are the definitions that were gone through, `more` those that come next, and
 -- `known` the tables so far.
-use Rattle.std.specs.Prelude.{◌≡◌, Bool, List, ◌++◌, ◌&&◌, length, is_some, Err, if◌then◌else◌, Option, Some, None}
+use Rattle.std.specs.Prelude.{◌≡◌, Bool, List, [], ◌∷◌, ◌++◌, ◌&&◌, length, is_some, Err, if◌then◌else◌, Option, Some, None}
 use Rattle.std.specs.List.{list_any}
 use Rattle.std.specs.Str.{bytes_eq}
 use Rattle.rb_syntax.specs.declared.tree.NameTree.{NameTree}
@@ -14,6 +14,12 @@ use Rattle.rb_names.specs.Tables.{Name, Table, meaning}
 use Rattle.rb_names.specs.Definitions.{Kind, OfType, OfConstructor, OfFunction, OfLayout, Definition, same_kind, first_again, numbered_from, constructors_of, type_names, types_in, function_names}
 use Rattle.rb_names.specs.Answers.{AnswersNumbering}
 use Rattle.rb_names.specs.Programs.{no_twice}
+
+-- a table after name is defined as x, given what name stood for before: it stays where that was something, and else
+-- has a new entry at its end
+abbrev pub defined : {A : Type 0} → Table A → Name → A → Option A → Table A
+defined table name x (Some before) = table
+defined table name x None = table ++ (name, x) ∷ []
 
 -- whether this name is among these definitions as one of kind k, that is, in the table of that kind
 abbrev pub is_defined : Kind → Name → List Definition → Bool

@@ -1,5 +1,5 @@
 use Rattle.std.proofs.Common.{sym, ap, ◌∙◌}
-use Rattle.rb_names.specs.Numbering.{numbered_clause}
+use Rattle.rb_names.specs.inner.Parts.{numbered_clause}
 use Rattle.rb_names.specs.inner.Frames.{scope_of}
 use Rattle.rb_names.proofs.AnswerLemmas.{turn-next}
 use Rattle.rb_names.proofs.PartLemmas.{clause-found}

@@ -2,8 +2,9 @@ use Rattle.std.proofs.Common.{◌≡◌, ◌+◌, ◌*◌, map, drop}
 use denote.Param.Weighed.{most}
 use Rattle.rb_syntax.specs.declared.tree.ExprTree.{size-ExprTree}
 use Rattle.rb_syntax.specs.declared.tree.ClauseTree.{size-ClauseTree}
-use Rattle.rb_names.specs.Numbering.{in_turn, numbered_clause, numbered_expression}
-use Rattle.rb_names.specs.Joining.{behind_in_turn}
+use Rattle.rb_names.specs.Numbering.{in_turn, numbered_expression}
+use Rattle.rb_names.specs.inner.Parts.{numbered_clause}
+use Rattle.rb_names.specs.inner.Joining.{behind_in_turn}
 use Rattle.rb_names.specs.inner.Frames.{scope_of}
 use Rattle.rb_names.proofs.expression.+expression.Given as goal
 

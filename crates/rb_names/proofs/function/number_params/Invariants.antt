@@ -1,6 +1,6 @@
 use Rattle.std.proofs.Common.{◌≡◌, map, drop}
 use Rattle.rb_names.specs.Numbering.{all_of, numbered_param}
-use Rattle.rb_names.specs.Joining.{behind}
+use Rattle.rb_names.specs.inner.Joining.{behind}
 use Rattle.rb_names.specs.inner.Frames.{scope_of}
 use Rattle.rb_names.proofs.function.number_params.Given as goal
 

@@ -1,5 +1,5 @@
 use Rattle.std.proofs.Common.{◌≡◌, drop}
-use Rattle.rb_names.specs.Joining.{behind_items}
+use Rattle.rb_names.specs.inner.Joining.{behind_items}
 use Rattle.rb_names.specs.Programs.{numbered_items}
 use Rattle.rb_names.proofs.items.number_items.Given as goal
 

@@ -1,6 +1,7 @@
 use Rattle.std.proofs.Common.{◌≡◌, map, drop}
-use Rattle.rb_names.specs.Numbering.{all_of, numbered_arm}
-use Rattle.rb_names.specs.Joining.{behind}
+use Rattle.rb_names.specs.Numbering.{all_of}
+use Rattle.rb_names.specs.inner.Parts.{numbered_arm}
+use Rattle.rb_names.specs.inner.Joining.{behind}
 use Rattle.rb_names.proofs.layout.+splitting.Given as goal
 
 abbrev pub invariant-number_arms-loop-tree : goal.invariant-number_arms-loop-tree

@@ -1,6 +1,6 @@
 use Rattle.std.proofs.Common.{◌≡◌, ◌++◌, List, map, drop}
 use Rattle.rb_names.specs.Definitions.{Definition, constructor_definition, constructors_from}
-use Rattle.rb_names.specs.Defining.{AreKnown}
+use Rattle.rb_names.specs.inner.Defining.{AreKnown}
 use Rattle.rb_names.proofs.TablesLemmas.{Passed}
 use Rattle.rb_names.proofs.tables.define_constructors.Given as goal
 

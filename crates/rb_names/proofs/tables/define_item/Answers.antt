@@ -1,6 +1,6 @@
 use Rattle.std.proofs.Common.{sym, ap, subst}
 use Rattle.rb_names.specs.Definitions.{definitions}
-use Rattle.rb_names.specs.Defining.{AreAdded, IsAgain}
+use Rattle.rb_names.specs.inner.Defining.{AreAdded, IsAgain}
 use Rattle.rb_names.proofs.AnswerLemmas.{err-kept}
 use Rattle.rb_names.proofs.tables.define_item.Goals as goal
 

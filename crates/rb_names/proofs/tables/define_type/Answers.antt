@@ -2,7 +2,7 @@ use Rattle.std.proofs.Common.{◌∷◌, [], ◌++◌, List, map, refl, ap, ◌�
 use Rattle.rb_syntax.specs.declared.tree.ConTree.{ConTree}
 use Rattle.rb_names.specs.declared.tables.Defining.{Defining}
 use Rattle.rb_names.specs.Definitions.{OfType, constructor_definition, constructors_from}
-use Rattle.rb_names.specs.Defining.{AreAdded, IsAgain}
+use Rattle.rb_names.specs.inner.Defining.{AreAdded, IsAgain}
 use Rattle.rb_names.proofs.DefiningLemmas.{type-added}
 use Rattle.rb_names.proofs.TablesLemmas.{type-rest, added-both, handed, later-again}
 use Rattle.rb_names.proofs.AnswerLemmas.{err-kept}

@@ -1,6 +1,6 @@
 use Rattle.std.proofs.Common.{◌≡◌, map, drop}
 use Rattle.rb_names.specs.Numbering.{all_of, numbered_type}
-use Rattle.rb_names.specs.Joining.{behind}
+use Rattle.rb_names.specs.inner.Joining.{behind}
 use Rattle.rb_names.proofs.types.number_fields.Given as goal
 
 abbrev pub invariant-loop-tree : goal.invariant-loop-tree

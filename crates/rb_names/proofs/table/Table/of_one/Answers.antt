@@ -1,5 +1,6 @@
 use Rattle.std.proofs.Common.{ap, ◌∙◌}
-use Rattle.rb_names.specs.Tables.{meaning, defined}
+use Rattle.rb_names.specs.Tables.{meaning}
+use Rattle.rb_names.specs.inner.Defining.{defined}
 use Rattle.rb_names.proofs.table.Table.of_one.Goals as goal
 
 pub returns : goal.returns
