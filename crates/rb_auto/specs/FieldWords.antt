@@ -1,6 +1,6 @@
 -- The words of a constructor's fields, in order. A field has words by its type: an integer is one, a data type has
--- those of its written layout or else one, as wide as `rooms` says. Fields, and the words of a field, have numbers
--- from 0. A part is some bits of a word of a leaf.
+-- those of its written layout or else one, as wide as `rooms` says. Fields have numbers from 0, and so have the words
+-- of a field that has several; an only word has none. A part is some bits of a word of a leaf.
 use Rattle.std.specs.Prelude.{ℕ, ◌+◌, List, [], ◌∷◌, ◌++◌, Option, Some, None}
 use Rattle.rb_core.specs.declared.types.Ty.{Ty}
 use Rattle.rb_core.specs.declared.program.Program.{Program}

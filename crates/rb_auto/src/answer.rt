@@ -64,7 +64,7 @@ fn packed(
 /// # Errors
 ///
 /// `PackedRecursive` exactly where the type is to be packed and reaches itself through fields, and
-/// `PackedWide` exactly where it doesn't and needs over 64 bits. `Memory` where memory is wanting, or
+/// `PackedWide` exactly where it doesn't and needs over 64 bits. `Memory` for want of memory, or where
 /// no layout is to be derived for the type.
 pub fn derive_by(
     alloc: Global,
@@ -92,7 +92,7 @@ pub fn derive_by(
 /// # Errors
 ///
 /// `PackedRecursive` exactly where the type is to be packed and reaches itself through fields, and
-/// `PackedWide` exactly where it doesn't and needs over 64 bits. `Memory` where memory is wanting.
+/// `PackedWide` exactly where it doesn't and needs over 64 bits. `Memory` for want of memory.
 pub fn derive(
     alloc: Global,
     program: &Program,

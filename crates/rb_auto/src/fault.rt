@@ -14,7 +14,7 @@ pub enum AutoFault {
     /// The type with this number is to be packed, and needs so many bits, over 64.
     #[error("a packed type needs over 64 bits")]
     PackedWide(u32, u64),
-    /// Memory was wanting.
+    /// Want of memory.
     #[error("no memory")]
     Memory,
 }

@@ -1,7 +1,8 @@
 //! The word of a leaf with its parts. A leaf is what the values of a constructor look like, here
 //! one word. A part is some bits of a word, `l` from bit `o` on, with what they hold; a block is
 //! words in memory to which a pointer leads. `words` are those of the constructor's fields, and
-//! `con` is its number, which stands in the tag. An `Err` is want of memory.
+//! `con` is its number, which stands in the tag. An `Err` is want of memory, or that the parts of a
+//! word would end past what a `u64` counts.
 
 ghost use Rattle.std.specs.Prelude.{◌≡◌, ◌∷◌, ◌++◌, [], IfOk, map, length, OnOk};
 ghost use Rattle.rb_auto.specs.Items.{block_items, boxed_parts, field_item, form_parts, form_tag, form_width, groups, group_item, leaf_items, packed_parts, part, parts_from, pointer_parts, tag_parts, whole_word};
