@@ -19,7 +19,8 @@ use Rattle.rb_layout.specs.Pointers.{PointsTo}
 use Rattle.rb_layout.specs.A9.{FailsNoPointer, FlattensNoPointer, HasPointerPart, cons_below, cons_below_root, cons_of, cons_step}
 use Rattle.rb_agree.specs.inner.Lists.{EachOf, SomeOf, FindsIn}
 use Rattle.rb_layout.specs.Graphs.{mark_in, mark_of}
-use Rattle.rb_agree.specs.Pointing.{AreMarks, IsMarked, IsUnmarked, LeafPoints, LeavesPoint, WordsPoint}
+use Rattle.rb_agree.specs.Pointing.{AreMarks, LeafPoints, LeavesPoint, WordsPoint}
+use Rattle.rb_agree.specs.inner.Marks.{IsMarked, IsUnmarked}
 use Rattle.rb_agree.proofs.Lists.{finds-first, finds-rest}
 
 -- Searches for some -----------------------------------------------------------------------------------

@@ -13,9 +13,9 @@ use Rattle.rb_layout.specs.Flattening.{IsOpenIn, type_at}
 use Rattle.rb_layout.specs.Items.{Content, Number, Whole, Slice, WordOf, Address, WrittenPart}
 use Rattle.rb_layout.specs.A3.{Fits, FitsSlice, FitsWhole, FitsWord, IsPlaced, PartAt, PartsFit}
 use Rattle.rb_agree.specs.declared.items.Written.{Written}
-use Rattle.rb_agree.specs.Written.{shown_part, shown_parts}
+use Rattle.rb_agree.specs.Written.{shown_part}
 use Rattle.rb_agree.specs.inner.Lists.{EachOf}
-use Rattle.rb_agree.specs.inner.Parts.{PartsAreApart, AreFine, FailsApart, FailsSome, FailsWord, IsPartFine, IsSet}
+use Rattle.rb_agree.specs.inner.Parts.{PartsAreApart, AreFine, FailsApart, FailsSome, FailsWord, IsPartFine, IsSet, shown_parts}
 use Rattle.rb_agree.proofs.Lists.{each-map, map-at}
 
 -- of what isn't placed nothing is demanded

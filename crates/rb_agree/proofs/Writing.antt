@@ -12,7 +12,8 @@ use Rattle.rb_layout.specs.Items.{Content, Number, Whole, Slice, WordOf, Address
 use Rattle.rb_layout.proofs.WrittenForms as W
 use Rattle.rb_agree.specs.declared.items.Written.{Written}
 use Rattle.rb_agree.specs.declared.items.Item as D
-use Rattle.rb_agree.specs.Written.{content_of, inside_of, kind_around, part_around, shown_item, shown_items, shown_part, written_part}
+use Rattle.rb_agree.specs.Written.{shown_item, shown_items, shown_part}
+use Rattle.rb_agree.specs.inner.Around.{content_of, inside_of, kind_around, part_around, written_part}
 
 parts-it : (parts : List PartDecl) → map (λ (p : Around WrittenPart). p.it) (map part_around parts) ≡ map written_part parts
 parts-it [] = refl

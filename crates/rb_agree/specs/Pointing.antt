@@ -1,14 +1,12 @@
 -- Which layouts have a pointer part in a leaf. A part is some bits of a word of the leaf; the words are root words or
 -- those of its blocks. A mark is a truth value, on where true, that a list has for each type, by its number.
-use Rattle.std.specs.Prelude.{◌≡◌, ℕ, ◌⊎◌, List, length, Bool, true, false, Some, MatchBool, slice_get}
-use Rattle.rb_core.specs.declared.types.ConRef.{ConRef}
+use Rattle.std.specs.Prelude.{◌≡◌, ℕ, ◌⊎◌, List, length, Bool, Some, MatchBool, slice_get}
 use Rattle.rb_layout.specs.declared.layout.Layout.{Layout}
 use Rattle.rb_layout.specs.declared.layout.Leaf.{Leaf}
 use Rattle.rb_layout.specs.declared.layout.Block.{Block}
 use Rattle.rb_layout.specs.declared.layout.FlatWord.{FlatWord}
 use Rattle.rb_layout.specs.declared.layout.Part.{Part}
 use Rattle.rb_layout.specs.declared.layout.Kind.TheVariants.{Pointer}
-use Rattle.rb_layout.specs.Graphs.{mark_of}
 use Rattle.rb_agree.specs.inner.Lists.{SomeOf}
 
 -- a part is a pointer
@@ -40,11 +38,3 @@ pub record AreMarks (layouts : List Layout) (marks : List Bool) : Type 0 where
   pub count : length marks ≡ length layouts
   pub each : (t : ℕ) (layout : Layout) (mark : Bool) → slice_get layouts t ≡ Some layout → slice_get marks t ≡ Some mark
       → MatchBool mark (LeavesPoint layout.leaves) (LeavesPoint layout.leaves → ⊥)
-
--- the mark of a constructor's type is off or missing
-abbrev pub IsUnmarked : List Bool → ConRef → Type 0
-IsUnmarked marks c = mark_of marks c.ty ≡ false
-
--- the type of a constructor is t, and its mark is on
-abbrev pub IsMarked : List Bool → ConRef → ℕ → Type 0
-IsMarked marks c t = (c.ty ≡ t) × (mark_of marks c.ty ≡ true)

@@ -14,3 +14,6 @@ pub mod Order
 pub mod Rules
 pub mod Passing
 pub mod Sharing
+pub mod Around
+pub mod Marks
+pub mod Rows

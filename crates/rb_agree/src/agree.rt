@@ -1,8 +1,9 @@
 //! Whether the layouts of a program agree with its types. They do where they obey ten rules: A1,
 //! that on shapes, comes first, and the others look at the flat forms of the layouts, `layouts`,
-//! one for each type. A place is a type, a leaf or an item at which a rule is checked. A refusal
-//! names the rule, the type, the leaf if the place has one, and how the rule fails. An `Err` of a
-//! private call is want of memory.
+//! one for each type. A leaf is one of the forms in which a layout stores the values of its type. A
+//! place is a type, a leaf or an item at which a rule is checked. A refusal names the rule, the
+//! type, the leaf if the place has one, and how the rule fails. An `Err` of a private call is want
+//! of memory.
 
 ghost use Rattle.std.specs.Prelude.{◌≡◌, ◌++◌, length, IfErr, IfOk};
 ghost use Rattle.rb_core.specs.TypedPrograms.{IsTyped};
@@ -14,7 +15,7 @@ ghost use Rattle.rb_agree.specs.inner.Lists.{EachOf};
 ghost use Rattle.rb_agree.specs.inner.Rules.{IsKnown, RuleIsReady, early_rules, late_rules, rules_spots};
 
 use crate::fault::AgreeFault;
-use crate::graphs::{flattened, held};
+use crate::graphs::{flattening_graph, holding_graph};
 use crate::leaves::all_leaves;
 use crate::order::has_no_cycle;
 use crate::pointers::pointing;
@@ -37,8 +38,8 @@ fn related(alloc: Global, program: &Program, layouts: &[Layout]) -> Result<Relat
 {
     let written = all_leaves(alloc, program.layouts.as_slice(), layouts.len())?;
     let marks = pointing(alloc, layouts)?;
-    let flattened = flattened(alloc, layouts)?;
-    let held = held(alloc, program.types.as_slice(), layouts)?;
+    let flattened = flattening_graph(alloc, layouts)?;
+    let held = holding_graph(alloc, program.types.as_slice(), layouts)?;
     let flattens_in_order = has_no_cycle(alloc, flattened.as_slice())?;
     let holds_in_order = has_no_cycle(alloc, held.as_slice())?;
     Ok(Related {
@@ -73,7 +74,8 @@ fn early_fault(
 }
 
 // The refusal by the first place that fails a rule from that on tests on; None where they hold at
-// all places. All leaves have to be readable, as they are where the rules before these hold.
+// all places. All leaves have to be readable, that is, to have at most 64 words outside of blocks
+// and in each block, each of at most 64 bits, as they have where the rules before these hold.
 fn late_fault(
     alloc: Global,
     program: &Program,
@@ -114,7 +116,7 @@ fn layouts_fault(
 /// # Errors
 ///
 /// `Rule` where a rule fails: the first place that fails, by rule, type, leaf and item, and why. `Memory`
-/// where memory is wanting, which says nothing of the layouts.
+/// for want of memory, which says nothing of the layouts.
 pub fn agree(alloc: Global, covered: &Covered) -> Result<Seq<Layout>, AgreeFault>
     ensures agreed { IfOk result (AreAgreed covered.now.program) }
     ensures refused { IfErr result (IsAgreeFault covered.now.program) }

@@ -9,7 +9,8 @@ ghost use Rattle.std.specs.List.{flat_map};
 ghost use Rattle.rb_layout.specs.Cycles.{HasNoCycle};
 ghost use Rattle.rb_layout.specs.A9.{FailsFlattening, Flattens};
 ghost use Rattle.rb_layout.specs.A10.{FailsHolding, HoldsField};
-ghost use Rattle.rb_agree.specs.Graphs.{IsGraphOf, below_types, leaf_holds, leaf_types, part_holds, pattern_types, word_holds};
+ghost use Rattle.rb_agree.specs.Graphs.{IsGraphOf};
+ghost use Rattle.rb_agree.specs.inner.Rows.{below_types, leaf_holds, leaf_types, part_holds, pattern_types, word_holds};
 
 use crate::cycles::cycle_from;
 use rb_core::pattern::Pat;
@@ -76,7 +77,7 @@ fn flat_row(alloc: Global, leaves: &[Leaf]) -> Result<Seq<u32>, AllocError>
 /// # Errors
 ///
 /// Want of memory.
-pub fn flattened(alloc: Global, layouts: &[Layout]) -> Result<Seq<Seq<u32>>, AllocError>
+pub fn flattening_graph(alloc: Global, layouts: &[Layout]) -> Result<Seq<Seq<u32>>, AllocError>
     ensures { IfOk result (IsGraphOf (Flattens layouts.now)) }
 {
     let mut graph = Seq::new(alloc);
@@ -157,7 +158,7 @@ fn held_row(alloc: Global, types: &[DataDecl], leaves: &[Leaf]) -> Result<Seq<u3
 /// # Errors
 ///
 /// Want of memory.
-pub fn held(
+pub fn holding_graph(
     alloc: Global,
     types: &[DataDecl],
     layouts: &[Layout],
@@ -172,7 +173,7 @@ pub fn held(
 }
 
 /// How types flatten each other in a cycle through type `ty`, listed from it on; None where they do
-/// not. `graph` is what `flattened` gives.
+/// not. `graph` is what [`flattening_graph`] gives.
 ///
 /// # Errors
 ///
@@ -194,7 +195,7 @@ pub fn flattening_fault(
 }
 
 /// How types hold each other in root words in a cycle through type `ty`, listed from it on; None
-/// where they do not. `graph` is what `held` gives.
+/// where they do not. `graph` is what [`holding_graph`] gives.
 ///
 /// # Errors
 ///

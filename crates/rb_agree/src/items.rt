@@ -6,7 +6,8 @@
 ghost use Rattle.std.specs.Prelude.{◌≡◌, ◌++◌, map, IfOk, OnOk};
 ghost use Rattle.std.specs.List.{flat_map};
 ghost use Rattle.rb_layout.specs.Items.{item_list, item_lists};
-ghost use Rattle.rb_agree.specs.Written.{content_of, inside_of, shown_content, shown_items, shown_part, written_part};
+ghost use Rattle.rb_agree.specs.Written.{shown_content, shown_items, shown_part};
+ghost use Rattle.rb_agree.specs.inner.Around.{content_of, inside_of, written_part};
 
 use rb_core::layout_decl::{LayItem, PartDecl, PartKind};
 use rb_core::seq::Seq;

@@ -32,9 +32,9 @@
 //! | A6 fields held once | `held::held_fault` | a leaf |
 //! | A7 tests | `tests::tests_fault` | a leaf |
 //! | A8 splits | `splits::splits_fault` | a type |
-//! | A9 no cycle | `graphs::flattening_fault`, over `graphs::flattened` | a type |
+//! | A9 no cycle | `graphs::flattening_fault`, over `graphs::flattening_graph` | a type |
 //! | A9 no pointer | `pointers::pointer_fault`, over `pointers::pointing` | a leaf |
-//! | A10 no cycle | `graphs::holding_fault`, over `graphs::held` | a type |
+//! | A10 no cycle | `graphs::holding_fault`, over `graphs::holding_graph` | a type |
 //!
 //! Missing values and common ones are found by the search in matrices of patterns; two provenances that
 //! have different numbers or constructors in one place are told apart before it is asked (`are_apart` of

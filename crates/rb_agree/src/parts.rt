@@ -14,8 +14,8 @@ ghost use Rattle.rb_layout.specs.Positions.{open_positions};
 ghost use Rattle.rb_layout.specs.A3.{FailsItem, Fits, FitsSlice, FitsWhole, FitsWord, IsPlaced, ItemFits, LiesIn, PartsFit};
 ghost use Rattle.rb_layout.specs.declared.evidence.Why.TheVariants as Whys;
 ghost use Rattle.rb_bits.specs.Words.{AreDisjoint};
-ghost use Rattle.rb_agree.specs.inner.Parts.{PartsAreApart, AreFine, FailsApart, FailsBefore, FailsFit, FailsPair, FailsPart, FailsSome, FailsWord, HaveBits, IsApartBefore, IsPartFine};
-ghost use Rattle.rb_agree.specs.Written.{shown_content, shown_item, shown_part, shown_parts};
+ghost use Rattle.rb_agree.specs.inner.Parts.{PartsAreApart, AreFine, FailsApart, FailsBefore, FailsFit, FailsPair, FailsPart, FailsSome, FailsWord, HaveBits, IsApartBefore, IsPartFine, shown_parts};
+ghost use Rattle.rb_agree.specs.Written.{shown_content, shown_item, shown_part};
 
 use crate::items::{Content, Item, Written};
 use crate::numbers::fits;

@@ -8,7 +8,8 @@ ghost use Rattle.std.specs.List.{flat_map};
 ghost use Rattle.rb_layout.specs.A9.{FailsNoPointer, FlattensNoPointer, cons_below, cons_of};
 ghost use Rattle.rb_agree.specs.inner.Lists.{FindsIn};
 ghost use Rattle.rb_layout.specs.Graphs.{mark_of};
-ghost use Rattle.rb_agree.specs.Pointing.{AreMarks, IsMarked, IsUnmarked, PartPoints, LeafPoints, PartsPoint, WordsPoint, BlocksPoint, LeavesPoint};
+ghost use Rattle.rb_agree.specs.Pointing.{AreMarks, PartPoints, LeafPoints, PartsPoint, WordsPoint, BlocksPoint, LeavesPoint};
+ghost use Rattle.rb_agree.specs.inner.Marks.{IsMarked, IsUnmarked};
 
 use rb_core::pattern::Pat;
 use rb_core::seq::Seq;

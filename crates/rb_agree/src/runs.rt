@@ -20,7 +20,7 @@ ghost use Rattle.rb_agree.specs.inner.Gathered.{AreGathered, AreNone, Gathers, b
 ghost use Rattle.rb_agree.specs.inner.Held.{part_runs};
 ghost use Rattle.rb_agree.specs.inner.Search.{AreOrdered};
 
-use crate::search::place_of;
+use crate::search::position_number;
 use rb_core::seq::Seq;
 use rb_core::types::Ty;
 use rb_layout::layout::{Block, FlatWord, Kind, Leaf, Part};
@@ -69,7 +69,7 @@ fn add_at(
     requires rows { length rows.old ≡ length places.now }
     ensures { OnOk result (Gathers places.now (run_there path.now words run) rows.old rows.new) }
 {
-    let Some(n) = place_of(places, path) else {
+    let Some(n) = position_number(places, path) else {
         return Ok(());
     };
     if words == has_words(places[n].ty) {

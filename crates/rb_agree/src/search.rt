@@ -61,7 +61,7 @@ fn side_of(one: &[u32], other: &[u32]) -> Side
 }
 
 /// The number of the open position at a path, found by halves; None where no position is there.
-pub(crate) fn place_of(places: &[OpenPosition], path: &[u32]) -> Option<usize>
+pub(crate) fn position_number(places: &[OpenPosition], path: &[u32]) -> Option<usize>
     requires { AreOrdered places.now }
     ensures place { MatchOption result (HasNone places.now path.now) (IsNumberOf places.now path.now) }
     ensures within { MatchOption result (Unit {0}) (λ n. n < length places.now) }

@@ -24,6 +24,7 @@ ghost use Rattle.rb_matrix.specs.Search.{AreInhabited, IsTypeIn};
 ghost use Rattle.rb_agree.specs.inner.Sharing.{ApartWhereOff, AreGroups, AreHeads, HaveAll, IsAlone, IsGroupOf, MayBe, SharesNone, con_at, heads_in};
 
 use crate::values::{apart_fault, have_common};
+use rb_core::limits::MOST_CONSTRUCTORS;
 use rb_core::pattern::Pat;
 use rb_core::seq::Seq;
 use rb_core::types::DataDecl;
@@ -31,9 +32,6 @@ use rb_layout::graphs::no_marks;
 use rb_layout::layout::{Layout, Leaf};
 use rb_layout::numbers::number_of;
 use std::alloc::{AllocError, Global};
-
-// How many constructors a type has at most.
-const CONSTRUCTORS: usize = 256;
 
 // The pattern in a field of a pattern's root constructor; None without such a constructor or field.
 fn sub_at(pat: &Pat, field: u32) -> Option<&Pat>
@@ -126,7 +124,7 @@ fn add_paths_below(
 
 // How many different constructors stand among these, those of a type's leaves at one path.
 fn distinct(alloc: Global, heads: &[Option<u32>]) -> Result<usize, AllocError> {
-    let mut seen = no_marks(alloc, CONSTRUCTORS)?;
+    let mut seen = no_marks(alloc, MOST_CONSTRUCTORS)?;
     for head in heads {
         if let Some(con) = head {
             let con = *con as usize;
@@ -189,13 +187,13 @@ fn members(alloc: Global, heads: &[Option<u32>], con: u32) -> Result<Seq<u32>, A
     Ok(members)
 }
 
-// For each number of a constructor, from 0 to 255, the numbers of the leaves that may have that
-// constructor.
+// For each number that a constructor may have, below the most that a type may have of them, the
+// numbers of the leaves that may have that constructor.
 fn groups(alloc: Global, heads: &[Option<u32>]) -> Result<Seq<Seq<u32>>, AllocError>
     ensures { IfOk result (AreGroups heads.now) }
 {
     let mut groups = Seq::new(alloc);
-    for con in 0..CONSTRUCTORS as u32 {
+    for con in 0..MOST_CONSTRUCTORS as u32 {
         groups.push(members(alloc, heads, con)?)?;
     }
     Ok(groups)

@@ -1,5 +1,6 @@
-//! Whether a leaf passes the tests on the way to it. A test is what a split asks of a leaf below
-//! it: to have an arm's literal at the split's location or, below its `else`, to exclude the
+//! Whether a leaf passes the tests on the way to it. A leaf is one of the forms in which a layout
+//! stores the values of a type; a location leads to bits of its words. A test is what a split asks
+//! of a leaf below it: to have an arm's literal at the split's location or, below its `else`, to exclude the
 //! literals of all arms there. A number is known at a location where the bits there are constant,
 //! and excluded where they are never that number. A call that says how something fails answers None
 //! where nothing does; an `Err` of a private call is want of memory.

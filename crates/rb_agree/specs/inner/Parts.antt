@@ -2,7 +2,7 @@
 -- part p is the bits p.l in number from bit p.o on, and what they hold. `decls` are the layouts of the program.
 -- `opens` are the open positions of the leaf's provenance, wildcards and variables, each with its path of field
 -- numbers. `why` is evidence: how something fails.
-use Rattle.std.specs.Prelude.{◌≡◌, ℕ, ◌^◌, ◌<◌, ◌≤◌, ◌⊎◌, List, [], ◌∷◌, Some, slice_get}
+use Rattle.std.specs.Prelude.{◌≡◌, ℕ, ◌^◌, ◌<◌, ◌≤◌, ◌⊎◌, List, [], ◌∷◌, map, Some, slice_get}
 use Rattle.rb_bits.specs.Words.{AreDisjoint}
 use Rattle.rb_core.specs.declared.layout_decl.LayoutDecl.{LayoutDecl}
 use Rattle.rb_layout.specs.declared.evidence.Why.{Why}
@@ -13,6 +13,10 @@ use Rattle.rb_layout.specs.A3.{FailsParts, Fits, IsIn, IsOfItem, IsPlaced, LiesI
 use Rattle.rb_agree.specs.declared.items.Written.{Written}
 use Rattle.rb_agree.specs.Written.{shown_part}
 use Rattle.rb_agree.specs.inner.Lists.{EachOf, SomeOf}
+
+-- parts as they are written, as the rules speak of them, in order
+abbrev pub shown_parts : List Written → List WrittenPart
+shown_parts ws = map shown_part ws
 
 module _ (decls : List LayoutDecl) (opens : List Open) where
   -- a part of item i does not fit what it holds, as `why` says: a number that is too great for its bits, or a field

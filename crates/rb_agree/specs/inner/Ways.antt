@@ -24,11 +24,13 @@ added_if (Some false) way next s = record {
   found = s.found ++ record { number = next; way = way ++ next ∷ [] } ∷ [];
 }
 
--- a search has number `next` found, too, at the end of `way`, if it was not yet and the graph has it
+-- a search has number `next` found, too, at the end of `way`, if it was not yet and has a mark, as those of the graph
+-- have
 abbrev pub added : List ℕ → ℕ → State → State
 added way next s = added_if (slice_get s.marks next) way next s
 
--- a search has each of these numbers found, too, at the end of `way`, one after the other, if it was not yet
+-- a search has each of these numbers found, too, at the end of `way`, one after the other, if it was not yet and has a
+-- mark; one without a mark is passed over
 abbrev pub all_added : List ℕ → List ℕ → State → State
 all_added way [] s = s
 all_added way (next ∷ edges) s = all_added way edges (added way next s)

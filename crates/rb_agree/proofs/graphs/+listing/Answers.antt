@@ -1,6 +1,6 @@
 use Rattle.std.proofs.Common.{◌≡◌, ◌++◌}
 use Rattle.std.specs.List.{flat_map}
-use Rattle.rb_agree.specs.Graphs.{pattern_types}
+use Rattle.rb_agree.specs.inner.Rows.{pattern_types}
 use Rattle.rb_agree.proofs.Writing.{on-ok}
 use Rattle.rb_agree.proofs.Relating.{types-added}
 use Rattle.rb_agree.proofs.graphs.+listing.Goals as goal

@@ -1,6 +1,6 @@
 use Rattle.std.proofs.Common.{◌≡◌, ◌++◌, drop}
 use Rattle.std.specs.List.{flat_map}
-use Rattle.rb_agree.specs.Graphs.{pattern_types}
+use Rattle.rb_agree.specs.inner.Rows.{pattern_types}
 use Rattle.rb_agree.proofs.graphs.+listing.Given as goal
 
 abbrev pub invariant-add_all_types-loop-pat : goal.invariant-add_all_types-loop-pat

@@ -1,7 +1,7 @@
 use Rattle.std.proofs.Common.{◌≡◌, ◌++◌, ℕ, List, OnOk, ap, sym, subst, ◌∙◌}
 use Rattle.std.specs.List.{flat_map}
 use Rattle.rb_core.specs.declared.pattern.Pat.{Pat}
-use Rattle.rb_agree.specs.Graphs.{pattern_types}
+use Rattle.rb_agree.specs.inner.Rows.{pattern_types}
 use Rattle.rb_agree.proofs.Relating.{types-below}
 use Rattle.rb_agree.proofs.graphs.add_below.Goals as goal
 

@@ -1,6 +1,6 @@
 use Rattle.std.proofs.Common.{◌≡◌, ◌++◌, drop}
 use Rattle.std.specs.List.{flat_map}
-use Rattle.rb_agree.specs.Graphs.{part_holds}
+use Rattle.rb_agree.specs.inner.Rows.{part_holds}
 use Rattle.rb_agree.proofs.graphs.add_parts.Given as goal
 
 abbrev pub invariant-loop-part : goal.invariant-loop-part

@@ -1,6 +1,6 @@
 use Rattle.std.proofs.Common.{◌≡◌, ◌++◌, drop}
 use Rattle.std.specs.List.{flat_map}
-use Rattle.rb_agree.specs.Graphs.{word_holds}
+use Rattle.rb_agree.specs.inner.Rows.{word_holds}
 use Rattle.rb_agree.proofs.graphs.add_words.Given as goal
 
 abbrev pub invariant-loop-word : goal.invariant-loop-word

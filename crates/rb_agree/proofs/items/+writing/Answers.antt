@@ -4,7 +4,8 @@ use Rattle.rb_core.specs.declared.layout_decl.LayItem.{LayItem}
 use Rattle.rb_core.specs.declared.layout_decl.PartDecl.{PartDecl}
 use Rattle.rb_layout.specs.Items.{Item, item_list, item_lists}
 use Rattle.rb_agree.specs.declared.items.Item.TheVariants.{Parts}
-use Rattle.rb_agree.specs.Written.{inside_of, shown_items}
+use Rattle.rb_agree.specs.Written.{shown_items}
+use Rattle.rb_agree.specs.inner.Around.{inside_of}
 use Rattle.rb_agree.proofs.Writing.{in-Pointer, on-ok, shown-push, word-added}
 use Rattle.rb_agree.proofs.items.+writing.Goals as goal
 

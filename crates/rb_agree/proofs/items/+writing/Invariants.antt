@@ -1,7 +1,8 @@
 use Rattle.std.proofs.Common.{◌≡◌, ◌++◌, drop}
 use Rattle.std.specs.List.{flat_map}
 use Rattle.rb_layout.specs.Items.{item_lists}
-use Rattle.rb_agree.specs.Written.{inside_of, shown_items}
+use Rattle.rb_agree.specs.Written.{shown_items}
+use Rattle.rb_agree.specs.inner.Around.{inside_of}
 use Rattle.rb_agree.proofs.items.+writing.Given as goal
 
 abbrev pub invariant-add_items-loop-item : goal.invariant-add_items-loop-item

@@ -1,5 +1,6 @@
 use Rattle.std.proofs.Common.{◌≡◌, ◌++◌, map, drop}
-use Rattle.rb_agree.specs.Written.{shown_part, written_part}
+use Rattle.rb_agree.specs.Written.{shown_part}
+use Rattle.rb_agree.specs.inner.Around.{written_part}
 use Rattle.rb_agree.proofs.items.parts_of.Given as goal
 
 abbrev pub invariant-loop-part : goal.invariant-loop-part

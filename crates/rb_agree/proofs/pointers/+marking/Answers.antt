@@ -1,5 +1,5 @@
 use Rattle.rb_layout.specs.A9.{cons_of}
-use Rattle.rb_agree.specs.Pointing.{IsMarked, IsUnmarked}
+use Rattle.rb_agree.specs.inner.Marks.{IsMarked, IsUnmarked}
 use Rattle.rb_agree.proofs.Lists.{flat-found, flat-passed, flat-ends}
 use Rattle.rb_agree.proofs.Marking.{root-marked, root-unmarked}
 use Rattle.rb_agree.proofs.pointers.+marking.Goals as goal

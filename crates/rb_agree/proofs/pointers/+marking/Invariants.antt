@@ -1,5 +1,5 @@
 use Rattle.rb_layout.specs.A9.{cons_of}
-use Rattle.rb_agree.specs.Pointing.{IsMarked, IsUnmarked}
+use Rattle.rb_agree.specs.inner.Marks.{IsMarked, IsUnmarked}
 use Rattle.rb_agree.proofs.Lists.{RestPasses}
 use Rattle.rb_agree.proofs.pointers.+marking.Given as goal
 

@@ -1,7 +1,7 @@
 use Rattle.std.proofs.Common.{map}
-use Rattle.rb_agree.specs.Graphs.{flat_row}
+use Rattle.rb_agree.specs.inner.Rows.{flat_row}
 use Rattle.rb_agree.proofs.Relating.{is-flat-graph, mapped-end}
-use Rattle.rb_agree.proofs.graphs.flattened.Goals as goal
+use Rattle.rb_agree.proofs.graphs.flattening_graph.Goals as goal
 
 pub returns : goal.returns
 returns c =

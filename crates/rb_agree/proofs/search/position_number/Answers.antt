@@ -5,7 +5,7 @@ use Rattle.rb_layout.specs.declared.opens.OpenPosition.{OpenPosition}
 use Rattle.rb_agree.specs.declared.search.Side.TheVariants.{Left, Same, Right, Along}
 use Rattle.rb_agree.specs.inner.Search.{side_of}
 use Rattle.rb_agree.proofs.Halving.{none-along, none-before, none-behind, same-as}
-use Rattle.rb_agree.proofs.search.place_of.Goals as goal
+use Rattle.rb_agree.proofs.search.position_number.Goals as goal
 
 pub loop-low-preserved-in-Left : goal.loop-low-preserved-in-Left
 loop-low-preserved-in-Left c =

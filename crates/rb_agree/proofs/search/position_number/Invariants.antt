@@ -1,7 +1,7 @@
 use Rattle.std.proofs.Common.{◌≡◌, ◌≢◌, ℕ, ◌<◌, ◌≤◌, ◌-◌, length, Some}
 use Rattle.std.specs.Prelude.{slice_get}
 use Rattle.rb_layout.specs.declared.opens.OpenPosition.{OpenPosition}
-use Rattle.rb_agree.proofs.search.place_of.Given as goal
+use Rattle.rb_agree.proofs.search.position_number.Given as goal
 
 -- no position before `low` is at the path, and none from `high` on
 abbrev pub invariant-loop-low : goal.invariant-loop-low

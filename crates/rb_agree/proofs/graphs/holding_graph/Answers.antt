@@ -1,7 +1,7 @@
 use Rattle.std.proofs.Common.{map}
-use Rattle.rb_agree.specs.Graphs.{held_row}
+use Rattle.rb_agree.specs.inner.Rows.{held_row}
 use Rattle.rb_agree.proofs.Relating.{is-held-graph, mapped-end}
-use Rattle.rb_agree.proofs.graphs.held.Goals as goal
+use Rattle.rb_agree.proofs.graphs.holding_graph.Goals as goal
 
 pub returns : goal.returns
 returns c =
