@@ -18,6 +18,7 @@ use Rattle.rb_core.proofs.MatchingForms.{matches-Wild}
 use Rattle.rb_matrix.specs.declared.matrix.Head.{Head}
 use Rattle.rb_matrix.specs.declared.matrix.Head.TheVariants as H
 use Rattle.rb_matrix.specs.Heads.{layer_head, row_head}
+use Rattle.rb_matrix.specs.inner.FirstHead.{or_else}
 use Rattle.rb_matrix.specs.Specialize.{wilds, special_image, default_image}
 use Rattle.rb_decide.specs.declared.clause_matrix.Column.{Column}
 use Rattle.rb_decide.specs.declared.clause_matrix.Row.{Row}
@@ -213,7 +214,7 @@ module _ (types : List DataDecl) where
       less h n rs e f = let a = special-less h n rows e in let b = ap heads_in f in omega (arith, a, b, small)
 
       some : (h : Head) → layer_head (out-Pat p) ≡ Some h → is_some (column_head rows) ≡ true
-      some h e = ap (λ o. is_some (Rattle.rb_matrix.specs.Heads.or_else o (Rattle.rb_matrix.specs.Heads.or_else (layer_head (out-Pat w)) None))) e
+      some h e = ap (λ o. is_some (or_else o (or_else (layer_head (out-Pat w)) None))) e
 
       wilds-long : (n : ℕ) → length (wilds n) ≡ n
       wilds-long zero = refl

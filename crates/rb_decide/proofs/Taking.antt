@@ -18,7 +18,7 @@ use Rattle.rb_matrix.specs.declared.matrix.Head.{Head}
 use Rattle.rb_matrix.specs.declared.matrix.Head.TheVariants as H
 use Rattle.rb_matrix.specs.Heads.{layer_begins, begins, any_begins, option_begins, layer_head, row_head, sample, fields_at}
 use Rattle.rb_matrix.specs.Rows.{row_matches, image_matches, vector_of}
-use Rattle.rb_matrix.specs.Search.{sought}
+use Rattle.rb_matrix.specs.Search.{useful_by}
 use Rattle.rb_matrix.specs.Specialize.{wilds, special_image, special_row, default_image, default_row}
 use Rattle.rb_matrix.proofs.HeadLemmas.{any_begins-alike}
 use Rattle.rb_matrix.proofs.Laws.{opened, open_matches, wilds-length, special-row, default-row}
@@ -324,7 +324,7 @@ module _ (types : List DataDecl) where
       by : (o : Option (List Ty)) → fields_at types t h ≡ o → Fields t h w
       by (Some fs) e = record { fields = fs; at = e }
       by None e =
-          let none : sought types (t ∷ []) [] [] (w ∷ []) ≡ false = no-fields types t h [] [] [] e w [] is in
+          let none : useful_by types (t ∷ []) [] [] (w ∷ []) ≡ false = no-fields types t h [] [] [] e w [] is in
           absurd (false≢true (sym none ∙ ap (λ b. (b && true) && true) of))
 
   fields-many : (t : Ty) (h : Head) (fs : List Ty) → fields_at types t h ≡ Some fs → HasFields h (length fs)

@@ -12,7 +12,7 @@ use Rattle.rb_core.specs.declared.pattern.Pat.{Pat}
 use Rattle.rb_core.specs.Matching.{matches_of, next_clause, chosen_clause, IsExhaustive, IsUnreached}
 use Rattle.rb_core.specs.Values.{is_of_type}
 use Rattle.rb_matrix.specs.Rows.{row_matches, any_row, all_rows}
-use Rattle.rb_matrix.specs.Search.{is_plain, sought, RowIsFound, IsNowhere, IsSearchAnswer}
+use Rattle.rb_matrix.specs.Search.{is_plain, useful_by, RowIsFound, AreUseless, IsSearchAnswer}
 use Rattle.rb_matrix.specs.inner.Against.{IsCovered, StandFor}
 use Rattle.rb_matrix.specs.inner.OneColumn.{one_each, any_matches, IsReachAnswer, IsOneAnswer}
 use Rattle.rb_matrix.specs.Exhaust.{IsMissing, IsReached, both_match, IsCommon}
@@ -116,7 +116,7 @@ module _ (types : List DataDecl) (ty : Ty) where
 
   -- The value of a row of one pattern
   module _ (wanted unwanted : List (List Pat)) (q : Pat) (r : RowIsFound types (ty ∷ []) wanted unwanted (q ∷ [])) where
-    value-of : (vs : List Value) → row_matches (q ∷ []) vs ≡ true → sought types (ty ∷ []) wanted unwanted vs ≡ true
+    value-of : (vs : List Value) → row_matches (q ∷ []) vs ≡ true → useful_by types (ty ∷ []) wanted unwanted vs ≡ true
         → (v : Value) × (is_of_type types v ty ≡ true) × (matches_of q v ≡ true) × ((all_rows wanted (v ∷ []) && not (any_row unwanted (v ∷ []))) ≡ true)
     value-of [] m f = absurd (false≢true m)
     value-of (v ∷ w ∷ vs) m f = absurd (false≢true (and-right (matches_of q v) false m))
@@ -137,7 +137,7 @@ module _ (types : List DataDecl) (ty : Ty) where
     one-plain = sym (and-true (is_plain types q ty)) ∙ r.plain
 
   -- nothing is missing
-  pub all-chosen : (ps : List Pat) → IsNowhere types (ty ∷ []) [] (one_each ps) → IsExhaustive types ty ps
+  pub all-chosen : (ps : List Pat) → AreUseless types (ty ∷ []) [] (one_each ps) → IsExhaustive types ty ps
   all-chosen ps h v of = chosen-some ps v (sym (one_each-any ps v) ∙ must (is_of_type types v ty) (any_row (one_each ps) (v ∷ [])) (h (v ∷ [])) of)
 
   pub is-missing : (ps : List Pat) (q : Pat) → RowIsFound types (ty ∷ []) [] (one_each ps) (q ∷ []) → IsMissing types ty ps q
@@ -174,7 +174,7 @@ module _ (types : List DataDecl) (ty : Ty) where
     not-both true false h e f = false≢true f
     not-both false b h e f = false≢true e
 
-    pub never-first : IsNowhere types (ty ∷ []) W U → IsUnreached types ty ps i
+    pub never-first : AreUseless types (ty ∷ []) W U → IsUnreached types ty ps i
     never-first h v of e = not-both (is_of_type types v ty) (all_rows W (v ∷ []) && not (any_row U (v ∷ []))) (h (v ∷ [])) of (as-first v ∙ chosen-first ps i p v at e)
 
     pub is-reached : (q : Pat) → RowIsFound types (ty ∷ []) W U (q ∷ []) → IsReached types ty ps i
@@ -202,7 +202,7 @@ module _ (types : List DataDecl) (ty : Ty) where
     no-both true b h e = h
     no-both false b h e = absurd (false≢true e)
 
-    pub none-common : IsNowhere types (ty ∷ []) P [] → (v : Value) → is_of_type types v ty ≡ true → both_match p q v ≡ false
+    pub none-common : AreUseless types (ty ∷ []) P [] → (v : Value) → is_of_type types v ty ≡ true → both_match p q v ≡ false
     none-common h v of = sym (as-both v) ∙ no-both (is_of_type types v ty) (all_rows P (v ∷ []) && true) (h (v ∷ [])) of
 
     pub is-common : (r : Pat) → RowIsFound types (ty ∷ []) P [] (r ∷ []) → IsCommon types ty p q r

@@ -1,5 +1,4 @@
-pub mod BesideFirst
-pub mod Besides
+pub mod Absent
 pub mod Branches
 pub mod CountedRows
 pub mod Covering
@@ -7,6 +6,7 @@ pub mod Defaults
 pub mod Differing
 pub mod Examples
 pub mod Exhausts
+pub mod FirstAbsent
 pub mod HeadLemmas
 pub mod Inhabited
 pub mod Keys

@@ -13,7 +13,7 @@ use Rattle.rb_matrix.specs.declared.problem.Left.{Left}
 use Rattle.rb_matrix.specs.declared.problem.Left.TheVariants.{Whole}
 use Rattle.rb_matrix.specs.inner.Open.{layer_open, is_open, any_open}
 use Rattle.rb_matrix.specs.Rows.{row_matches, any_row, all_rows, vector_of}
-use Rattle.rb_matrix.specs.Search.{IsNowhere}
+use Rattle.rb_matrix.specs.Search.{AreUseless}
 use Rattle.rb_matrix.specs.inner.Left.{IsSplit}
 use Rattle.rb_matrix.proofs.Laws.{opened, open_matches}
 use Rattle.rb_matrix.proofs.Vectors.{and-left, and-right, vector-length}
@@ -48,7 +48,7 @@ any-matches (r ∷ rs) n vs h e = elim (or-cases ((length r == n) && is_open r) 
   | inr later ↦ or-right (row_matches r vs) (any_row rs vs) (any-matches rs n vs later e)
 ]
 
-nowhere : (types : List DataDecl) (tys : List Ty) (wanted unwanted : List (List Pat)) → any_open unwanted (length tys) ≡ true → IsNowhere types tys wanted unwanted
+nowhere : (types : List DataDecl) (tys : List Ty) (wanted unwanted : List (List Pat)) → any_open unwanted (length tys) ≡ true → AreUseless types tys wanted unwanted
 nowhere types tys wanted unwanted h vs = by (vector_of types tys vs) refl
   where
     by : (b : Bool) → vector_of types tys vs ≡ b → (b && (all_rows wanted vs && not (any_row unwanted vs))) ≡ false

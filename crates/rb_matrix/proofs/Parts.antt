@@ -20,11 +20,11 @@ use Rattle.rb_matrix.specs.declared.matrix.Head.TheVariants as H
 use Rattle.rb_matrix.specs.Rows.{row_matches, any_row, all_rows, vector_of}
 use Rattle.rb_matrix.specs.Heads.{layer_begins, begins, fields_at}
 use Rattle.rb_matrix.specs.Specialize.{special}
-use Rattle.rb_matrix.specs.Search.{AreTypesIn, AreInhabited, is_plain, row_plain, sought, RowIsFound, IsNowhere}
+use Rattle.rb_matrix.specs.Search.{AreTypesIn, AreInhabited, is_plain, row_plain, useful_by, RowIsFound, AreUseless}
 use Rattle.rb_matrix.specs.inner.Problems.{closed, step_of, fields_bound}
 use Rattle.rb_matrix.proofs.Laws.{special-any, special-all, special-lost}
 use Rattle.rb_matrix.proofs.Vectors.{and-left, and-right, row-length, split-row, vector-append, vector-length, plain-append, plain-length, con-of, con-of_int, num-of, num-of_int, num-matches, con-matches, num-plain, con-plain}
-use Rattle.rb_matrix.proofs.Besides.{fields-live}
+use Rattle.rb_matrix.proofs.Absent.{fields-live}
 use Rattle.rb_matrix.proofs.Inhabited.{out-num}
 use Rattle.rb_matrix.proofs.Weights.{fields-bound}
 
@@ -87,7 +87,7 @@ module _ (types : List DataDecl) where
       ∙ ap (are_of (map (is_of_type types) us)) at
 
   pub no-fields : (ty : Ty) (h : Head) (ts : List Ty) (wanted unwanted : List (List Pat)) → fields_at types ty h ≡ None
-      → (v : Value) (vs : List Value) → begins h v ≡ true → sought types (ty ∷ ts) wanted unwanted (v ∷ vs) ≡ false
+      → (v : Value) (vs : List Value) → begins h v ≡ true → useful_by types (ty ∷ ts) wanted unwanted (v ∷ vs) ≡ false
   no-fields ty h ts wanted unwanted at v vs e =
       off _ (vector_of types ts vs) (all_rows wanted (v ∷ vs) && not (any_row unwanted (v ∷ vs))) (no-layer ty h v (out-Value v) at refl e)
 
@@ -152,28 +152,28 @@ module _ (types : List DataDecl) (ty : Ty) (ts : List Ty) (wanted unwanted : Lis
   abbrev S : List (List Pat) → List (List Pat)
   S rows = special h (length fs) rows
 
-  same-sought : (v : Value) (vs : List Value) → begins h v ≡ true → length (subs v) ≡ length fs → length (S wanted) ≡ length wanted
-      → sought types (ty ∷ ts) wanted unwanted (v ∷ vs) ≡ sought types (fs ++ ts) (S wanted) (S unwanted) (subs v ++ vs)
-  same-sought v vs is e kept = three _ _ _ _ _ _
+  same-useful : (v : Value) (vs : List Value) → begins h v ≡ true → length (subs v) ≡ length fs → length (S wanted) ≡ length wanted
+      → useful_by types (ty ∷ ts) wanted unwanted (v ∷ vs) ≡ useful_by types (fs ++ ts) (S wanted) (S unwanted) (subs v ++ vs)
+  same-useful v vs is e kept = three _ _ _ _ _ _
       (ap (λ b. b && vector_of types ts vs) (of-fields types ty h fs v at is) ∙ sym (vector-append types fs ts (subs v) vs e))
       (special-all h v vs is wanted (ap (λ n. length (special h n wanted)) e ∙ kept) ∙ ap (λ n. all_rows (special h n wanted) (subs v ++ vs)) e)
       (special-any h v vs is unwanted ∙ ap (λ n. any_row (special h n unwanted) (subs v ++ vs)) e)
 
   -- a value with the head and another number of subvalues is of no matter
   by-length : (v : Value) (vs : List Value) → begins h v ≡ true
-      → (length (subs v) ≡ length fs → sought types (ty ∷ ts) wanted unwanted (v ∷ vs) ≡ false) → sought types (ty ∷ ts) wanted unwanted (v ∷ vs) ≡ false
+      → (length (subs v) ≡ length fs → useful_by types (ty ∷ ts) wanted unwanted (v ∷ vs) ≡ false) → useful_by types (ty ∷ ts) wanted unwanted (v ∷ vs) ≡ false
   by-length v vs is go = elim (same_or (length (subs v)) (length fs) (length (subs v) == length fs) refl) [
     | inl e ↦ go e
     | inr ne ↦ off _ (vector_of types ts vs) (all_rows wanted (v ∷ vs) && not (any_row unwanted (v ∷ vs)))
         (of-fields types ty h fs v at is ∙ false_from_ne_true _ (λ of. ne (vector-length types fs (subs v) of)))
   ]
 
-  pub part-none : length (S wanted) ≡ length wanted → IsNowhere types (fs ++ ts) (S wanted) (S unwanted)
-      → (v : Value) (vs : List Value) → begins h v ≡ true → sought types (ty ∷ ts) wanted unwanted (v ∷ vs) ≡ false
-  part-none kept none v vs is = by-length v vs is (λ e. same-sought v vs is e kept ∙ none (subs v ++ vs))
+  pub part-none : length (S wanted) ≡ length wanted → AreUseless types (fs ++ ts) (S wanted) (S unwanted)
+      → (v : Value) (vs : List Value) → begins h v ≡ true → useful_by types (ty ∷ ts) wanted unwanted (v ∷ vs) ≡ false
+  part-none kept none v vs is = by-length v vs is (λ e. same-useful v vs is e kept ∙ none (subs v ++ vs))
 
   pub part-lost : length (S wanted) < length wanted
-      → (v : Value) (vs : List Value) → begins h v ≡ true → sought types (ty ∷ ts) wanted unwanted (v ∷ vs) ≡ false
+      → (v : Value) (vs : List Value) → begins h v ≡ true → useful_by types (ty ∷ ts) wanted unwanted (v ∷ vs) ≡ false
   part-lost lt v vs is = by-length v vs is (λ e.
       ap (λ b. (is_of_type types v ty && vector_of types ts vs) && (b && not (any_row unwanted (v ∷ vs))))
       (special-lost h v vs is wanted (subst (λ n. length (special h n wanted) < length wanted) (sym e) lt))
@@ -207,18 +207,18 @@ module _ (types : List DataDecl) (ty : Ty) (ts : List Ty) (wanted unwanted : Lis
 
     module _ (p : Pat) (f : IsFront types ty h fs (take n row) p) where
       found-each : (z : Value) (zs : List Value) → (is_of_type types z ty && vector_of types ts zs) ≡ true → (matches_of p z && row_matches (drop n row) zs) ≡ true
-          → sought types (ty ∷ ts) wanted unwanted (z ∷ zs) ≡ true
+          → useful_by types (ty ∷ ts) wanted unwanted (z ∷ zs) ≡ true
       found-each z zs of matched =
           let first = sym (f.matches z) ∙ and-left (matches_of p z) (row_matches (drop n row) zs) matched in
           let is = and-left (begins h z) (row_matches (take n row) (subs z)) first in
           let fine = sym (of-fields types ty h fs z at is) ∙ and-left (is_of_type types z ty) (vector_of types ts zs) of in
           let e = vector-length types fs (subs z) fine in
-          same-sought z zs is e kept ∙ r.all (subs z ++ zs)
+          same-useful z zs is e kept ∙ r.all (subs z ++ zs)
           (vector-append types fs ts (subs z) zs e ∙ ap (λ b. b && vector_of types ts zs) fine ∙ and-right (is_of_type types z ty) (vector_of types ts zs) of)
           (split-row n row (subs z) zs e long ∙ ap (λ b. b && row_matches (drop n row) zs) (and-right (begins h z) (row_matches (take n row) (subs z)) first)
           ∙ and-right (matches_of p z) (row_matches (drop n row) zs) matched)
 
-      found-all : (zs : List Value) → vector_of types (ty ∷ ts) zs ≡ true → row_matches (p ∷ drop n row) zs ≡ true → sought types (ty ∷ ts) wanted unwanted zs ≡ true
+      found-all : (zs : List Value) → vector_of types (ty ∷ ts) zs ≡ true → row_matches (p ∷ drop n row) zs ≡ true → useful_by types (ty ∷ ts) wanted unwanted zs ≡ true
       found-all [] of matched = absurd (false≢true of)
       found-all (z ∷ zs) of matched = found-each z zs of matched
 
@@ -229,9 +229,9 @@ module _ (types : List DataDecl) (ty : Ty) (ts : List Ty) (wanted unwanted : Lis
         value = z.0 ∷ drop n xs;
         matched = ap (λ b. b && row_matches (drop n row) (drop n xs)) (f.matches z.0 ∙ ap (λ b. b && row_matches (take n row) (subs z.0)) z.1 ∙ ap (row_matches (take n row)) z.2)
             ∙ sym (split-row n row (take n xs) (drop n xs) us-length long) ∙ ap (row_matches row) (take-append-drop n xs) ∙ r.matched;
-        found = same-sought z.0 (drop n xs) z.1 (ap (λ l. length l) z.2 ∙ us-length) kept
-            ∙ ap (λ l. sought types (fs ++ ts) (S wanted) (S unwanted) (l ++ drop n xs)) z.2
-            ∙ ap (sought types (fs ++ ts) (S wanted) (S unwanted)) (take-append-drop n xs) ∙ r.found;
+        found = same-useful z.0 (drop n xs) z.1 (ap (λ l. length l) z.2 ∙ us-length) kept
+            ∙ ap (λ l. useful_by types (fs ++ ts) (S wanted) (S unwanted) (l ++ drop n xs)) z.2
+            ∙ ap (useful_by types (fs ++ ts) (S wanted) (S unwanted)) (take-append-drop n xs) ∙ r.found;
         all = found-all;
       }
 

@@ -12,11 +12,12 @@ use Rattle.rb_matrix.specs.declared.matrix.Head.{Head}
 use Rattle.rb_matrix.specs.declared.problem.Step.TheVariants.{Front}
 use Rattle.rb_matrix.specs.declared.problem.Problem.{Problem}
 use Rattle.rb_matrix.specs.declared.problem.Left.TheVariants.{Whole}
-use Rattle.rb_matrix.specs.Heads.{any_begins, column_begins, first_head, some_head, fields_at}
+use Rattle.rb_matrix.specs.Heads.{any_begins, column_begins, some_head, fields_at}
+use Rattle.rb_matrix.specs.inner.FirstHead.{first_head}
 use Rattle.rb_matrix.specs.Specialize.{special, defaults}
-use Rattle.rb_matrix.specs.Search.{IsTypeIn, AreTypesIn, AreInhabited, RowIsFound, IsNowhere}
+use Rattle.rb_matrix.specs.Search.{IsTypeIn, AreTypesIn, AreInhabited, RowIsFound, AreUseless}
 use Rattle.rb_matrix.specs.inner.Problems.{closed, step_of, FoundIn, NoneIn, NoneBy, IsPart, IsPartAt}
-use Rattle.rb_matrix.specs.Beside.{IsBeside}
+use Rattle.rb_matrix.specs.Signature.{IsAbsent}
 use Rattle.rb_matrix.specs.inner.Left.{IsSplit}
 use Rattle.rb_matrix.proofs.Laws.{special-length, defaults-length, no-head}
 use Rattle.rb_matrix.proofs.Inhabited.{live}
@@ -32,8 +33,8 @@ module _ (types : List DataDecl) where
     at-root : (row : List Pat) → RowIsFound types (ty ∷ ts) p.wanted p.unwanted row → FoundIn types p row
     at-root row r = subst (λ l. RowIsFound types l p.wanted p.unwanted row) (sym columns) r
 
-    none-root : IsNowhere types (ty ∷ ts) p.wanted p.unwanted → NoneIn types p
-    none-root h = subst (λ l. IsNowhere types l p.wanted p.unwanted) (sym columns) h
+    none-root : AreUseless types (ty ∷ ts) p.wanted p.unwanted → NoneIn types p
+    none-root h = subst (λ l. AreUseless types l p.wanted p.unwanted) (sym columns) h
 
     columns-length : length p.tys ≡ suc (length ts)
     columns-length = ap (λ l. length l) columns
@@ -47,9 +48,9 @@ module _ (types : List DataDecl) where
       found-here row r = subst (λ l. RowIsFound types (fs ++ ts) (special h (length fs) p.wanted) l row) u
           (subst (λ l. RowIsFound types (fs ++ ts) l c.unwanted row) w (subst (λ l. RowIsFound types l c.wanted c.unwanted row) tys r))
 
-      none-here : NoneIn types c → IsNowhere types (fs ++ ts) (special h (length fs) p.wanted) (special h (length fs) p.unwanted)
-      none-here r = subst (λ l. IsNowhere types (fs ++ ts) (special h (length fs) p.wanted) l) u
-          (subst (λ l. IsNowhere types (fs ++ ts) l c.unwanted) w (subst (λ l. IsNowhere types l c.wanted c.unwanted) tys r))
+      none-here : NoneIn types c → AreUseless types (fs ++ ts) (special h (length fs) p.wanted) (special h (length fs) p.unwanted)
+      none-here r = subst (λ l. AreUseless types (fs ++ ts) (special h (length fs) p.wanted) l) u
+          (subst (λ l. AreUseless types (fs ++ ts) l c.unwanted) w (subst (λ l. AreUseless types l c.wanted c.unwanted) tys r))
 
       pub part-at : AreInhabited types → AreTypesIn types ts → 1 ≤ some_head (first_head p.wanted) + some_head (first_head p.unwanted)
           → c.steps ≡ p.steps ++ step_of ty h (length fs) ∷ [] → IsPartAt types ty ts p h (Some c)
@@ -69,24 +70,24 @@ module _ (types : List DataDecl) where
     part-gone h fs at w e lt = part-lost types ty ts p.wanted p.unwanted h fs at (subst (λ l. length l < length p.wanted) e lt)
 
     -- the part by the default matrix
-    pub rest-split : (q : Pat) → first_head p.wanted ≡ None → IsBeside types ty (column_begins p.unwanted) q → AreTypesIn types ts
+    pub rest-split : (q : Pat) → first_head p.wanted ≡ None → IsAbsent types ty (column_begins p.unwanted) q → AreTypesIn types ts
         → (c : Problem) → c.tys ≡ ts → c.wanted ≡ defaults p.wanted → c.unwanted ≡ defaults p.unwanted → length p.wanted ≤ length c.wanted → c.steps ≡ p.steps ++ Front q ∷ []
         → IsSplit types (Whole p) (Whole c ∷ [])
-    rest-split q none beside lives c tys w u long steps =
+    rest-split q none absent lives c tys w u long steps =
         let kept : length (defaults p.wanted) ≡ length p.wanted = (let a = defaults-length p.wanted in let b = ap (λ l. length l) w in omega (arith, a, b, long)) in
         let l = ap (λ l. length l) tys in let columns = columns-length in
         let part : IsPart types p c = record {
           live = subst (AreTypesIn types) (sym tys) lives;
           step = Front q;
           steps = steps;
-          sound = λ row r. at-root (q ∷ row) (rest-found types ty ts p.wanted p.unwanted none kept q beside row
+          sound = λ row r. at-root (q ∷ row) (rest-found types ty ts p.wanted p.unwanted none kept q absent row
               (subst (λ l. RowIsFound types ts (defaults p.wanted) l row) u (subst (λ l. RowIsFound types ts l c.unwanted row) w (subst (λ l. RowIsFound types l c.wanted c.unwanted row) tys r))));
           cheap = cheap types p c (defaults-fall types p c w u (omega (arith, l, columns)));
         } in
         let falls = part-fewer types p c part.cheap (omega (arith, columns)) in
         record {
           none = λ all. none-root (rest-none types ty ts p.wanted p.unwanted none kept
-              (subst (λ l. IsNowhere types ts (defaults p.wanted) l) u (subst (λ l. IsNowhere types ts l c.unwanted) w (subst (λ l. IsNowhere types l c.wanted c.unwanted) tys all.0))));
+              (subst (λ l. AreUseless types ts (defaults p.wanted) l) u (subst (λ l. AreUseless types ts l c.unwanted) w (subst (λ l. AreUseless types l c.wanted c.unwanted) tys all.0))));
           within = λ root w. (part-within types root p c part w.sound, tt);
           fewer = omega (arith, falls);
         }

@@ -10,7 +10,7 @@ use Rattle.rb_matrix.specs.declared.problem.Problem.{Problem}
 use Rattle.rb_matrix.specs.declared.problem.Left.{Left}
 use Rattle.rb_matrix.specs.declared.problem.Left.TheVariants.{Whole, ByHead}
 use Rattle.rb_matrix.specs.Rows.{row_matches, any_row, all_rows, vector_of}
-use Rattle.rb_matrix.specs.Search.{AreTypesIn, sought, RowIsFound, IsNowhere}
+use Rattle.rb_matrix.specs.Search.{AreTypesIn, useful_by, RowIsFound, AreUseless}
 use Rattle.rb_matrix.specs.inner.Problems.{with_column, closed, closed_all, FoundIn, IsPart}
 use Rattle.rb_matrix.specs.inner.Left.{NoneOf, AllNone, left_cost, costs, LeadsTo, IsWithin, AreWithin, IsWorking, IsSplit}
 use Rattle.rb_matrix.proofs.Weights.{some-cost}
@@ -40,7 +40,7 @@ part-within types root p c part sound = record {
 -- Where no column is left --------------------------------------------------------------------------
 
 -- a problem without columns that its rows do not solve
-empty-wanted : (types : List DataDecl) (tys : List Ty) (wanted unwanted : List (List Pat)) → length tys < 1 → all_rows wanted [] ≡ false → IsNowhere types tys wanted unwanted
+empty-wanted : (types : List DataDecl) (tys : List Ty) (wanted unwanted : List (List Pat)) → length tys < 1 → all_rows wanted [] ≡ false → AreUseless types tys wanted unwanted
 empty-wanted types [] wanted unwanted lt e [] = ap (λ b. b && not (any_row unwanted [])) e
 empty-wanted types [] wanted unwanted lt e (v ∷ vs) = refl
 empty-wanted types (t ∷ ts) wanted unwanted lt e vs = absurd (omega (arith, lt))
@@ -49,7 +49,7 @@ off : (b : Bool) → (b && false) ≡ false
 off true = refl
 off false = refl
 
-empty-unwanted : (types : List DataDecl) (tys : List Ty) (wanted unwanted : List (List Pat)) → length tys < 1 → any_row unwanted [] ≡ true → IsNowhere types tys wanted unwanted
+empty-unwanted : (types : List DataDecl) (tys : List Ty) (wanted unwanted : List (List Pat)) → length tys < 1 → any_row unwanted [] ≡ true → AreUseless types tys wanted unwanted
 empty-unwanted types [] wanted unwanted lt e [] = ap (λ b. all_rows wanted [] && not b) e ∙ off (all_rows wanted [])
 empty-unwanted types [] wanted unwanted lt e (v ∷ vs) = refl
 empty-unwanted types (t ∷ ts) wanted unwanted lt e vs = absurd (omega (arith, lt))
@@ -70,10 +70,10 @@ solved types tys wanted unwanted e all none = subst (λ l. RowIsFound types l wa
   all = found-all;
 })
   where
-    found : sought types [] wanted unwanted [] ≡ true
+    found : useful_by types [] wanted unwanted [] ≡ true
     found = ap (λ b. b && not (any_row unwanted [])) all ∙ ap not none
 
-    found-all : (vs : List Value) → vector_of types [] vs ≡ true → row_matches [] vs ≡ true → sought types [] wanted unwanted vs ≡ true
+    found-all : (vs : List Value) → vector_of types [] vs ≡ true → row_matches [] vs ≡ true → useful_by types [] wanted unwanted vs ≡ true
     found-all [] of matched = found
     found-all (v ∷ vs) of matched = absurd (false≢true of)
 

@@ -26,8 +26,8 @@ pub record IsMissing (types : List DataDecl) (ty : Ty) (ps : List Pat) (q : Pat)
   pub none : (v : Value) → is_of_type types v ty ≡ true → matches_of q v ≡ true → chosen_clause ps v ≡ None
 
 -- what is answered of a list of patterns: Ok where each value of the type is matched by one, and else Missing with a
--- plain pattern that matches a value of the type, none of whose values of the type is matched; where memory is
--- wanting nothing is told
+-- plain pattern that matches a value of the type, none of whose values of the type is matched; for want of memory
+-- nothing is told
 abbrev pub IsExhaustAnswer : List DataDecl → Ty → List Pat → Result (Unit {0}) MatrixFault → Type 0
 IsExhaustAnswer types ty ps (Ok u) = IsExhaustive types ty ps
 IsExhaustAnswer types ty ps (Err (Missing q)) = IsMissing types ty ps q

@@ -74,16 +74,6 @@ abbrev pub some_head : Option Head → ℕ
 some_head None = 0
 some_head (Some h) = 1
 
--- the first of two where it is there, and else the second, which may be None too
-abbrev pub or_else : Option Head → Option Head → Option Head
-or_else None o = o
-or_else (Some h) o = Some h
-
--- the head of the first row that begins with one; None where no row does
-abbrev pub first_head : List (List Pat) → Option Head
-first_head [] = None
-first_head (r ∷ rs) = or_else (row_head r) (first_head rs)
-
 -- the types of a head's fields, where the head is of the type, and else None. A number has no field and is of an
 -- integer type that holds it. A constructor is of a data type that has one with its number, whatever type the head
 -- names; where there is no such data type, it is None too

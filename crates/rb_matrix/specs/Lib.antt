@@ -1,10 +1,10 @@
 pub mod Apart
-pub mod Beside
 pub mod Counts
 pub mod Exhaust
 pub mod Heads
 pub mod Known
 pub mod Rows
 pub mod Search
+pub mod Signature
 pub mod Specialize
 pub mod inner

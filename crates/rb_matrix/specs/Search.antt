@@ -1,6 +1,7 @@
 -- What a search looks for: a vector of values, of the columns' types, that all wanted rows match and no unwanted one.
 -- It is Maranget's question of usefulness: a row is useful behind the rows of a pattern matrix where such a vector
--- is, with that row wanted and the others unwanted.
+-- is, with that row wanted and the others unwanted, and else it is useless. Several wanted rows are useful together,
+-- by a vector that all of them match.
 use Rattle.std.specs.Prelude.{◌≡◌, ◌^◌, List, [], ◌∷◌, map, Bool, true, false, ◌&&◌, not, ◌==◌, nat_lt, Option, Some, None}
 use Rattle.std.specs.List.{list_all}
 use Rattle.rb_core.specs.declared.value.Value.{Value}
@@ -58,27 +59,28 @@ row_plain types tys ps = all_of_types (map (is_plain types) ps) tys
 
 -- The search ----------------------------------------------------------------------------------
 
--- whether a vector is sought: it has these types, all wanted rows match it, and no unwanted one does
-abbrev pub sought : List DataDecl → List Ty → List (List Pat) → List (List Pat) → List Value → Bool
-sought types tys wanted unwanted vs = vector_of types tys vs && (all_rows wanted vs && not (any_row unwanted vs))
+-- whether the wanted rows are useful behind the unwanted ones by this vector: it has these types, all wanted rows
+-- match it, and no unwanted one does
+abbrev pub useful_by : List DataDecl → List Ty → List (List Pat) → List (List Pat) → List Value → Bool
+useful_by types tys wanted unwanted vs = vector_of types tys vs && (all_rows wanted vs && not (any_row unwanted vs))
 
--- a row of plain patterns of these types, such that all vectors of these types that it matches are sought, and it
--- matches one
+-- a row of plain patterns of these types: by each vector of these types that it matches, the wanted rows are useful
+-- behind the unwanted ones, and it matches one
 pub record RowIsFound (types : List DataDecl) (tys : List Ty) (wanted unwanted : List (List Pat))
     (row : List Pat) : Type 0 where
   pub plain : row_plain types tys row ≡ true
   pub value : List Value
   pub matched : row_matches row value ≡ true
-  pub found : sought types tys wanted unwanted value ≡ true
+  pub found : useful_by types tys wanted unwanted value ≡ true
   pub all : (vs : List Value) → vector_of types tys vs ≡ true → row_matches row vs ≡ true
-      → sought types tys wanted unwanted vs ≡ true
+      → useful_by types tys wanted unwanted vs ≡ true
 
--- no vector is sought
-abbrev pub IsNowhere : List DataDecl → List Ty → List (List Pat) → List (List Pat) → Type 0
-IsNowhere types tys wanted unwanted = (vs : List Value) → sought types tys wanted unwanted vs ≡ false
+-- the wanted rows are useless behind the unwanted ones: by no vector they are useful
+abbrev pub AreUseless : List DataDecl → List Ty → List (List Pat) → List (List Pat) → Type 0
+AreUseless types tys wanted unwanted = (vs : List Value) → useful_by types tys wanted unwanted vs ≡ false
 
--- what a search answers: None where no vector is sought, and else a row of plain patterns that matches sought
--- vectors alone, and one at least
+-- what a search answers: None where the wanted rows are useless behind the unwanted ones, and else a row of plain
+-- patterns that matches, of the vectors of these types, only such as they are useful by, and one at least
 abbrev pub IsSearchAnswer : List DataDecl → List Ty → List (List Pat) → List (List Pat) → Option (List Pat) → Type 0
-IsSearchAnswer types tys wanted unwanted None = IsNowhere types tys wanted unwanted
+IsSearchAnswer types tys wanted unwanted None = AreUseless types tys wanted unwanted
 IsSearchAnswer types tys wanted unwanted (Some row) = RowIsFound types tys wanted unwanted row

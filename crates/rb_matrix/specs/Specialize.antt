@@ -1,9 +1,10 @@
--- The specialised matrix S of a head and the default matrix D, both on the first column, as Maranget defines them. Of
--- the vectors of the columns' types whose first value begins with the head, a pattern matrix matches those that S
--- matches once that value is replaced by its subvalues. Of the vectors whose first value begins with no head of the
--- first column, it matches those that D matches without that value. A row's image is what becomes of the row in S or
--- in D; a row without an image, for which None stands, is left out. Rows need not be typed. A layer is the outermost
--- node of a pattern, with its subpatterns below it.
+-- The specialised matrix S of a head and the default matrix D, both on the first column, as Maranget defines them. A
+-- head is a number or a constructor with which a pattern or a value begins. Of the vectors of the columns' types whose
+-- first value begins with the head, a pattern matrix matches those that S matches once that value is replaced by its
+-- subvalues. Of the vectors whose first value begins with no head of the first column, it matches those that D matches
+-- without that value. A row's image is what becomes of the row in S or in D; a row without an image, for which None
+-- stands, is left out. Rows need not be typed. A layer is the outermost node of a pattern, with its subpatterns below
+-- it.
 use Rattle.std.specs.Prelude.{◌≡◌, ℕ, List, [], ◌∷◌, ◌++◌, length, replicate, drop, true, false, ◌&&◌, ◌==◌, if◌then◌else◌, Option, Some, None, unwrap_or}
 use Rattle.rb_core.specs.declared.value.Value.{Value, out-Value}
 use Rattle.rb_core.specs.declared.types.ConRef.{ConRef}
@@ -18,7 +19,7 @@ use Rattle.rb_matrix.specs.declared.matrix.Matrix.{Matrix}
 use Rattle.rb_matrix.specs.Heads.{begins, unfolded, column_begins, column_fields}
 use Rattle.rb_matrix.specs.Rows.{any_row, vector_of}
 
--- a row of n wildcards, each with token number 0; the empty row for 0
+-- a row of n wildcards, each with token number 0, as it stands at no token of a file; the empty row for 0
 abbrev pub wilds : ℕ → List Pat
 wilds n = replicate n (Wild 0)
 

@@ -24,15 +24,15 @@ use rb_core::seq::Seq;
 use rb_core::types::{DataDecl, Ty};
 use std::alloc::{AllocError, Global};
 
-/// Why patterns are not found to match every value of a type: some value is not matched, or memory
-/// was wanting before that could be told.
+/// Why patterns are not found to match every value of a type: some value is not matched, or there
+/// was want of memory before that could be told.
 #[derive(Debug, Drop, thiserror::Error)]
 pub enum MatrixFault {
     /// This pattern matches a value of the type, and none of the values of the type that it matches
     /// is matched by one of the patterns.
     #[error("a value is not matched")]
     Missing(Pat),
-    /// Memory was wanting.
+    /// Want of memory.
     #[error("no memory")]
     Memory,
 }

@@ -9,7 +9,8 @@
 //! tells of the vectors that begin with it, with the subvalues of the first value in its place; the
 //! default matrix tells of those that begin with no head of the first column, without their first
 //! value. A row is useful behind others where it matches a vector that none of them does. All this
-//! is Maranget's.
+//! is Maranget's: "Warnings for pattern matching" (Journal of Functional Programming, 2007) and
+//! "Compiling pattern matching to good decision trees" (ML Workshop, 2008).
 //!
 //! One search serves all questions: for a vector of values that all wanted rows match and no
 //! unwanted one. Take lists, `Nil` or `Cons(u8, List)`, and a match of two of them with the rows
@@ -28,15 +29,15 @@
 //! The first line has a complete signature, so each head has its part; that of `Nil` is not made
 //! here, since that of `Cons` has an answer. The second line is the specialised matrix of `Cons`,
 //! each one below it the default matrix of the one above. In the second and the third no row begins
-//! with a head, so a wildcard is the pattern beside the heads; the fourth has an incomplete
-//! signature, `Nil` alone, and `Cons(_, _)` is beside it. The first two of these patterns become
+//! with a head, so a wildcard is absent from the signature; the fourth has an incomplete
+//! signature, `Nil` alone, from which `Cons(_, _)` is absent. The first two of these patterns become
 //! the fields of the `Cons` that the first line takes apart. The search keeps what is left in a
 //! list, so that it takes no deeper stack on wider or longer patterns, and makes the matrix of a
 //! head when its turn comes, so that it does not hold one for each head. Only patterns themselves
 //! are copied, compared, counted and dropped by recursion, to their own depth.
 //!
 //! The answers of [`find`], [`exhaust`], [`unreached`] and [`common`] speak of all values of the
-//! types. These calls, and [`pattern_beside`], need the types of a well numbered program, each of
+//! types. These calls, and [`absent_pattern`], need the types of a well numbered program, each of
 //! which has a value; the patterns need not be typed. [`specialize`] and [`default_rows`] make the
 //! two matrices of a matrix alone, and [`specialize_row`] and [`default_of_row`] what becomes of
 //! one row. [`are_apart`] looks at two patterns alone, without types: it finds some of the pairs
@@ -44,7 +45,6 @@
 #![tactic(auto)]
 
 mod apart;
-pub mod beside;
 pub mod coverage;
 pub mod heads;
 mod index;
@@ -59,13 +59,14 @@ mod problem;
 mod row;
 mod rows;
 pub mod search;
+pub mod signature;
 pub mod specialization;
 mod stack;
 mod witness;
 
 pub use apart::are_apart;
-pub use beside::pattern_beside;
 pub use coverage::{MatrixFault, common, exhaust, unreached};
 pub use matrix::{Head, Matrix};
 pub use search::find;
+pub use signature::absent_pattern;
 pub use specialization::{default_of_row, default_rows, specialize, specialize_row};

@@ -5,16 +5,17 @@
 
 ghost use Rattle.std.specs.Prelude.{◌≡◌, ◌+◌, ◌≤◌, ◌∷◌, ◌++◌, [], IfOk, OnOk, None};
 ghost use Rattle.rb_matrix.specs.declared.problem.Left.TheVariants.{Whole, ByHead};
-ghost use Rattle.rb_matrix.specs.Heads.{column_begins, first_head, some_head};
+ghost use Rattle.rb_matrix.specs.Heads.{column_begins, some_head};
+ghost use Rattle.rb_matrix.specs.inner.FirstHead.{first_head};
 ghost use Rattle.rb_matrix.specs.Search.{AreInhabited, IsTypeIn, AreTypesIn};
 ghost use Rattle.rb_matrix.specs.inner.Problems.{IsPartAt, step_of, with_column};
-ghost use Rattle.rb_matrix.specs.Beside.{IsBeside};
+ghost use Rattle.rb_matrix.specs.Signature.{IsAbsent};
 ghost use Rattle.rb_matrix.specs.inner.Left.{IsReady, IsSplit, wholes};
 
-use crate::beside::pattern_beside;
 use crate::matrix::Head;
 use crate::problem::{Branches, Left, Problem, Step};
 use crate::rows::{first_head_in, heads_in, into_default, into_specialized, special_copies};
+use crate::signature::absent_pattern;
 use crate::specialization::head_fields;
 use crate::stack::Stack;
 use rb_core::pattern::Pat;
@@ -213,7 +214,7 @@ pub fn next_part(
 }
 
 // The part of a problem for all values that begin with no head of its first column, of which
-// `beside` matches some. It is made of the problem itself, and its rows are those of the default
+// `absent` matches some. It is made of the problem itself, and its rows are those of the default
 // matrices. No wanted row begins with a head. None where there is no vector, since a wanted row has
 // no image in the default matrix, as an empty one has none.
 fn rest_part(
@@ -221,11 +222,11 @@ fn rest_part(
     types: &[DataDecl],
     ty: Ty,
     behind: Problem,
-    beside: Pat,
+    absent: Pat,
 ) -> Result<Option<Problem>, AllocError>
     requires lives { AreTypesIn types.now behind.tys }
     requires none { first_head behind.wanted ≡ None }
-    requires beside { IsBeside types.now ty (column_begins behind.unwanted) beside }
+    requires absent { IsAbsent types.now ty (column_begins behind.unwanted) absent }
     ensures { IfOk result (λ r. IsSplit types.now (Whole (with_column ty behind)) (wholes r)) }
 {
     let Problem {
@@ -240,7 +241,7 @@ fn rest_part(
         return Ok(None);
     }
     let unwanted = into_default(alloc, unwanted)?;
-    steps.push(Step::Front(beside))?;
+    steps.push(Step::Front(absent))?;
     Ok(Some(Problem {
         tys,
         wanted,
@@ -278,13 +279,13 @@ pub fn parts_of(
         return Ok(left);
     }
     let heads = heads_in(alloc, behind.unwanted.as_slice())?;
-    match pattern_beside(alloc, types, ty, heads.as_slice())? {
+    match absent_pattern(alloc, types, ty, heads.as_slice())? {
         None => {
             left.push(Left::ByHead(Branches { ty, behind, heads }))?;
             Ok(left)
         }
-        Some(beside) => {
-            let part = rest_part(alloc, types, ty, behind, beside)?;
+        Some(absent) => {
+            let part = rest_part(alloc, types, ty, behind, absent)?;
             add_part(&mut left, part)?;
             Ok(left)
         }

@@ -1,9 +1,10 @@
-//! The specialised matrix S of a head and the default matrix D, both on the first column. Of the
-//! vectors of the columns' types that begin with the head, a pattern matrix matches those that S
-//! matches once the first value is replaced by its subvalues; of the vectors that begin with no
-//! head of the first column, it matches those that D matches without the first value. A row's image
-//! is what becomes of the row in S or in D; a row without an image is left out. Rows need not be
-//! typed.
+//! The specialised matrix S of a head and the default matrix D, both on the first column. A head is
+//! a number or a constructor with which a pattern or a value begins; a vector begins with that of
+//! its first value. Of the vectors of the columns' types that begin with the head, a pattern matrix
+//! matches those that S matches once the first value is replaced by its subvalues; of the vectors
+//! that begin with no head of the first column, it matches those that D matches without the first
+//! value. A row's image is what becomes of the row in S or in D; a row without an image is left
+//! out. Rows need not be typed.
 
 ghost use Rattle.std.specs.Prelude.{◌≡◌, ◌∷◌, ◌++◌, List, length, drop, true, false, IfOk, OnOk, IsSome, slice_get, nat_lt, ◌^◌};
 ghost use Rattle.std.specs.Option.{option_copied};
@@ -19,8 +20,12 @@ use rb_core::seq::Seq;
 use rb_core::types::{DataDecl, Ty};
 use std::alloc::{AllocError, Global};
 
-// Copies patterns to the end of a row, in their order.
-fn push_all(alloc: Global, row: &mut Seq<Pat>, more: &[Pat]) -> Result<(), AllocError>
+/// Adds copies of patterns at the end of a row, in their order.
+///
+/// # Errors
+///
+/// Want of memory.
+pub fn push_patterns(alloc: Global, row: &mut Seq<Pat>, more: &[Pat]) -> Result<(), AllocError>
     ensures { OnOk result (row.new ≡ row.old ++ more.now) }
 {
     for pat in more {
@@ -29,7 +34,8 @@ fn push_all(alloc: Global, row: &mut Seq<Pat>, more: &[Pat]) -> Result<(), Alloc
     Ok(())
 }
 
-// A row of `count` wildcards, each with token number 0, and behind them copies of the patterns.
+// A row of `count` wildcards, and behind them copies of the patterns. A pattern bears the number of
+// the token at which it stands in a file; each of these wildcards bears 0, as it stands at none.
 fn wilds_before(alloc: Global, count: usize, rest: &[Pat]) -> Result<Seq<Pat>, AllocError>
     ensures { IfOk result (λ r. r ≡ wilds count ++ rest.now) }
 {
@@ -37,7 +43,7 @@ fn wilds_before(alloc: Global, count: usize, rest: &[Pat]) -> Result<Seq<Pat>, A
     for _i in 0..count {
         row.push(Pat::Wild(0))?;
     }
-    push_all(alloc, &mut row, rest)?;
+    push_patterns(alloc, &mut row, rest)?;
     Ok(row)
 }
 
@@ -46,7 +52,7 @@ fn joined(alloc: Global, first: &[Pat], rest: &[Pat]) -> Result<Seq<Pat>, AllocE
     ensures { IfOk result (λ r. r ≡ first.now ++ rest.now) }
 {
     let mut row = copy_patterns(alloc, first)?;
-    push_all(alloc, &mut row, rest)?;
+    push_patterns(alloc, &mut row, rest)?;
     Ok(row)
 }
 
@@ -287,7 +293,7 @@ pub fn specialize(
     head: &Head,
 ) -> Result<Matrix, AllocError>
     requires { IsSome (column_fields types.now matrix.now.tys head.now) }
-    ensures images { IfOk result (λ m. m ≡ specialized types.now head.now matrix.now) }
+    ensures specialized { IfOk result (λ m. m ≡ specialized types.now head.now matrix.now) }
 
     // A vector of the columns' types that begins with the head is matched exactly where it is
     // matched unfolded, and it is then a vector of the new columns' types.
@@ -309,7 +315,7 @@ pub fn specialize(
 ///
 /// Want of memory.
 pub fn default_rows(alloc: Global, matrix: &Matrix) -> Result<Matrix, AllocError>
-    ensures images { IfOk result (λ m. m ≡ defaulted matrix.now) }
+    ensures defaulted { IfOk result (λ m. m ≡ defaulted matrix.now) }
 
     // A vector whose first value has a head that stands nowhere in the first column is matched
     // exactly where its rest is.

@@ -13,8 +13,9 @@ use Rattle.rb_matrix.specs.declared.problem.Left.{Left}
 use Rattle.rb_matrix.specs.declared.problem.Left.TheVariants.{Whole, ByHead}
 use Rattle.rb_matrix.specs.declared.problem.Outcome.{Outcome}
 use Rattle.rb_matrix.specs.declared.problem.Outcome.TheVariants.{Solved, Split}
-use Rattle.rb_matrix.specs.Heads.{any_begins, first_head, some_head}
-use Rattle.rb_matrix.specs.Search.{AreTypesIn, sought}
+use Rattle.rb_matrix.specs.Heads.{any_begins, some_head}
+use Rattle.rb_matrix.specs.inner.FirstHead.{first_head}
+use Rattle.rb_matrix.specs.Search.{AreTypesIn, useful_by}
 use Rattle.rb_matrix.specs.inner.Problems.{closed_all, with_column, FoundIn, NoneIn, cost, part_cost}
 
 -- the problem whose branches these are: it stands in them without its first column's type
@@ -45,7 +46,7 @@ IsReady types (ByHead b) =
 abbrev pub NoneByHead : List DataDecl → Branches → Type 0
 NoneByHead types b =
     (v : Value) (vs : List Value) → any_begins b.heads (out-Value v) ≡ true
-    → sought types (parent b).tys b.behind.wanted b.behind.unwanted (v ∷ vs) ≡ false
+    → useful_by types (parent b).tys b.behind.wanted b.behind.unwanted (v ∷ vs) ≡ false
 
 -- what is left has no answer: no vector of the whole problem, or none that begins with one of the heads
 abbrev pub NoneOf : List DataDecl → Left → Type 0

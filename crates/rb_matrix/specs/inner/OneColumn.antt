@@ -1,6 +1,7 @@
--- Patterns as the rows of a pattern matrix of one column, and what a search in it answers. A vector is sought where
--- it has the columns' types, all wanted rows match it and no unwanted one does. A plain pattern is one of numbers,
--- constructors and wildcards. The first pattern of a list has number 0.
+-- Patterns as the rows of a pattern matrix of one column, and what a search in it answers. Wanted rows are useful
+-- behind unwanted ones by a vector where it has the columns' types, all wanted rows match it and no unwanted one does;
+-- they are useless where there is no such vector. A plain pattern is one of numbers, constructors and wildcards. The
+-- first pattern of a list has number 0.
 use Rattle.std.specs.Prelude.{ℕ, List, [], ◌∷◌, Bool, true, false, ◌||◌, Option, Some, None}
 use Rattle.rb_core.specs.declared.value.Value.{Value}
 use Rattle.rb_core.specs.declared.types.Ty.{Ty}
@@ -8,7 +9,7 @@ use Rattle.rb_core.specs.declared.types.DataDecl.{DataDecl}
 use Rattle.rb_core.specs.declared.pattern.Pat.{Pat}
 use Rattle.rb_core.specs.Matching.{matches_of, IsUnreached}
 use Rattle.rb_matrix.specs.Exhaust.{IsReached}
-use Rattle.rb_matrix.specs.Search.{RowIsFound, IsNowhere}
+use Rattle.rb_matrix.specs.Search.{RowIsFound, AreUseless}
 
 -- the patterns, in their order, each as a row of its own
 abbrev pub one_each : List Pat → List (List Pat)
@@ -26,8 +27,9 @@ abbrev pub IsReachAnswer : List DataDecl → Ty → List Pat → ℕ → Bool �
 IsReachAnswer types ty ps i true = IsReached types ty ps i
 IsReachAnswer types ty ps i false = IsUnreached types ty ps i
 
--- what a search over one column of this type answers: None where no vector is sought, and else the one pattern of a
--- row of plain patterns that matches sought vectors alone, and one at least
+-- what a search over one column of this type answers: None where the wanted rows are useless, and else the one
+-- pattern of a row of plain patterns that matches, of the vectors of this type, only such as they are useful by, and
+-- one at least
 abbrev pub IsOneAnswer : List DataDecl → Ty → List (List Pat) → List (List Pat) → Option Pat → Type 0
-IsOneAnswer types ty wanted unwanted None = IsNowhere types (ty ∷ []) wanted unwanted
+IsOneAnswer types ty wanted unwanted None = AreUseless types (ty ∷ []) wanted unwanted
 IsOneAnswer types ty wanted unwanted (Some q) = RowIsFound types (ty ∷ []) wanted unwanted (q ∷ [])

@@ -18,7 +18,7 @@ use Rattle.rb_matrix.specs.declared.problem.Step.TheVariants.{Front, Fold}
 use Rattle.rb_matrix.specs.declared.problem.Problem.{Problem}
 use Rattle.rb_matrix.specs.Counts.{rows_heads}
 use Rattle.rb_matrix.specs.Heads.{begins}
-use Rattle.rb_matrix.specs.Search.{AreTypesIn, sought, RowIsFound, IsNowhere}
+use Rattle.rb_matrix.specs.Search.{AreTypesIn, useful_by, RowIsFound, AreUseless}
 
 -- The way from the root: how a row for a problem becomes one for its parent -------------------------
 
@@ -54,13 +54,13 @@ FoundIn types p row = RowIsFound types p.tys p.wanted p.unwanted row
 
 -- there is no vector that a problem asks for
 abbrev pub NoneIn : List DataDecl → Problem → Type 0
-NoneIn types p = IsNowhere types p.tys p.wanted p.unwanted
+NoneIn types p = AreUseless types p.tys p.wanted p.unwanted
 
 -- there is no vector of these types, the first column's and the others', that begins with the head, and that all
 -- wanted rows of the problem match and no unwanted one
 abbrev pub NoneBy : List DataDecl → Ty → List Ty → Problem → Head → Type 0
 NoneBy types ty ts p h =
-    (v : Value) (vs : List Value) → begins h v ≡ true → sought types (ty ∷ ts) p.wanted p.unwanted (v ∷ vs) ≡ false
+    (v : Value) (vs : List Value) → begins h v ≡ true → useful_by types (ty ∷ ts) p.wanted p.unwanted (v ∷ vs) ≡ false
 
 -- How much is left --------------------------------------------------------------------------------
 

@@ -4,8 +4,9 @@ use Rattle.rb_core.specs.declared.value.Value.TheOpen.{Value-F}
 use Rattle.rb_matrix.specs.declared.matrix.Head.{Head}
 use Rattle.rb_matrix.specs.declared.problem.Left.{Left}
 use Rattle.rb_matrix.specs.declared.problem.Left.TheVariants.{Whole, ByHead}
-use Rattle.rb_matrix.specs.Heads.{any_begins, column_begins, first_head}
-use Rattle.rb_matrix.specs.Beside.{IsBesideAnswer}
+use Rattle.rb_matrix.specs.Heads.{any_begins, column_begins}
+use Rattle.rb_matrix.specs.inner.FirstHead.{first_head}
+use Rattle.rb_matrix.specs.Signature.{IsAbsentAnswer}
 use Rattle.rb_matrix.specs.Counts.{rows_heads}
 use Rattle.rb_matrix.specs.inner.Problems.{with_column}
 use Rattle.rb_matrix.specs.inner.Left.{IsSplit}
@@ -25,7 +26,7 @@ returns-in-Some c =
 pub returns-in_ok-push-in-None : goal.returns-in_ok-push-in-None
 returns-in_ok-push-in-None c =
     let branches : Left = ByHead (record { ty = c.args.ty; behind = c.args.behind; heads = c.in_ok-heads.heads }) in
-    let every = subst (IsBesideAnswer c.args.types.now c.args.ty c.as_slice-3.result.now) c.in-None.is c.in_ok-pattern_beside.ensures.answer in
+    let every = subst (IsAbsentAnswer c.args.types.now c.args.ty c.as_slice-3.result.now) c.in-None.is c.in_ok-absent_pattern.ensures.answer in
     let same : (l : Value-F Value) → any_begins c.as_slice-3.result.now l ≡ column_begins c.args.behind.unwanted l =
     (λ l. ap (λ hs. any_begins hs l) c.as_slice-3.ensures ∙ c.in_ok-heads.ensures.heads l ∙ ap (λ rows. column_begins rows l) c.as_slice-2.ensures) in
     let rows = ap rows_heads c.as_slice-2.ensures in let few = c.in_ok-heads.ensures.few in

@@ -10,6 +10,6 @@ returns-then-len-count c =
 
 pub returns : goal.returns
 returns c =
-    rest-split c.args.types.now c.args.ty c.args.behind.tys (with_column c.args.ty c.args.behind) refl c.args.beside c.requires.none c.requires.beside c.requires.lives
+    rest-split c.args.types.now c.args.ty c.args.behind.tys (with_column c.args.ty c.args.behind) refl c.args.absent c.requires.none c.requires.absent c.requires.lives
     (record { tys = c.args.behind.tys; wanted = c.in_ok-wanted.wanted; unwanted = c.in_ok-unwanted.unwanted; steps = c.push.new.self })
     refl c.in_ok-wanted.ensures c.in_ok-unwanted.ensures (omega arith) c.in_ok-push.ensures.ok

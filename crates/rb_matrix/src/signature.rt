@@ -1,12 +1,12 @@
-//! A pattern beside the heads of a column, which matches only values that begin with none of them.
-//! A head is a number or a constructor. There is such a pattern where the heads are what Maranget
-//! calls an incomplete signature, and none where they are a complete one: where each value of the
-//! column's type begins with one of them.
+//! Signatures, complete and incomplete, as Maranget calls them. A head is a number or a constructor
+//! with which a value begins. Heads of a column are a complete signature where each value of the
+//! column's type begins with one of them. From an incomplete one a pattern is absent, which matches
+//! only values that begin with none of the heads.
 
 ghost use Rattle.std.specs.Prelude.{◌≡◌, ◌+◌, ◌^◌, ◌<◌, ◌≤◌, ℕ, [], IfOk, IfSome, MatchOption, true, false};
 ghost use Rattle.rb_core.specs.declared.value.Value.TheOpen as Layers;
 ghost use Rattle.rb_core.specs.declared.types.Ty.TheVariants as Tys;
-ghost use Rattle.rb_matrix.specs.Beside.{IsFirstCon, IsFirstBeside, IsBesideAnswer};
+ghost use Rattle.rb_matrix.specs.Signature.{IsFirstCon, IsFirstAbsent, IsAbsentAnswer};
 ghost use Rattle.rb_matrix.specs.Heads.{any_begins};
 ghost use Rattle.rb_matrix.specs.Search.{AreInhabited, IsTypeIn};
 ghost use Rattle.rb_matrix.specs.Specialize.{wilds};
@@ -18,8 +18,8 @@ use rb_core::seq::Seq;
 use rb_core::types::{Con, ConRef, DataDecl, Ty};
 use std::alloc::{AllocError, Global};
 
-// The greatest number of an integer type of so many bits, up to 64.
-fn greatest(bits: u8) -> u64
+/// The greatest number of an integer type of so many bits, up to 64; 0 of no bits.
+pub fn greatest(bits: u8) -> u64
     requires { bits ≤ 64 }
     ensures { result + 1 ≡ 2 ^ bits }
 {
@@ -68,7 +68,7 @@ fn missing_con(heads: &[Head], ty: u32, count: usize) -> Option<u32>
     None
 }
 
-// A row of `count` wildcards, each with token number 0.
+// A row of `count` wildcards. Each bears token number 0, since it stands at no token of a file.
 fn wildcards(alloc: Global, count: usize) -> Result<Seq<Pat>, AllocError>
     ensures { IfOk result (λ r. r ≡ wilds count) }
 {
@@ -81,14 +81,14 @@ fn wildcards(alloc: Global, count: usize) -> Result<Seq<Pat>, AllocError>
 
 // The first constructor of data type `t` that is not among the heads, with a wildcard for each
 // field; None where all of them are, or where there is no such data type.
-fn con_beside(
+fn absent_con(
     alloc: Global,
     types: &[DataDecl],
     t: u32,
     heads: &[Head],
 ) -> Result<Option<Pat>, AllocError>
     requires { AreInhabited types.now }
-    ensures answer { IfOk result (λ r. IsBesideAnswer types.now (Tys.Named t) heads.now r) }
+    ensures answer { IfOk result (λ r. IsAbsentAnswer types.now (Tys.Named t) heads.now r) }
     ensures first { IfOk result (λ r. IfSome r (IsFirstCon types.now t heads.now)) }
 {
     if t as usize >= types.len() {
@@ -106,15 +106,16 @@ fn con_beside(
     }
 }
 
-/// A pattern that has a value of the type, none of whose values begins with one of the heads; None
-/// where they are a complete signature, so that each value of the type begins with one. Where there
-/// is no head it is a wildcard, and else the least number or the first constructor that is not
-/// among them, with wildcards for its fields.
+/// A pattern that is absent from the heads, where they are an incomplete signature: it matches a
+/// value of the type, and none that begins with one of the heads. None where they are a complete
+/// signature, so that each value of the type begins with one. Where there is no head it is a
+/// wildcard, and else the least number or the first constructor that is not among them, with
+/// wildcards for its fields.
 ///
 /// # Errors
 ///
 /// Want of memory.
-pub fn pattern_beside(
+pub fn absent_pattern(
     alloc: Global,
     types: &[DataDecl],
     ty: Ty,
@@ -122,8 +123,8 @@ pub fn pattern_beside(
 ) -> Result<Option<Pat>, AllocError>
     requires inhabited { AreInhabited types.now }
     requires live { IsTypeIn types.now ty }
-    ensures answer { IfOk result (λ r. IsBesideAnswer types.now ty heads.now r) }
-    ensures first { IfOk result (λ r. IfSome r (IsFirstBeside types.now ty heads.now)) }
+    ensures answer { IfOk result (λ r. IsAbsentAnswer types.now ty heads.now r) }
+    ensures first { IfOk result (λ r. IfSome r (IsFirstAbsent types.now ty heads.now)) }
 {
     if heads.is_empty() {
         return Ok(Some(Pat::Wild(0)));
@@ -134,8 +135,8 @@ pub fn pattern_beside(
             Some(number) => Ok(Some(Pat::Num(0, number))),
         },
         Ty::Named(t) => {
-            let beside = con_beside(alloc, types, t, heads)?;
-            Ok(beside)
+            let absent = absent_con(alloc, types, t, heads)?;
+            Ok(absent)
         }
     }
 }

@@ -2,17 +2,17 @@ use Rattle.std.proofs.Common.{◌≡◌, ◌∙◌, ◌==◌, true, refl, sym, a
 use Rattle.std.proofs.lemmas.Bool.{eqb-true, false≢true}
 use Rattle.rb_core.specs.declared.pattern.Pat as Pats
 use Rattle.rb_core.specs.Values.{is_of_type}
-use Rattle.rb_matrix.specs.Beside.{IsFirstBeside, IsBeside}
+use Rattle.rb_matrix.specs.Signature.{IsFirstAbsent, IsAbsent}
 use Rattle.rb_matrix.specs.Heads.{any_begins}
 use Rattle.rb_matrix.specs.Search.{IsTypeIn}
-use Rattle.rb_matrix.proofs.BesideFirst.{none-first, number-first}
+use Rattle.rb_matrix.proofs.FirstAbsent.{none-first, number-first}
 use Rattle.rb_matrix.proofs.Inhabited.{wide}
-use Rattle.rb_matrix.proofs.Besides.{NumberAnswer, wild-beside, numbers-all, number-beside, none-of_length}
-use Rattle.rb_matrix.proofs.beside.pattern_beside.Goals as goal
+use Rattle.rb_matrix.proofs.Absent.{NumberAnswer, wild-absent, numbers-all, number-absent, none-of_length}
+use Rattle.rb_matrix.proofs.signature.absent_pattern.Goals as goal
 
 pub returns-then-is_empty-clause-answer : goal.returns-then-is_empty-clause-answer
 returns-then-is_empty-clause-answer c =
-    wild-beside c.args.types.now c.requires.inhabited c.args.ty c.args.heads.now c.requires.live
+    wild-absent c.args.types.now c.requires.inhabited c.args.ty c.args.heads.now c.requires.live
     (none-of_length c.args.heads.now (eqb-true _ _ (sym c.is_empty.ensures ∙ c.if-is_empty.true)))
 
 pub returns-in-None-clause-answer : goal.returns-in-None-clause-answer
@@ -24,8 +24,8 @@ returns-in-None-clause-answer c = λ v of.
 pub returns-in-Some-clause-answer : goal.returns-in-Some-clause-answer
 returns-in-Some-clause-answer c =
     let least = subst (NumberAnswer c.args.heads.now c.greatest.result) c.in-Some.is c.in_ok-least_missing-in-Int.ensures in
-    subst (λ t. IsBeside c.args.types.now t (any_begins c.args.heads.now) (Pats.Num 0 c.in-Some.number)) (sym c.in-Int.is)
-    (number-beside c.args.types.now c.in-Int.bits c.in-Some.number c.args.heads.now (omega (arith, c.greatest.ensures, least.0)) least.1)
+    subst (λ t. IsAbsent c.args.types.now t (any_begins c.args.heads.now) (Pats.Num 0 c.in-Some.number)) (sym c.in-Int.is)
+    (number-absent c.args.types.now c.in-Int.bits c.in-Some.number c.args.heads.now (omega (arith, c.greatest.ensures, least.0)) least.1)
 
 pub greatest-requires : goal.greatest-requires
 greatest-requires c = wide c.args.types.now c.in-Int.bits (subst (IsTypeIn c.args.types.now) c.in-Int.is c.requires.live)
@@ -38,7 +38,7 @@ returns-then-is_empty-clause-first c =
 pub returns-in-Some-clause-first : goal.returns-in-Some-clause-first
 returns-in-Some-clause-first c =
     let least = subst (NumberAnswer c.args.heads.now c.greatest.result) c.in-Some.is c.in_ok-least_missing-in-Int.ensures in
-    subst (λ t. IsFirstBeside c.args.types.now t c.args.heads.now (Pats.Num 0 c.in-Some.number)) (sym c.in-Int.is)
+    subst (λ t. IsFirstAbsent c.args.types.now t c.args.heads.now (Pats.Num 0 c.in-Some.number)) (sym c.in-Int.is)
     (number-first c.args.types.now c.in-Int.bits c.args.heads.now (Pats.Num 0 c.in-Some.number)
     (λ none. false≢true (sym (sym c.is_empty.ensures ∙ c.if-is_empty.false) ∙ ap (λ n. n == 0) none))
     (c.in-Some.number, refl, record { out = least.1; before = least.2 }))

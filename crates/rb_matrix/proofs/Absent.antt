@@ -1,4 +1,4 @@
--- Patterns beside the heads of a column.
+-- Patterns that are absent from the heads of a column.
 use Rattle.std.proofs.Common.{◌≡◌, ℕ, ◌^◌, ◌<◌, ◌≤◌, List, [], ◌∷◌, map, length, true, false, ◌&&◌, ◌==◌, Option, Some, None, refl, sym, ap, ◌∙◌, arith, subst, inl, inr}
 use Rattle.std.specs.Prelude.{slice_get, MatchOption}
 use Rattle.std.proofs.lemmas.Bool.{false≢true, eqb-true, eq-eqb, lt-ltb, ltb-true, cases_lt}
@@ -20,7 +20,7 @@ use Rattle.rb_matrix.specs.Heads.{any_begins}
 use Rattle.rb_matrix.specs.Rows.{row_matches, vector_of}
 use Rattle.rb_matrix.specs.Specialize.{wilds}
 use Rattle.rb_matrix.specs.Search.{IsTypeIn, AreTypesIn, AreInhabited, is_plain}
-use Rattle.rb_matrix.specs.Beside.{IsBeside}
+use Rattle.rb_matrix.specs.Signature.{IsAbsent}
 use Rattle.rb_matrix.proofs.Laws.{wild-matches, row-wilds}
 use Rattle.rb_matrix.proofs.HeadLemmas.{any_begins-con}
 use Rattle.rb_matrix.proofs.Inhabited.{out-num, live, lives, con-types}
@@ -36,8 +36,8 @@ NumberAnswer hs most r = MatchOption r ((m : ℕ) → m ≤ most → any_begins 
 
 module _ (types : List DataDecl) where
   -- no head at all
-  pub wild-beside : AreInhabited types → (t : Ty) (hs : List Head) → IsTypeIn types t → hs ≡ [] → IsBeside types t (any_begins hs) (Wild 0)
-  wild-beside i t hs h none = let v = live types i t h in record {
+  pub wild-absent : AreInhabited types → (t : Ty) (hs : List Head) → IsTypeIn types t → hs ≡ [] → IsAbsent types t (any_begins hs) (Wild 0)
+  wild-absent i t hs h none = let v = live types i t h in record {
     plain = wild-plain types t;
     value = v.0;
     typed = v.1;
@@ -52,8 +52,8 @@ module _ (types : List DataDecl) where
         let same = eqb-true n m (sym (num-matches 0 n v ∙ ap (is_number n) is) ∙ e) in ap (λ i. any_begins hs (V.Num i)) (sym same) ∙ gone
     number-apart v (V.Con k us) is e = absurd (false≢true (sym (num-matches 0 n v ∙ ap (is_number n) is) ∙ e))
 
-    pub number-beside : IsBeside types (Int bits) (any_begins hs) (Pats.Num 0 n)
-    number-beside = record {
+    pub number-absent : IsAbsent types (Int bits) (any_begins hs) (Pats.Num 0 n)
+    number-absent = record {
       plain = num-plain types n bits ∙ lt-ltb n (2 ^ bits) fits;
       value = Num n;
       typed = num-of_int types (Num n) n bits (out-num n) ∙ lt-ltb n (2 ^ bits) fits;
@@ -92,8 +92,8 @@ module _ (types : List DataDecl) where
         let same = eqb-true k j (and-left (k == j) (row_matches (wilds (length fs)) ws) first) in
         any_begins-con hs j ws ∙ ap (λ i. any_begins hs (V.Con i [])) (sym same) ∙ gone
 
-    con-beside_all : IsBeside types (Named t) (any_begins hs) q
-    con-beside_all = record {
+    con-absent_all : IsAbsent types (Named t) (any_begins hs) q
+    con-absent_all = record {
       plain = con-plain types t k (wilds (length fs)) ∙ ap (are_of (map (is_plain types) (wilds (length fs)))) fields ∙ wilds-plain types fs;
       value = Con k us;
       typed = con-of types (Con k us) k us t (outs-Con k us) ∙ ap (are_of (map (is_of_type types) us)) fields ∙ us-of;
@@ -102,8 +102,8 @@ module _ (types : List DataDecl) where
       apart = λ v of e. con-apart v (out-Value v) refl e;
     }
 
-    pub con-beside : (whole : Pat) (ws : List Pat) → whole ≡ Pats.Con 0 c ws → ws ≡ wilds (length fs) → IsBeside types (Named t) (any_begins hs) whole
-    con-beside whole ws is are = subst (IsBeside types (Named t) (any_begins hs)) (sym (is ∙ ap (λ l. Pats.Con 0 c l) are)) con-beside_all
+    pub con-absent : (whole : Pat) (ws : List Pat) → whole ≡ Pats.Con 0 c ws → ws ≡ wilds (length fs) → IsAbsent types (Named t) (any_begins hs) whole
+    con-absent whole ws is are = subst (IsAbsent types (Named t) (any_begins hs)) (sym (is ∙ ap (λ l. Pats.Con 0 c l) are)) con-absent_all
 
   -- a constructor's fields, where the program has it
   abbrev fields_or : List Ty → Option (List Ty) → List Ty

@@ -5,8 +5,8 @@ use Rattle.rb_core.specs.declared.pattern.Pat as Pats
 use Rattle.rb_core.specs.Values.{fields_in, fields_of_con}
 use Rattle.rb_matrix.specs.Specialize.{wilds}
 use Rattle.rb_matrix.proofs.Inhabited.{con-count}
-use Rattle.rb_matrix.proofs.Besides.{no-type, cons-all, con-beside, fields-live}
-use Rattle.rb_matrix.proofs.beside.con_beside.Goals as goal
+use Rattle.rb_matrix.proofs.Absent.{no-type, cons-all, con-absent, fields-live}
+use Rattle.rb_matrix.proofs.signature.absent_con.Goals as goal
 
 pub returns-then-t-types-clause-answer : goal.returns-then-t-types-clause-answer
 returns-then-t-types-clause-answer c = λ v of. absurd (no-type c.args.types.now c.args.t (slice_get_past _ _ c.if-t-types.true) v of)
@@ -27,7 +27,7 @@ returns-in_ok-pats-in-Some-clause-answer c =
     let decl : slice_get c.args.types.now c.args.t ≡ Some c.index-types-t.result = slice_get_read c.args.types.now _ c.args.t c.index-types-t.result refl (omega arith) c.index-types-t.is in
     let con : slice_get c.as_slice-cons.result.now c.in-Some.con ≡ Some c.index-cons-con.result = slice_get_read c.as_slice-cons.result.now _ c.in-Some.con c.index-cons-con.result refl c.in-Some.ensures.0 c.index-cons-con.is in
     let fields = ap (λ d. fields_in d c.in-Some.con) decl ∙ ap (λ l. fields_of_con (slice_get l c.in-Some.con)) (sym c.as_slice-cons.ensures) ∙ ap fields_of_con con in
-    con-beside c.args.types.now c.args.t c.in-Some.con c.index-cons-con.result.fields c.args.heads.now fields c.requires
+    con-absent c.args.types.now c.args.t c.in-Some.con c.index-cons-con.result.fields c.args.heads.now fields c.requires
     (fields-live c.args.types.now c.requires c.args.t c.in-Some.con c.index-cons-con.result.fields fields) c.in-Some.ensures.1 _ c.in_ok-pats-in-Some.pats refl
     (c.in_ok-pats-in-Some.ensures ∙ ap wilds c.len.ensures)
 

@@ -1,8 +1,8 @@
--- Patterns beside heads. A head is a number or a constructor with which a value begins. Where some value of a type
--- begins with none of some heads, the heads are what Maranget calls an incomplete signature; where each begins with
--- one, they are a complete one. A pattern beside heads matches only values that begin with none of them. Which of
--- these patterns is given is told here. A plain pattern is one of numbers, constructors and wildcards. A layer is the
--- outermost node of a value, with its subvalues below it.
+-- Signatures, complete and incomplete, as Maranget calls them. A head is a number or a constructor with which a value
+-- begins. Heads are a complete signature of a type where each value of the type begins with one of them. They are an
+-- incomplete one where some value begins with none: a pattern is absent from it then, one that matches only values
+-- that begin with none of the heads. Which of these patterns is given is told here. A plain pattern is one of numbers,
+-- constructors and wildcards. A layer is the outermost node of a value, with its subvalues below it.
 use Rattle.std.specs.Prelude.{◌≡◌, ℕ, ◌<◌, List, [], ◌∷◌, length, Bool, true, false, Option, Some, None, slice_get}
 use Rattle.rb_core.specs.declared.value.Value.{Value, out-Value}
 use Rattle.rb_core.specs.declared.value.Value.TheOpen as V
@@ -36,24 +36,25 @@ IsFirstCon types t hs q =
     × (q ≡ Pats.Con 0 (record { ty = t; con = k }) (wilds (length ts)))
     × IsFirstOut (λ c. any_begins hs (V.Con c [])) k
 
--- the pattern beside heads that is given: a wildcard where there is no head, and else the least number or the first
--- constructor that is none of them
-abbrev pub IsFirstBeside : List DataDecl → Ty → List Head → Pat → Type 0
-IsFirstBeside types ty [] q = q ≡ Pats.Wild 0
-IsFirstBeside types (Int bits) (h ∷ hs) q = IsLeastNumber (h ∷ hs) q
-IsFirstBeside types (Named t) (h ∷ hs) q = IsFirstCon types t (h ∷ hs) q
+-- the absent pattern that is given: a wildcard where there is no head, and else the least number or the first
+-- constructor that is none of the heads
+abbrev pub IsFirstAbsent : List DataDecl → Ty → List Head → Pat → Type 0
+IsFirstAbsent types ty [] q = q ≡ Pats.Wild 0
+IsFirstAbsent types (Int bits) (h ∷ hs) q = IsLeastNumber (h ∷ hs) q
+IsFirstAbsent types (Named t) (h ∷ hs) q = IsFirstCon types t (h ∷ hs) q
 
--- a plain pattern that matches a value of the type, and no value of the type that begins in one of some ways, which
--- are given by a test of a value's layer
-pub record IsBeside (types : List DataDecl) (ty : Ty) (begun : Value-F Value → Bool) (q : Pat) : Type 0 where
+-- a pattern that is absent: it is plain and matches a value of the type, and no value of the type that begins in one
+-- of some ways, which are given by a test of a value's layer
+pub record IsAbsent (types : List DataDecl) (ty : Ty) (begun : Value-F Value → Bool) (q : Pat) : Type 0 where
   pub plain : is_plain types q ty ≡ true
   pub value : Value
   pub typed : is_of_type types value ty ≡ true
   pub matched : matches_of q value ≡ true
   pub apart : (v : Value) → is_of_type types v ty ≡ true → matches_of q v ≡ true → begun (out-Value v) ≡ false
 
--- None where each value of the type begins with one of the heads, so that they are a complete signature, and else a
--- plain pattern that matches a value of the type, and none that begins with one of the heads
-abbrev pub IsBesideAnswer : List DataDecl → Ty → List Head → Option Pat → Type 0
-IsBesideAnswer types ty hs None = (v : Value) → is_of_type types v ty ≡ true → any_begins hs (out-Value v) ≡ true
-IsBesideAnswer types ty hs (Some q) = IsBeside types ty (any_begins hs) q
+-- what is answered of heads: None where each value of the type begins with one of them, so that they are a complete
+-- signature, and else a pattern that is absent: it is plain and matches a value of the type, and none that begins with
+-- one of the heads
+abbrev pub IsAbsentAnswer : List DataDecl → Ty → List Head → Option Pat → Type 0
+IsAbsentAnswer types ty hs None = (v : Value) → is_of_type types v ty ≡ true → any_begins hs (out-Value v) ≡ true
+IsAbsentAnswer types ty hs (Some q) = IsAbsent types ty (any_begins hs) q
