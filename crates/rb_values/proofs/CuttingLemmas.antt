@@ -4,7 +4,7 @@ use Rattle.std.specs.Fmt.{decimal}
 use Rattle.std.specs.Char.{is_ascii_digit, is_ascii_uppercase, is_ascii_alphabetic}
 use Rattle.std.specs.Int.{is_in_range}
 use Rattle.std.specs.List.{list_all, prefix_len}
-use Rattle.std.proofs.lemmas.Bool.{leb-true, le-leb}
+use Rattle.std.proofs.lemmas.Bool.{leb-true}
 use Rattle.std.proofs.lemmas.Grind.{common_steps}
 use Rattle.rb_core.specs.Decimal.{is_numeral, number_in}
 use Rattle.rb_core.specs.WellNumbered.{is_upper, is_capital, is_word_byte, either}
@@ -139,10 +139,6 @@ shows-comma at from rest ss e next =
 abbrev pub Stops : List ℕ → Type 0
 Stops rest = prefix_len is_word_byte rest ≡ 0
 
-or-cases : (a b : Bool) (P : Type 0) → (a ≡ true → P) → (b ≡ true → P) → (a || b) ≡ true → P
-or-cases true b P f g e = f refl
-or-cases false b P f g e = g e
-
 in-range : (low high b : ℕ) → is_in_range low high b ≡ true → low ≤ b
 in-range low high b e = leb-true low b (both (nat_le low b) (nat_le b high) e).0
 
@@ -187,10 +183,6 @@ run-at b bs rest all stops =
 or-left : (a b : Bool) → a ≡ true → (a || b) ≡ true
 or-left true b e = refl
 or-left false b e = cc
-
-or-right : (a b : Bool) → b ≡ true → (a || b) ≡ true
-or-right true b e = refl
-or-right false b e = e
 
 capital-piece : (b : ℕ) (bs : List ℕ) → is_capital b ≡ true → run_piece b (b ∷ bs) ≡ piece.Token (tok.Upper (b ∷ bs)) (length (b ∷ bs))
 unfolding run_piece name_token
@@ -245,10 +237,11 @@ numeral-piece [] rest n e v stops = let h : 0 < length {A = ℕ} [] = some-numer
 numeral-piece (d ∷ ds) rest n e v stops =
     run-at d ds rest (digit-words (d ∷ ds) (digits-numeral (d ∷ ds) e)) stops ∙ digits-piece d ds n e v
 
+within-max : (n : ℕ) → n < 2 ^ 64 → (nat_le 0 n && nat_le n (2 ^ 64 - 1)) ≡ true
+within-max n h = grind (arith, common_steps)
+
 number-decimal : (n : ℕ) → n < 2 ^ 64 → number_in 0 (2 ^ 64 - 1) (decimal n) ≡ Some n
-number-decimal n small =
-    let most : nat_le n (2 ^ 64 - 1) ≡ true = le-leb n (2 ^ 64 - 1) (omega (arith, small)) in
-    rw (numeral-decimal n small, value-decimal n small, most) refl
+number-decimal n small = rw (numeral-decimal n small, value-decimal n small, within-max n small) refl
 
 pub shows-number : (at from n : ℕ) (rest : List ℕ) (ss : List Sign) → n < 2 ^ 64 → Stops rest → from ≡ at + length (decimal n) → Shows from rest ss
     → Shows at (decimal n ++ rest) (sign.Number at n ∷ ss)

@@ -5,7 +5,8 @@ use Rattle.std.proofs.Math.ListN.{length-append}
 use Rattle.rb_core.specs.declared.value.Value.{Value, Num, Con}
 use Rattle.rb_values.specs.declared.nodes.Node.{Node}
 use Rattle.rb_values.specs.declared.nodes.Node.TheVariants.{Number, Build}
-use Rattle.rb_values.specs.Nodes.{at, children, value_of, values_from, IsBelow, AreBelow}
+use Rattle.rb_values.specs.Nodes.{at}
+use Rattle.rb_values.specs.inner.Linking.{children, value_of, values_from, IsBelow, AreBelow}
 
 zero-right : (n : ℕ) → n + 0 ≡ n
 zero-right n = omega arith

@@ -37,7 +37,7 @@ abbrev mutual
   terms_nodes none = 0
   terms_nodes (also t ts) = term_nodes t + terms_nodes ts
 
--- How a term is spelled, in front of what follows it: name, or name ( fields ) with commas between.
+-- How a term is spelled, in front of what follows it: a number, a name, or name ( fields ) with commas between.
 
 -- the signs of a term, with `rest` behind them
 abbrev mutual

@@ -1,4 +1,5 @@
 pub mod Finishing
+pub mod Linking
 pub mod Printing
 pub mod States
 pub mod Typing

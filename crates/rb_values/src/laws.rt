@@ -7,7 +7,8 @@ pub fn answers_once()
     ensures { AnswersOnce }
 {}
 
-/// The text of a value of a type is read as that value again, within the limit of nodes.
+/// The text of a value of a type is read as that value again, where its nodes, the numbers and
+/// constructors in it, are within the limit.
 pub fn printed_is_read_back()
     ensures { ReadsBack }
 {}
