@@ -1,4 +1,4 @@
--- What is read of words, as the definitions see it.
+-- What is read of the words of a command line, as the definitions see it.
 use Rattle.std.specs.Prelude.{ℕ, List}
 use Rattle.rb_command.specs.Command.{Command, Limits, IsUsageAt, check, layout, compile, run, image, count, gen, genrun, exec, value, peek}
 use Rattle.rb_command.specs.declared.command.Command as declared
@@ -25,8 +25,8 @@ command_view (form.Exec code function limits words) = exec code.now function.now
 command_view (form.Value file second) = value file.now second.now
 command_view (form.Peek file second path) = peek file.now second.now path
 
--- a fault that may be answered for words: the number of the first at fault, where they are no command, or want of
--- memory, which says nothing of them
+-- a fault that may be answered for the words of a command line: the number of the first at fault, where they are no
+-- command, or want of memory, which says nothing of them
 abbrev pub IsUsage : List (List ℕ) → CommandFault → Type 0
 IsUsage words (fault.Usage n) = IsUsageAt words n
 IsUsage words fault.Memory = Unit {0}

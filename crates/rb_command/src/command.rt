@@ -84,7 +84,7 @@ pub enum CommandFault {
     /// The first word at fault, counted from 1. It is one more than the words where a word is missing.
     #[error("words that are no command")]
     Usage(usize),
-    /// Memory ran out.
+    /// Want of memory.
     #[error("no memory")]
     Memory,
 }

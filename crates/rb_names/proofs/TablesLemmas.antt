@@ -15,14 +15,13 @@ use Rattle.rb_names.specs.declared.fault.NameFault.{NameFault}
 use Rattle.rb_names.specs.declared.tables.Tables.{Tables}
 use Rattle.rb_names.specs.declared.tables.Defining.{Defining}
 use Rattle.rb_names.specs.Tables.{Name, Table, meaning}
-use Rattle.rb_names.specs.inner.Defining.{defined}
+use Rattle.rb_names.specs.inner.Defining.{defined, AreKnown, AreAdded, IsAgain, made_again, with_rest}
 use Rattle.rb_names.specs.Definitions.{Definition, OfConstructor, first_again, constructor_definition, definitions, constructors_from, constructors_of, numbered_from, type_names, types_in, function_names, tables_of}
 use Rattle.rb_names.proofs.DefiningLemmas.{any-append, is_some-append, or-false, constructor-added, made-again}
 use Rattle.rb_names.proofs.ListLemmas.{drop-here}
 use Rattle.rb_names.specs.Numbering.{Resolved, and_then}
 use Rattle.rb_names.specs.Programs.{no_twice}
 use Rattle.rb_names.specs.Answers.{AnswersNumbering}
-use Rattle.rb_names.specs.inner.Defining.{AreKnown, AreAdded, IsAgain, made_again, with_rest}
 
 pub with_rest-end : (t : Tables) → with_rest t [] ≡ t
 with_rest-end t = rw (append-nil t.types, append-nil t.constructors, append-nil t.functions) refl

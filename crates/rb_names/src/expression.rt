@@ -5,9 +5,8 @@
 //! be want of memory.
 
 ghost use Rattle.std.specs.Prelude.{◌≡◌, ◌∷◌, map, OnOk};
-ghost use Rattle.rb_names.specs.inner.Parts.{AnswersFrom};
+ghost use Rattle.rb_names.specs.inner.Parts.{AnswersFrom, numbered_clause};
 ghost use Rattle.rb_names.specs.Numbering.{in_turn, numbered_expression};
-ghost use Rattle.rb_names.specs.inner.Parts.{numbered_clause};
 ghost use Rattle.rb_names.specs.inner.Frames.{scope_of};
 
 use crate::fault::{NameFault, known};

@@ -171,7 +171,7 @@ command_of words = with_word 1 words (λ w ws.
     if bytes_eq w (codes "value") then value_words ws else
     if bytes_eq w (codes "peek") then peek_words ws else Err 1)
 
--- the number of the first word at fault, as a parser answers it, or memory ran out
+-- the number of the first word at fault, as a parser answers it, or want of memory
 abbrev pub StopsAs : {A : Type 0} → Result A ℕ → CommandFault → Type 0
 StopsAs parsed (fault.Usage n) = parsed ≡ Err n
 StopsAs parsed fault.Memory = Unit {0}
