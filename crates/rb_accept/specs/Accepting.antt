@@ -8,6 +8,7 @@ use Rattle.rb_auto.specs.declared.fault.AutoFault.TheVariants as auto
 use Rattle.rb_check.specs.Covering.{IsCoverFault}
 use Rattle.rb_check.specs.declared.coverage.CoverFault.TheVariants.{Missing}
 use Rattle.rb_core.specs.Coverage.{AreExhaustive, sites_of}
+use Rattle.rb_core.specs.Limits.{most_levels}
 use Rattle.rb_core.specs.TypedPrograms.{IsTyped, IsFirstFault}
 use Rattle.rb_core.specs.declared.pattern.Pat.{Pat}
 use Rattle.rb_core.specs.declared.program.Program.{Program}
@@ -22,7 +23,7 @@ use Rattle.rb_lines.specs.Places.{byte_of}
 use Rattle.rb_lines.specs.Answer.{Due, refusal}
 use Rattle.rb_lines.specs.Lines.{begun, ended, no_memory_line}
 use Rattle.rb_lines.specs.declared.status.Status.TheVariants as status
-use Rattle.rb_lines.specs.FileLines.{at_byte, limit_line, unknown_line, twice_line, no_main_line, empty_line, mismatch_line, arity_line, missing_line, recursive_line, wide_line}
+use Rattle.rb_lines.specs.FileLines.{at_byte, limit_line, nesting_line, unknown_line, twice_line, no_main_line, empty_line, mismatch_line, arity_line, missing_line, recursive_line, wide_line}
 use Rattle.rb_names.specs.Completing.{IsCompleted}
 use Rattle.rb_names.specs.Programs.{numbered}
 use Rattle.rb_names.specs.declared.complete.Completed.{Completed}
@@ -93,7 +94,7 @@ lex_due lexing.Memory = refusal status.NoMemory no_memory_line
 -- what is due where the tokens are no file within its limits, in a file of so many bytes
 abbrev pub read_due : List Placed → ℕ → ReadFault → Due
 read_due placed size (reading.TooDeep t) =
-    refusal status.Limit (at_byte (codes "nesting over 128") (byte_of placed size t))
+    refusal status.Limit (nesting_line most_levels (byte_of placed size t))
 read_due placed size (reading.Syntax t) = refusal status.Syntax (at_byte (codes "syntax") (byte_of placed size t))
 read_due placed size (reading.Limit q count) = refusal status.Limit (limit_line q count)
 read_due placed size reading.Memory = refusal status.NoMemory no_memory_line

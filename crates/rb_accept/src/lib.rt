@@ -14,6 +14,29 @@
 //! flat forms the ten rules hold        else 3, by rule, type and leaf
 //! ```
 //!
+//! Take this file, which is accepted:
+//!
+//! ```text
+//! type Shape = Dot | Square(u8);
+//! layout Shape = packed;
+//! fun main(s: Shape): u8 = match s { Dot => 0, Square(n) => n };
+//! ```
+//!
+//! Its tokens are `type`, `Shape`, `=` and so on, each with its byte; they spell a tree of three items. In
+//! the program `Shape` is type 0 and `main` function 0; a layout of one word is derived for the type; the
+//! body is of type `u8`, as is asked; the match has a clause for each value; and the leaves of the layout
+//! obey the rules. With one part of the file written otherwise, a step refuses it, and no later one sees it:
+//!
+//! ```text
+//! tokens      Dot => 07             bad byte at byte 97
+//! tree        Square(n) => n;       syntax at byte 113
+//! program     Square(n) => m        unknown name m at byte 112
+//! layouts     u64 for both u8       layout of Shape: packed: 65 bits
+//! types       Square(n) => s        wanted u8, found Shape at byte 112
+//! matches     no clause of Dot      match at byte 79 misses Dot
+//! flat forms  no leaf of Dot        layout of Shape: A5: no leaf for Dot
+//! ```
+//!
 //! A layout that cannot be derived waits: the program without it is typed and covered first, so that the
 //! answer to a file with faults of both kinds is the one in the types.
 //!

@@ -16,6 +16,7 @@ ghost use Rattle.rb_accept.specs.Accepting as accepting;
 
 use rb_auto::AutoFault;
 use rb_check::TypeFault;
+use rb_core::limits::MOST_LEVELS;
 use rb_core::pattern::Pat;
 use rb_core::seq::Seq;
 use rb_core::typed::Covered;
@@ -81,7 +82,7 @@ pub fn refuse_tokens(
     match fault {
         ReadFault::TooDeep(token) => {
             let at = byte_of(placed, length, token);
-            let line = fault_line::at_byte(alloc, "nesting over 128", at)?;
+            let line = fault_line::nesting(alloc, MOST_LEVELS as u64, at)?;
             Ok(Refused {
                 status: Status::Limit,
                 line,

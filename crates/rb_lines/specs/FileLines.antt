@@ -35,6 +35,11 @@ limit_line q count =
     ended (begun (codes "limit ") ++ quantity_text q ++ codes ": " ++ decimal count ++ codes " over "
     ++ decimal (greatest q))
 
+-- the line of a text that nests over so many levels, and of the byte at which it does
+abbrev pub nesting_line : ℕ → ℕ → List ℕ
+nesting_line levels at =
+    ended (begun (codes "nesting over ") ++ decimal levels ++ codes " at byte " ++ decimal at)
+
 -- Names -------------------------------------------------------------------------------------
 
 -- the line of a name at a byte that stands for nothing

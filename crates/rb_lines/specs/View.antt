@@ -16,18 +16,18 @@ due_after steps c = refused c.status c.line.items steps
 abbrev pub due_of : Refused → Due
 due_of c = due_after 0 c
 
--- a refusal before anything ran meets a demand on what is due, or memory ran out
+-- a refusal before anything ran meets a demand on what is due, or it is want of memory
 abbrev pub IsRefusal : (Due → Type 0) → Refusal → Type 0
 IsRefusal P (refusal.Refused c) = P (due_of c)
 IsRefusal P refusal.Memory = Unit {0}
 
--- a refusal meets a demand on what is due with the steps counted between `before` and `now`, or memory ran out
+-- a refusal meets a demand on what is due with the steps counted between `before` and `now`, or it is want of memory
 abbrev pub MeetsRefused : (Due → Type 0) → ℕ → ℕ → Refusal → Type 0
 MeetsRefused P before now (refusal.Refused c) = (n : ℕ) × (now ≡ before + n) × P (due_after n c)
 MeetsRefused P before now refusal.Memory = Unit {0}
 
 -- what is printed or refused meets a demand on what is due with the steps counted between `before` and `now`, or
--- memory ran out
+-- it is want of memory
 abbrev pub Meets : (Due → Type 0) → ℕ → ℕ → Result (Vec ℕ Global) Refusal → Type 0
 Meets P before now (Ok text) = (n : ℕ) × (now ≡ before + n) × P (printed text.items n)
 Meets P before now (Err r) = MeetsRefused P before now r

@@ -7,9 +7,10 @@ ghost use Rattle.std.specs.Prelude.{◌≡◌, IfOk};
 ghost use Rattle.rb_lines.specs.ArgumentLines as spec;
 ghost use Rattle.rb_lines.specs.ArgumentLines.{argument_begun, argument_line};
 
-use crate::line::{NO_MEMORY, end, push, push_number};
+use crate::line::{NO_MEMORY, end};
 use crate::types::push_type;
 use rb_core::types::{DataDecl, Ty};
+use rb_show::text::{push, push_number};
 use rb_values::fault::ValueFault;
 use std::alloc::{AllocError, Global};
 

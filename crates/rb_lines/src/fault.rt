@@ -4,9 +4,10 @@
 ghost use Rattle.std.specs.Prelude.{◌≡◌, IfOk};
 ghost use Rattle.rb_lines.specs.FileLines as line;
 
-use crate::line::{begin, end, push, push_number};
+use crate::line::{begin, end};
 use rb_read::fault::Quantity;
 use rb_read::limits::greatest;
+use rb_show::text::{push, push_number};
 use std::alloc::{AllocError, Global};
 
 /// The line of a fault, told by its words, and of the byte where it stands.
@@ -47,6 +48,17 @@ pub fn limit(alloc: Global, over: Quantity, count: u64) -> Result<Vec<u8>, Alloc
     let greatest = greatest(over);
     let line = format!(in alloc; "ribbit: limit {quantity}: {count} over {greatest}\n")?;
     Ok(line.into_bytes())
+}
+
+/// The line of a text that nests over so many levels, with the byte at which it does.
+///
+/// # Errors
+///
+/// Want of memory.
+pub fn nesting(alloc: Global, levels: u64, at: u64) -> Result<Vec<u8>, AllocError>
+    ensures { IfOk result (λ text. text.items ≡ line.nesting_line levels at) }
+{
+    Ok(format!(in alloc; "ribbit: nesting over {levels} at byte {at}\n")?.into_bytes())
 }
 
 /// The line of a name that stands for nothing, with the byte where the name stands.

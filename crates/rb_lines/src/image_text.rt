@@ -10,9 +10,10 @@ ghost use Rattle.rb_image_text.specs.MemoryImages.{block_over, blocks_over, byte
 ghost use Rattle.rb_image_text.specs.Text as spec;
 ghost use Rattle.rb_image_text.specs.Text.{block_text, blocks_text, bytes_text, hex_digit, image_text, root_text, word_text, words_text};
 
-use crate::line::{self, push};
+use crate::line;
 use rb_bytes::checked::CheckedMemory;
 use rb_bytes::memory::ByteMemory;
+use rb_show::text::push;
 use std::alloc::{AllocError, Global};
 
 // The text with a blank and a word behind it, in hexadecimal digits.

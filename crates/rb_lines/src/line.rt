@@ -1,4 +1,4 @@
-//! Texts that grow at their end, and lines of no subject of their own.
+//! How lines begin and end, and the lines of no subject of their own.
 //!
 //! A region is the part of memory in which a run makes its blocks. A trap ends a run: by an access
 //! that no block holds, by the reading of a byte that was not written, or by a word that a switch
@@ -11,7 +11,7 @@ ghost use Rattle.rb_lines.specs.Lines as line;
 
 use crate::numbers::{ASTRAY, BAD_CALL, BAD_JUMP, BAD_SLOT, CODE_SYNTAX, UNMATCHED, UNWRITTEN};
 use rb_bytes::fault::{Full, Trap};
-use rb_core::decimal::digits;
+use rb_show::text::{push, push_number};
 use rb_target::fault::CodeFault;
 use std::alloc::{AllocError, Global};
 
@@ -21,30 +21,8 @@ pub const READ_FAULT: &[u8] = b"ribbit: read fault\n";
 /// The line of a write that failed.
 pub const WRITE_FAULT: &[u8] = b"ribbit: write fault\n";
 
-/// The line where memory ran out. It takes none to be written.
+/// The line of want of memory. To write it as it stands takes no memory.
 pub const NO_MEMORY: &[u8] = b"ribbit: no memory\n";
-
-/// The text with these bytes behind it.
-///
-/// # Errors
-///
-/// Want of memory.
-pub fn push(text: &mut Vec<u8>, bytes: &[u8]) -> Result<(), AllocError>
-    ensures { OnOk result (text.new.items ≡ text.old.items ++ bytes.now) }
-{
-    text.extend_from_slice(bytes)
-}
-
-/// The text with the number in decimal digits behind it.
-///
-/// # Errors
-///
-/// Want of memory.
-pub fn push_number(text: &mut Vec<u8>, number: u64) -> Result<(), AllocError>
-    ensures { OnOk result (text.new.items ≡ text.old.items ++ decimal number) }
-{
-    text.extend_from_slice(digits(number).as_slice())
-}
 
 /// The beginning of a line: the program's name and these bytes.
 ///
@@ -199,7 +177,7 @@ fn at_instruction(
     Ok(line.into_bytes())
 }
 
-/// The line of bytes that are no code.
+/// The line of bytes that are no code; for want of memory, a copy of the line that says so.
 ///
 /// # Errors
 ///

@@ -9,9 +9,9 @@ ghost use Rattle.std.specs.List.{flat_map};
 ghost use Rattle.rb_lines.specs.FileLines as line;
 ghost use Rattle.rb_lines.specs.Notes.{check_text, note_text};
 
-use crate::line::push;
 use crate::place::byte_of;
 use rb_core::program::Note;
+use rb_show::text::push;
 use rb_syntax::token::Placed;
 use std::alloc::{AllocError, Global};
 

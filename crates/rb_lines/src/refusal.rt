@@ -14,7 +14,7 @@ pub struct Refused {
     pub line: Vec<u8>,
 }
 
-/// Why nothing is printed: an answer that says so, or memory ran out on the way to one.
+/// Why nothing is printed: an answer that says so, or want of memory on the way to one.
 #[derive(Debug, Drop, Error)]
 pub enum Refusal {
     /// The answer in its place.

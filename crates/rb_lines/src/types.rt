@@ -4,9 +4,10 @@
 ghost use Rattle.std.specs.Prelude.{◌≡◌, ◌++◌, IfOk, OnOk};
 ghost use Rattle.rb_lines.specs.FileLines as line;
 
-use crate::line::{begin, end, push, push_number};
+use crate::line::{begin, end};
 use rb_core::types::{DataDecl, Ty};
 use rb_show::show::push_name;
+use rb_show::text::{push, push_number};
 use std::alloc::{AllocError, Global};
 
 // The text with a type behind it: an integer by its width, a data type by its name.

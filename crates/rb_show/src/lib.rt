@@ -37,7 +37,7 @@ pub mod pattern;
 mod piece;
 pub mod refusal;
 pub mod show;
-mod text;
+pub mod text;
 mod ways;
 mod word;
 

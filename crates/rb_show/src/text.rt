@@ -7,15 +7,23 @@ ghost use Rattle.rb_show.specs.Locations.{range_text};
 use rb_core::decimal::digits;
 use std::alloc::AllocError;
 
-// Adds bytes at the end of a text, as they are.
-pub(crate) fn push(text: &mut Vec<u8>, bytes: &[u8]) -> Result<(), AllocError>
+/// Adds bytes at the end of a text, as they are.
+///
+/// # Errors
+///
+/// Want of memory.
+pub fn push(text: &mut Vec<u8>, bytes: &[u8]) -> Result<(), AllocError>
     ensures { OnOk result (text.new.items ≡ text.old.items ++ bytes.now) }
 {
     text.extend_from_slice(bytes)
 }
 
-// Adds a number in decimal.
-pub(crate) fn push_number(text: &mut Vec<u8>, number: u64) -> Result<(), AllocError>
+/// Adds a number in decimal digits at the end of a text.
+///
+/// # Errors
+///
+/// Want of memory.
+pub fn push_number(text: &mut Vec<u8>, number: u64) -> Result<(), AllocError>
     ensures { OnOk result (text.new.items ≡ text.old.items ++ decimal number) }
 {
     text.extend_from_slice(digits(number).as_slice())

@@ -32,7 +32,7 @@ is_named status.Code = (λ e. omega (arith, e), λ e. omega (arith, e))
 is_named status.Image = (λ e. omega (arith, e), λ e. omega (arith, e))
 
 module _ (words : List (List ℕ)) (source : Source) (out err : Change) (steps : Counting) (status : ℕ) where
-  -- what is owed is the answer, unless memory ran out
+  -- what is owed is the answer, or the refusal for want of memory
   data Kind (parsed : Parsed) (due : Due) : Type 0 where
     right : AnswersCommand parsed (handed_out source) due → Kind parsed due
     ran_out : status_of due ≡ 9 → Kind parsed due

@@ -58,7 +58,7 @@ AnswersCommand (Ok (value file second)) readings due = ReadsValue file second re
 AnswersCommand (Ok (peek file second path)) readings due = PeeksValue file second path readings due
 AnswersCommand (Err word) readings due = due ≡ refusal Usage (usage_line word)
 
--- what is owed to the words over what was read: what is due to them, or the refusal that memory ran out
+-- what is owed to the words over what was read: what is due to them, or the refusal for want of memory
 pub data Owes (parsed : Parsed) (readings : List Reading) (due : Due) : Type 0 where
   answered : AnswersCommand parsed readings due → Owes parsed readings due
   out_of_memory : due ≡ refusal NoMemory no_memory_line → Owes parsed readings due

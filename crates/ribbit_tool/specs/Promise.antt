@@ -36,7 +36,7 @@ abbrev pub GivesAnswer : Parsed → Source → Change → Change → Counting �
 GivesAnswer parsed source out err steps status =
     (due : Due) × AnswersCommand parsed (handed_out source) due × GivesDue due out err steps status
 
--- What was due, and how it was delivered. Where memory ran out, nothing is said of the steps.
+-- What was due, and how it was delivered. For want of memory nothing is said of the steps.
 pub record Performs (words : List (List ℕ)) (source : Source) (out err : Change) (steps : Counting)
     (status : ℕ) : Type 0 where
   pub parsed : Parsed
@@ -74,10 +74,10 @@ pub record IsRight (words : List (List ℕ)) (source : Source) (out err : Change
   pub meant : IsParsed words parsed
   -- the files of the command were read in turn, each once at most and one byte over its limit at most
   pub reads : ReadsInTurn (files_of parsed) source
-  -- a status other than 8 and that of memory run out is the right one for what was read, with its text and its
+  -- a status other than 8 and that of want of memory is the right one for what was read, with its text and its
   -- steps; so a fault is never taken for the end of a file
   pub right : status ≢ 8 → status ≢ status_number NoMemory → GivesAnswer parsed source out err steps status
-  -- where no write failed, the answer is the right one, or memory ran out
+  -- where no write failed, the answer is the right one, want of memory aside
   pub complete : IsCalm out err status → GivesAnswer parsed source out err steps status
   -- a read fault has its cause: the count rose, or nothing is held under the name
   pub read_fault : status ≡ status_number Unread → Rose source.before source.now ⊎ IsMissing source

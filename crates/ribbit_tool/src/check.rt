@@ -1,5 +1,5 @@
 //! The command `check`: it reads a file, and notes the clauses that no value reaches. A refusal is
-//! the answer in place of the text: a status with its line, or that memory ran out.
+//! the answer in place of the text: a status with its line, or want of memory.
 
 ghost use Rattle.std.specs.Prelude.{◌≤◌, ℕ, length, IfOk, IfErr, Ok, [], ◌∷◌};
 ghost use Rattle.rb_accept.specs.Reading.{ReadsInTurn, file_limit, source_of};

@@ -1,5 +1,5 @@
 //! Code for accepted files, and the command `compile`. A refusal is the answer in place of the
-//! text: a status with its line, or that memory ran out. A switch is an instruction that goes on by
+//! text: a status with its line, or want of memory. A switch is an instruction that goes on by
 //! the value of some bits.
 
 ghost use Rattle.std.specs.Prelude.{◌≤◌, ℕ, length, IfOk, IfErr, Ok, [], ◌∷◌};

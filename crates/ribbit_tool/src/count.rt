@@ -1,5 +1,5 @@
 //! The command `count`: the value of a run, and what the run did, its tally. A refusal is the
-//! answer in place of the text: a status with its line, or that memory ran out. The limits are the
+//! answer in place of the text: a status with its line, or want of memory. The limits are the
 //! number of calls that the run may make, and the address at which its region, the memory of the
 //! run, ends. A step is an instruction that the run begins: each is added to `steps`. `agreed` is a
 //! program with its layouts.
@@ -25,11 +25,12 @@ use rb_edge::source::Source;
 use rb_edge::steps::{Ledger, Steps};
 use rb_layout::agreed::Agreed;
 use rb_lines::argument::NODES;
-use rb_lines::line::{self, push};
+use rb_lines::line;
 use rb_lines::refusal::{Refusal, Refused};
 use rb_lines::status::Status;
 use rb_run::answer::{Answer, Bounds};
 use rb_run::count::{Counted, Tally, count_main};
+use rb_show::text::push;
 use rb_values::forest::Forest;
 use std::alloc::{AllocError, Global};
 

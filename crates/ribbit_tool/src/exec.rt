@@ -1,5 +1,5 @@
 //! The command `exec`: a function of a code text is run on words, numbers of 64 bits. A refusal is
-//! the answer in place of the text: a status with its line, or that memory ran out. The limits are
+//! the answer in place of the text: a status with its line, or want of memory. The limits are
 //! the number of calls that the run may make, and the address at which its region, the memory of
 //! the run, ends. A step is an instruction that the run begins: each is added to `steps`. Functions
 //! are numbered from 0.

@@ -14,8 +14,8 @@ ghost use Rattle.ribbit_tool.specs.Generate.{CountsGenerated, Generates, generat
 use crate::count::count_bytes;
 use rb_command::limits::{Functions, Limits};
 use rb_edge::steps::{Ledger, Steps};
-use rb_lines::line::push;
 use rb_lines::refusal::Refusal;
+use rb_show::text::push;
 use std::alloc::{AllocError, Global};
 
 // The line with the type of lists.

@@ -1,6 +1,6 @@
 //! The command `image`: the words of a run's value, and the blocks of the memory that it left.
 //! These are an image of the value, which the words represent with what is in the blocks. A refusal
-//! is the answer in place of the text: a status with its line, or that memory ran out. The limits
+//! is the answer in place of the text: a status with its line, or want of memory. The limits
 //! are the number of calls that the run may make, and the address at which its region, the memory
 //! of the run, ends. A step is an instruction that the run begins: each is added to `steps`.
 //! `agreed` is a program with its layouts.

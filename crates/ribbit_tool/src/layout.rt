@@ -1,6 +1,6 @@
 //! The command `layout`: it reads a file, and shows the flat form of each layout, in which each
 //! case of the type has its words and its blocks written out. A refusal is the answer in place of
-//! the text: a status with its line, or that memory ran out.
+//! the text: a status with its line, or want of memory.
 
 ghost use Rattle.std.specs.Prelude.{◌≤◌, ℕ, length, IfOk, IfErr, Ok, [], ◌∷◌};
 ghost use Rattle.rb_accept.specs.Reading.{ReadsInTurn, file_limit, source_of};

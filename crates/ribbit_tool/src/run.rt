@@ -1,6 +1,6 @@
 //! The command `run`: a file is accepted, prepared and run. A prepared program has its code, and
 //! the arguments of `main`. A refusal is the answer in place of the text: a status
-//! with its line, or that memory ran out. The limits are the number of calls that the run may make,
+//! with its line, or want of memory. The limits are the number of calls that the run may make,
 //! and the address at which its region, the memory of the run, ends. A step is an instruction that
 //! the run begins: each is added to `steps`. `agreed` is a program with its layouts.
 

@@ -1,6 +1,6 @@
 //! The top call: the words of a command line are parsed to a command, the files that it names are
 //! read from the source, and the answer goes to the sinks. An answer is a text that is printed, or
-//! a refusal: a status with its line, or that memory ran out. A step is an instruction that a run
+//! a refusal: a status with its line, or want of memory. A step is an instruction that a run
 //! begins: each is added to `steps`. Of the sinks `out` takes texts, and `err` lines.
 
 ghost use Rattle.std.specs.Prelude.{◌≡◌, IfOk, Ok};

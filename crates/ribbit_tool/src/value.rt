@@ -1,6 +1,6 @@
 //! The command `value`: the value that an image holds. An image has words, its root, and blocks;
 //! with what is in these the words represent the value. `agreed` is a program with its layouts. A
-//! refusal is the answer in place of the text: a status with its line, or that memory ran out.
+//! refusal is the answer in place of the text: a status with its line, or want of memory.
 
 ghost use Rattle.std.specs.Prelude.{◌≡◌, ℕ, IfOk, IfErr, Ok};
 ghost use Rattle.rb_accept.specs.Reading.{ReadsInTurn, source_of};
