@@ -1,4 +1,17 @@
 //! The program: makes the real objects, calls `ribbit`, and ends with its answer.
+//!
+//! The objects are the words of the command line, the files that they name, and the two outputs.
+//! The file `data/first.rib` of this crate is `fun main(x: u8, y: u8): u8 = add(x, mul(y, 3));`, and
+//! 250 + 2 * 3 is 0 in eight bits. So this is printed, within one call and a memory of 64 bytes, and
+//! the status is 0:
+//!
+//! ```text
+//! $ ribbit run data/first.rib 1 64 250 2
+//! 0
+//! ```
+//!
+//! With one VALUE instead of two nothing is printed, the status is 10, and this line goes to the
+//! error output: `ribbit: wanted 2 arguments, found 1`.
 #![tactic(auto)]
 
 use rb_edge::file_source::FileSource;
