@@ -10,6 +10,7 @@ ghost use Rattle.rb_decide.specs.ClauseMatrices.{to_front, row_to_front, first_t
 use rb_core::pattern::{Pat, copy_patterns};
 use rb_core::seq::Seq;
 use rb_core::types::Ty;
+use rb_matrix::specialization::push_patterns;
 use std::alloc::{AllocError, Global};
 
 /// A column of a clause matrix: the position of its values in the scrutinee, by field numbers from
@@ -75,16 +76,6 @@ fn push_columns(alloc: Global, columns: &mut Seq<Column>, more: &[Column]) -> Re
 {
     for column in more {
         columns.push(column.copy(alloc)?)?;
-    }
-    Ok(())
-}
-
-// Adds copies of the patterns `more` at the end.
-fn push_patterns(alloc: Global, pats: &mut Seq<Pat>, more: &[Pat]) -> Result<(), AllocError>
-    ensures { OnOk result (pats.new ≡ pats.old ++ more.now) }
-{
-    for pat in more {
-        pats.push(pat.copy(alloc)?)?;
     }
     Ok(())
 }

@@ -8,6 +8,7 @@
 ghost use Rattle.std.specs.Prelude.{◌≡◌, [], IfOk};
 ghost use Rattle.rb_core.specs.Matching.{IsExhaustive};
 ghost use Rattle.rb_decide.specs.Decisions.{IsTried, OnBuilt, TakesChosen, TestsOnce, TestsHeads};
+ghost use Rattle.rb_decide.specs.Limits.{largest_tree};
 
 use crate::build::build;
 use crate::clause_matrix::{Column, rows_of_match};
@@ -17,7 +18,8 @@ use rb_core::seq::Seq;
 use rb_core::types::{DataDecl, Ty};
 use std::alloc::{AllocError, Global};
 
-/// The greatest number of nodes of a tree that is built.
+/// The most nodes that a tree of a match may have, clauses among them, so that [`tree`] builds it;
+/// definitions cite it as `specs/Limits.antt` has it.
 pub const LARGEST_TREE: usize = 512;
 
 // The column of the scrutinee, of type `ty`: its position has no fields.
@@ -62,13 +64,14 @@ pub fn tree_up_to(
     }
 }
 
-/// The tree of a match on a value of a type, or `Over` where it has more than 512 nodes.
+/// The tree of a match on a value of a type, or `Over` where it has more nodes than
+/// [`LARGEST_TREE`].
 ///
 /// # Errors
 ///
 /// Want of memory.
 pub fn tree(alloc: Global, types: &[DataDecl], ty: Ty, rows: &[Pat]) -> Result<Tried, AllocError>
-    ensures tried { IfOk result (λ r. IsTried types.now ty rows.now 512 r) }
+    ensures tried { IfOk result (λ r. IsTried types.now ty rows.now largest_tree r) }
 
     // Where the match is exhaustive, it takes the chosen clause of each value of the type.
     ensures takes { IfOk result (λ r. IsExhaustive types.now ty rows.now

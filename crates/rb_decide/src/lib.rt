@@ -1,12 +1,12 @@
 //! Decision trees of matches, and the graphs in which equal parts of a tree stand once.
 //!
-//! The tree of a match is Maranget's ("Compiling pattern matching to good decision trees", ML 2008),
-//! from left to right. It begins with the matrix of one row for each clause and one column, the
-//! scrutinee. Where the first row has only wildcards and variables, its clause is taken. Else the
-//! tree tests the first column in which the first row has a number or constructor. There is a branch
-//! for each head that stands in that column, in the order of first standing there, by the specialised
-//! matrix. Unless these heads are all that a value can begin with, there is one more branch for the
-//! others, by the default matrix.
+//! The tree of a match is Maranget's ("Compiling pattern matching to good decision trees", ML
+//! Workshop, 2008), from left to right. It begins with the matrix of one row for each clause and
+//! one column, the scrutinee. Where the first row has only wildcards and variables, its clause is
+//! taken. Else the tree tests the first column in which the first row has a number or constructor.
+//! There is a branch for each head that stands in that column, in the order of first standing
+//! there, by the specialised matrix. Unless these heads are all that a value can begin with, there
+//! is one more branch for the others, by the default matrix.
 //!
 //! For `type K = A | B` and two fields, `(A, _) => 0, (_, A) => 1, _ => 2` has this tree of size 5,
 //! where `.0` and `.1` are the positions of the fields and `else` is the branch for the others:

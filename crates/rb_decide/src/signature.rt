@@ -12,20 +12,18 @@ use crate::clause_matrix::number_of;
 use rb_core::types::{ConRef, DataDecl, Ty};
 use rb_matrix::heads::is_known;
 use rb_matrix::matrix::Head;
+use rb_matrix::signature::greatest;
 use std::alloc::AllocError;
 
 // The greatest number of an integer type of so many bits. There is no type of more than 64 bits;
 // for one it gives want of memory.
-fn greatest(bits: u8) -> Result<u64, AllocError>
+fn greatest_number(bits: u8) -> Result<u64, AllocError>
     ensures { IfOk result (λ n. n + 1 ≡ 2 ^ bits) }
 {
     if bits > 64 {
         return Err(AllocError);
     }
-    if bits == 64 {
-        return Ok(u64::MAX);
-    }
-    Ok((1u64 << bits) - 1)
+    Ok(greatest(bits))
 }
 
 // Whether all numbers up to `most` are among the heads.
@@ -77,7 +75,7 @@ pub fn covers(types: &[DataDecl], ty: Ty, heads: &[Head]) -> Result<bool, AllocE
     ensures { IfOk result (λ full. full ≡ is_complete types.now ty heads.now) }
 {
     match ty {
-        Ty::Int(bits) => Ok(has_numbers(heads, greatest(bits)?)),
+        Ty::Int(bits) => Ok(has_numbers(heads, greatest_number(bits)?)),
         Ty::Named(t) => {
             let count = number_of(constructors_of(types, t))?;
             Ok(has_constructors(heads, t, count))

@@ -39,13 +39,14 @@ chain_row [] cs t = t
 chain_row (f ∷ fs) [] t = t
 chain_row (f ∷ fs) (c ∷ cs) t = f c (chain_row fs cs t)
 
--- the tests of the patterns in the fields of what stands at a position, of types tys, put before tree t; clause 1
--- where there are not as many patterns as fields, so that nothing matches
+-- the tests of the patterns in the fields of what stands at a position, of types tys, put before tree t; where there
+-- are not as many patterns as fields, so that nothing matches, clause 1 alone, and t is dropped
 abbrev pub chain_fields : List Chain → List ℕ → List Ty → Tree → Tree
 chain_fields fs position tys t =
     if length fs == length tys then chain_row fs (field_columns position 0 tys) t else Clause 1
 
--- the tests of a pattern, put before tree t: first that of its own head, if it has one, then those of its fields
+-- the tests of a pattern, put before tree t: first that of its own head, if it has one, then those of its fields.
+-- Where a constructor has not as many patterns as fields, clause 1 stands behind its test, and t is dropped
 abbrev pub chain_step : List DataDecl → Pat-F Chain → Chain
 chain_step types (P.Wild at) c t = t
 chain_step types (P.Var at x) c t = t
@@ -53,7 +54,8 @@ chain_step types (P.Num at n) c t = one_test types (H.Num n) c t
 chain_step types (P.Con at con fs) c t =
     one_test types (H.Con con) c (chain_fields fs c.position (field_types types c.ty (H.Con con)) t)
 
--- the tests of a pattern in pre-order, put before the tree of the values that it matches
+-- the tests of a pattern in pre-order, put before the tree of the values that it matches; a constructor with another
+-- number of patterns than fields matches none, and clause 1 stands behind its test instead
 abbrev pub chain : List DataDecl → Pat → Chain
 chain types = fold-Pat Chain (chain_step types)
 
