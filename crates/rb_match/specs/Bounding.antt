@@ -17,6 +17,7 @@ use Rattle.rb_layout.specs.declared.layout.Layout.{Layout}
 use Rattle.rb_layout.specs.Flattening.{same_path}
 use Rattle.rb_layout.specs.Positions.{layout_of, leaves_of_layout}
 use Rattle.rb_rel.specs.Switches.{depth_of, is_shallow, look_of, mend_of}
+use Rattle.rb_decide.specs.Limits.{largest_tree}
 use Rattle.rb_decide.specs.Trees.{match_tree, size}
 
 -- a position in a value, as the numbers of the fields that lead to it, and the type of what stands there
@@ -61,9 +62,9 @@ abbrev pub places_of_patterns : List DataDecl → Ty → List Pat → List Place
 places_of_patterns types t pats = distinct_places (flat_map (λ pat. places_in types pat t) pats)
 
 -- how often places are looked at by a match on values of type t: once, or once a clause where its decision tree has
--- more than 512 nodes and is not made
+-- more nodes than `largest_tree` and is not made
 abbrev pub rounds : List DataDecl → Ty → List Pat → ℕ
-rounds types t pats = if nat_lt 512 (size (match_tree types t pats)) then length pats else 1
+rounds types t pats = if nat_lt largest_tree (size (match_tree types t pats)) then length pats else 1
 
 -- what one look at each of some places costs together, where `look` says what it costs at a type; 0 for no places
 abbrev pub looks_with : (Ty → ℕ) → List Place → ℕ
