@@ -3,81 +3,16 @@
 //! the old body, its number in the shorter body, and for each new number its origin, the slot that
 //! has it.
 
-ghost use Rattle.std.specs.Prelude.{◌≡◌, ◌↔◌, ◌<◌, ◌≤◌, ◌+◌, ℕ, IsTrue, length, true};
-ghost use Rattle.rb_target.specs.Validity.{AreSlots, AreArms, IsTarget, SlotsFit, TargetsFit, EndsInReturn, dests, dest_count};
+ghost use Rattle.std.specs.Prelude.{◌<◌, ◌≤◌, ◌+◌, ℕ, IsTrue, length};
+ghost use Rattle.rb_target.specs.Validity.{dest_count};
 ghost use Rattle.rb_trim.specs.inner.Moving.{NumbersAreApart, IsApart, KeepParams, KeepsParam};
 ghost use Rattle.rb_trim.specs.inner.Stepping.{IsFit, IsRanged, FitsAt};
 
 use crate::hints::Hints;
 use crate::moving::{name_at, origin_at, read_at};
 use rb_core::seq::Seq;
-use rb_target::instr::{Instr, SwitchArm};
-
-// Whether each number of a list is that of one of so many slots.
-fn are_slots(slots: usize, items: &[usize]) -> bool
-    ensures { IsTrue result ↔ AreSlots slots items.now }
-{
-    items.iter().all(|slot| *slot < slots)
-}
-
-// Whether the slots of an instruction are all below `slots`, which is how many there are.
-fn slots_fit(slots: usize, instr: &Instr) -> bool
-    ensures { IsTrue result ↔ SlotsFit slots instr.now }
-{
-    match instr {
-        Instr::Const(dest, _) | Instr::Place(dest, _, _) => *dest < slots,
-        Instr::Copy(dest, from)
-        | Instr::Take(dest, from, _, _)
-        | Instr::Put(dest, from, _, _)
-        | Instr::Load(dest, from, _, _) => *dest < slots && *from < slots,
-        Instr::Alu(_, _, dest, left, right) => *dest < slots && *left < slots && *right < slots,
-        Instr::Store(base, _, _, from) => *base < slots && *from < slots,
-        Instr::Jump(_) => true,
-        Instr::Switch(from, _, _) => *from < slots,
-        Instr::Call(_, dests, froms) => {
-            are_slots(slots, dests.as_slice()) && are_slots(slots, froms.as_slice())
-        }
-        Instr::Return(froms) => are_slots(slots, froms.as_slice()),
-    }
-}
-
-// Whether a target lies behind instruction `pc` and within a body of `long` instructions.
-fn is_target(long: usize, pc: usize, target: usize) -> bool
-    ensures { IsTrue result ↔ IsTarget long pc target }
-{
-    pc < target && target < long
-}
-
-// Whether each arm's target lies behind instruction `pc` and within a body of `long` instructions.
-fn are_arms(long: usize, pc: usize, arms: &[SwitchArm]) -> bool
-    ensures { IsTrue result ↔ AreArms long pc arms.now }
-{
-    arms.iter().all(|arm| is_target(long, pc, arm.target))
-}
-
-// Whether the targets of instruction `pc` lie behind it and within a body of `long` instructions;
-// true where it has none.
-fn targets_fit(long: usize, pc: usize, instr: &Instr) -> bool
-    ensures { IsTrue result ↔ TargetsFit long pc instr.now }
-{
-    match instr {
-        Instr::Jump(target) => is_target(long, pc, *target),
-        Instr::Switch(_, None, arms) => are_arms(long, pc, arms.as_slice()),
-        Instr::Switch(_, Some(other), arms) => {
-            is_target(long, pc, *other) && are_arms(long, pc, arms.as_slice())
-        }
-        Instr::Const(..)
-        | Instr::Copy(..)
-        | Instr::Alu(..)
-        | Instr::Take(..)
-        | Instr::Put(..)
-        | Instr::Load(..)
-        | Instr::Store(..)
-        | Instr::Place(..)
-        | Instr::Call(..)
-        | Instr::Return(_) => true,
-    }
-}
+use rb_target::check::{dest_len, ends_in_return, slots_fit, targets_fit};
+use rb_target::instr::Instr;
 
 // Whether the numbers in an instruction of a kind that is made anew from facts are within their
 // bounds: bits of an operation, and a range of bits. True of every other instruction.
@@ -104,23 +39,6 @@ fn is_ranged(instr: &Instr) -> bool
     }
 }
 
-// How many slots an instruction names as written.
-fn dest_len(instr: &Instr) -> usize
-    ensures { result ≡ length (dests instr.now) }
-{
-    match instr {
-        Instr::Const(..)
-        | Instr::Copy(..)
-        | Instr::Alu(..)
-        | Instr::Take(..)
-        | Instr::Put(..)
-        | Instr::Load(..)
-        | Instr::Place(..) => 1,
-        Instr::Store(..) | Instr::Jump(..) | Instr::Switch(..) | Instr::Return(..) => 0,
-        Instr::Call(_, dests, _) => dests.len(),
-    }
-}
-
 // Whether there are enough slots for the parameters, and no more beyond them than the body writes.
 fn counts_slots(slots: usize, params: usize, body: &[Instr]) -> bool
     ensures { IsTrue result → (params ≤ slots) × (slots ≤ params + dest_count body.now) }
@@ -133,13 +51,6 @@ fn counts_slots(slots: usize, params: usize, body: &[Instr]) -> bool
         unwritten = unwritten.saturating_sub(dest_len(instr));
     }
     unwritten == 0
-}
-
-// Whether the last instruction is a return; false where there is none.
-fn ends_in_return(body: &[Instr]) -> bool
-    ensures { IsTrue result ↔ EndsInReturn body.now }
-{
-    matches!(body.last(), Some(Instr::Return(_)))
 }
 
 // Whether the slots, targets and numbers of instruction `pc`, if there is one, fit.

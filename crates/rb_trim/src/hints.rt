@@ -23,7 +23,8 @@ pub struct Hints {
     pub given: Seq<usize>,
     /// For each instruction what is known before it.
     pub facts: Seq<Seq<Fact>>,
-    /// For each instruction some slots that no way from there on reads, though a later line may.
+    /// For each instruction some slots that no way from there on reads before it sets them anew,
+    /// though a later line may read them.
     pub dead: Seq<Seq<usize>>,
     /// For each slot one more than the number of the last instruction that reads it; 0 where none
     /// does.

@@ -34,7 +34,7 @@ fn fact_at(facts: &[Fact], k: usize) -> Option<Fact>
     facts.get(k).copied()
 }
 
-// Whether a load of `width` bits, `offset` bytes behind the address in slot `base`, is known to
+// Whether a load of `width` bits, `offset` bytes past the address in slot `base`, is known to
 // give a word, as some slot holds it already.
 fn is_loaded(facts: &[Fact], base: usize, offset: u64, width: u8) -> bool
     ensures { IsTrue result → IsLoaded facts.now base offset width }
@@ -51,9 +51,9 @@ fn is_loaded(facts: &[Fact], base: usize, offset: u64, width: u8) -> bool
     false
 }
 
-// Whether `slot` is known, by the hints, not to be read behind instruction `pc`: no later
-// instruction that a run comes to reads it. Where this is false the slot may be read or not. It is
-// false, too, where `pc` is the greatest number that there is.
+// Whether `slot` is known, by the hints, not to be read behind instruction `pc` before it is set
+// anew. Where this is false the slot may be read or not. It is false, too, where `pc` is the
+// greatest number that there is.
 fn is_unread(hints: &Hints, pc: usize, slot: usize) -> bool
     ensures { IsTrue result → IsUnread hints.now (pc + 1) slot }
 {
@@ -179,7 +179,7 @@ fn each_lives(hints: &Hints, slots: &[usize], instr: &Instr, target: usize) -> b
 }
 
 // Whether each slot that is read from `target` on, behind an instruction, is read from the
-// instruction on, or set by it. False for a target that is not behind it.
+// instruction on, or set by it. False for a target that is no later instruction.
 fn lives_on(hints: &Hints, pc: usize, instr: &Instr, target: usize) -> bool
     ensures { IsTrue result → LivesOn hints.now pc instr.now target }
 {
@@ -259,7 +259,8 @@ fn other_jumps_on(hints: &Hints, pc: usize, instr: &Instr, other: Option<usize>)
     }
 }
 
-// Whether a run may come to a place behind an instruction that stands for itself alone.
+// Whether a run may come to a place behind an instruction. True, too, where what stands for the
+// instruction stands for others as well, and where no run comes to it.
 fn comes_behind(hints: &Hints, pc: usize, target: usize) -> bool
     ensures { IsTrue result → IsPlain hints.now pc → IsReached hints.now pc → IsReached hints.now target }
 {

@@ -40,7 +40,7 @@ pub record IsLaid (facts : List Fact) (slot a o l : ℕ) (content : Content) : T
   pub by : (s : List ℕ) (m : Memory) → Hold s m facts
       → IsContent s m content (put_of (slice_index s slot) o l (slice_index s a % 2 ^ l))
 
--- a load of `width` bits, `offset` bytes behind the address in slot `base`, gives a word where the facts hold
+-- a load of `width` bits, `offset` bytes past the address in slot `base`, gives a word where the facts hold
 pub record IsLoaded (facts : List Fact) (base offset width : ℕ) : Type 0 where
   pub by : (s : List ℕ) (m : Memory) → Hold s m facts → (x : ℕ) × (load_of m (slice_index s base) offset width ≡ Ok x)
 

@@ -37,7 +37,7 @@ abbrev pub slots_in : Option (List ℕ) → List ℕ
 slots_in None = []
 slots_in (Some slots) = slots
 
--- some slots that no way from instruction pc on reads; none past the end
+-- some slots that no way from instruction pc on reads before it sets them anew; none past the end
 abbrev pub dead_at : Hints → ℕ → List ℕ
 dead_at h pc = slots_in (slice_get h.dead pc)
 
@@ -66,11 +66,12 @@ IsPlain h pc = slice_index h.given pc ≡ 0
 abbrev pub IsEverRead : Hints → ℕ → Type 0
 IsEverRead h k = 0 < slice_index h.reads k
 
--- a slot is read from an instruction on: a later line reads it, and it is not known that none of them is come to
+-- a slot is read from an instruction on: a later line reads it, and it is not known that on each way from there on
+-- the slot is set anew before it is read
 abbrev pub SlotIsRead : Hints → ℕ → ℕ → Type 0
 SlotIsRead h pc k = (pc < slice_index h.reads k) × (¬ Contains (dead_at h pc) k)
 
--- no instruction from pc on that a run comes to reads the slot k
+-- no way from instruction pc on reads the slot k before it sets it anew
 pub record IsUnread (h : Hints) (pc k : ℕ) : Type 0 where
   pub by : ¬ SlotIsRead h pc k
 
@@ -236,7 +237,8 @@ LeadsAhead F J (Switch a other arms) pc =
 LeadsAhead F J (Return froms) pc = Unit {0}
 LeadsAhead F J i pc = F (pc + 1)
 
--- the instruction with number `at` copies the word of `slot` to slot `to`, and none behind it reads `slot`
+-- the instruction with number `at` copies the word of `slot` to slot `to`, and behind it `slot` is not read before it
+-- is set anew
 pub record IsCopied (h : Hints) (body : List Instr) (at slot to : ℕ) : Type 0 where
   pub from : ℕ
   pub stands : slice_get body at ≡ Some (Copy to from)
