@@ -189,6 +189,6 @@ module _ (types : List DataDecl) (layouts : List Layout) (image : Image) (t : �
   abbrev pub IsFaultless : Type 0
   IsFaultless = (fault : ImageFault) → HasPathFault IsOnPath fault → ⊥
 
-  -- a word on the path has this fault in a subvalue on it, or a step names no field; or memory is wanting
+  -- a word on the path has this fault in a subvalue on it, or a step names no field; or there is want of memory
   abbrev pub IsPathFault : ImageFault → Type 0
   IsPathFault fault = HasPathFault IsOnPath fault ⊎ HasNoPart fault ⊎ (fault ≡ Memory)

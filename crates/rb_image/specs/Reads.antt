@@ -12,7 +12,7 @@ use Rattle.rb_image_text.specs.declared.image.Image.{Image}
 use Rattle.rb_image.specs.Falling.{RootDescends}
 use Rattle.rb_image.specs.Roots.{IsFirstImageFault}
 
--- what is read is this value, which has at most so many nodes, or it has more; or memory is wanting
+-- what is read is this value, which has at most so many nodes, or it has more; or there is want of memory
 abbrev pub ImageIsRead : Value → ℕ → Result Value ImageFault → Type 0
 ImageIsRead v limit (Ok found) = (found ≡ v) × (node_count v ≤ limit)
 ImageIsRead v limit (Err fault) = ((fault ≡ ImageTooLarge) × (limit < node_count v)) ⊎ (fault ≡ Memory)
@@ -22,7 +22,7 @@ abbrev pub IsOver : Program → Image → Ty → ℕ → ImageFault → Type 0
 IsOver p image ty limit fault =
     (fault ≡ ImageTooLarge) × (v : Value) × RootDescends p image ty v × (limit < node_count v)
 
--- why no value is read: the image's first fault, or that its value has more nodes; or memory is wanting
+-- why no value is read: the image's first fault, or that its value has more nodes; or there is want of memory
 abbrev pub IsReason : Program → List Layout → Image → Ty → ℕ → ImageFault → Type 0
 IsReason p layouts image ty limit fault =
     IsFirstImageFault p.types layouts image ty fault ⊎ IsOver p image ty limit fault ⊎ (fault ≡ Memory)

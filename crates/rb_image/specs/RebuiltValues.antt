@@ -62,7 +62,7 @@ module _ (p : Program) where
           × Represents p.types (flat_layouts p) m false o.ty u
           (open_words (flat_layouts p) blocks x (x.at ++ o.path) o.ty)
 
-    -- the words that are given represent the value at its type, or none are given since memory is wanting
+    -- the words that are given represent the value at its type, or none are given for want of memory
     abbrev pub AreRight : Ty → Value → Result (List ℕ) ImageFault → Type 0
     AreRight ty v (Ok ws) = Represents p.types (flat_layouts p) m false ty v ws
     AreRight ty v (Err fault) = fault ≡ NoMemory

@@ -58,7 +58,7 @@ use std::alloc::Global;
 ///
 /// `Twice` for the first name that was defined before in its table, or whose type has a layout
 /// already; else `Unknown` for the first name that stands for nothing; else `NoMain`. `Memory` where
-/// memory is wanting, which says nothing of the tree.
+/// there is want of memory, which says nothing of the tree.
 pub fn resolve(alloc: Global, tree: &FileTree) -> Result<Program, NameFault>
     ensures answers { AnswersNumbering result (numbered tree.now) }
     // the program of a file that was read is well numbered

@@ -88,7 +88,7 @@ fn read_limited(alloc: Global, placed: &[Placed]) -> Result<FileTree, ReadFault>
 ///
 /// `TooDeep` at the first token that begins a node deeper than 128 levels; else `Syntax` at the
 /// first at which no file goes on; else `Limit` for the first count over its limit. `Memory` where
-/// memory is wanting, which says nothing of the tokens.
+/// there is want of memory, which says nothing of the tokens.
 pub fn read_file(alloc: Global, placed: &[Placed]) -> Result<FileTree, ReadFault>
     requires { length placed.now < 2 ^ 32 }
     ensures answer { AnswersFile (tokens placed.now) result }

@@ -19,6 +19,7 @@ use Rattle.rb_core.specs.Values.{node_count}
 use Rattle.rb_core.specs.Typing.{field_types, param_types}
 use Rattle.rb_core.specs.Meaning.{call_of}
 use Rattle.rb_bytes.specs.declared.fault.Full.{Full as Unplaced}
+use Rattle.rb_bytes.specs.Memory.{least_region}
 use Rattle.rb_layout.specs.declared.layout.Layout.{Layout}
 use Rattle.rb_rel.specs.Placing.{Laid, Fits, Over, requests_of, lay}
 
@@ -70,10 +71,11 @@ answer_at (Fits blocks next) (Done v left) nodes = if nat_le (node_count v) node
 
 -- What a call of `main` with these arguments answers, with so many calls, memory up to the address `limit`, and
 -- values of at most `nodes` nodes shown. The blocks of the arguments are placed first, argument by argument from
--- address 64 on, and then those of the call. A block that does not fit is answered even where the call would be
+-- the least address on, and then those of the call. A block that does not fit is answered even where the call would be
 -- spent.
 abbrev pub answer_of : Program → List Layout → List Value → ℕ → ℕ → ℕ → Answer
 answer_of p layouts args calls limit nodes =
     let o = call_of p p.main calls args in
-    answer_at (lay limit 64 (requests_of layouts (all_makings p.types args (param_types p.funs p.main) ++ o.log)))
+    answer_at
+        (lay limit least_region (requests_of layouts (all_makings p.types args (param_types p.funs p.main) ++ o.log)))
     o.end nodes

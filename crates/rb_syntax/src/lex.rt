@@ -45,7 +45,7 @@ impl<T: Drop> From<AllocFailed<T>> for LexFault {
 /// # Errors
 ///
 /// `BadByte` at the first byte at which no token, blank or comment begins or goes on, or `NumberTooWide` at
-/// the first byte of a number of 2^64 or more, whichever stands first. `Memory` where memory is wanting,
+/// the first byte of a number of 2^64 or more, whichever stands first. `Memory` for want of memory,
 /// which says nothing of the text.
 pub fn lex(alloc: Global, bytes: &[u8]) -> Result<Vec<Placed>, LexFault>
     ensures answer { IsAnswer (lexed bytes.now) result }

@@ -1,6 +1,6 @@
 //! Code as text: a line for each instruction. A line is its first word, which says what it is, the
 //! other words, each after a blank, and the line's end. A [`Word`] is one of those after the first.
-//! Where a function that adds to a list runs out of memory, what it added until then stays.
+//! Where a function that adds to a list wants memory, what it added until then stays.
 
 ghost use Rattle.std.specs.Prelude.{◌≡◌, ◌++◌, ◌∷◌, [], IfOk, List};
 ghost use Rattle.rb_target.specs.Validity.{IsValid};

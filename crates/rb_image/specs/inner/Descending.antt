@@ -13,7 +13,7 @@ use Rattle.rb_image.specs.Parts.{At, at_of}
 use Rattle.rb_image.specs.Sound.{Looking, IsSound, HasFault}
 
 -- what a descent from place p answers: the image is sound from there on, or this is its first fault from there on; or
--- memory is wanting
+-- there is want of memory
 abbrev pub SoundnessIsFound : {A : Type 0} → Looking → At → Result A ImageFault → Type 0
 SoundnessIsFound look p (Ok a) = IsSound look p
 SoundnessIsFound look p (Err fault) = HasFault look p fault ⊎ (fault ≡ Memory)

@@ -1,6 +1,6 @@
 -- What code answers, against what a reader gives. A reader takes tokens and gives one result. Code takes the tokens
 -- with their places in the file, `placed`, and its postcondition `may` says which answers it may give to them. Code
--- can also run out of memory, which a reader never does.
+-- can also want memory, which a reader never does.
 use Rattle.std.specs.Prelude.{◌≡◌, List, Bool, Option, Some, None, Result, Ok, Err}
 use denote.Ref.{Bor}
 use Rattle.rb_syntax.specs.declared.token.Token.{Token}
