@@ -4,7 +4,7 @@ use Rattle.std.specs.List.{list_all, flat_map}
 use Rattle.rb_names.specs.Definitions as names
 use Rattle.rb_names.specs.Written.{AreCounted, con_is_counted, type_is_counted, item_is_counted}
 use Rattle.rb_read.specs.declared.limits.Count.{Count}
-use Rattle.rb_read.specs.Limits.{counted, field_count, greatest, is_over, type_counts, item_counts, types_in, functions_in, counts}
+use Rattle.rb_read.specs.Limits.{counted, field_count, limit_of, is_over, type_counts, item_counts, types_in, functions_in, counts}
 use Rattle.rb_read.specs.declared.fault.Quantity.TheVariants.{Functions}
 use Rattle.rb_syntax.specs.declared.tree.ConTree.{ConTree}
 use Rattle.rb_syntax.specs.declared.tree.TypeTree.{TypeTree}
@@ -13,7 +13,7 @@ use Rattle.rb_syntax.specs.declared.tree.ItemTree.TheVariants as top
 use Rattle.rb_accept.proofs.Named.{both, and_both}
 
 abbrev within : Count → Bool
-within c = nat_le c.count (greatest c.quantity)
+within c = nat_le c.count (limit_of c.quantity)
 
 not_over : (c : Count) → is_over c ≡ false → within c ≡ true
 not_over c e = le-leb _ _ (ltb-false _ _ e)

@@ -4,7 +4,7 @@ use Rattle.std.specs.List.{list_all}
 use Rattle.std.specs.Char.{is_ascii_uppercase, is_ascii_lowercase}
 use Rattle.rb_core.specs.WellNumbered.{is_upper, is_lower, is_capital, is_small, is_word_byte}
 use Rattle.rb_names.specs.Written.{AreNamed}
-use Rattle.rb_syntax.specs.Cutting.{Begins, Cut, stop, gap, token, IsWritten}
+use Rattle.rb_syntax.specs.Cutting.{FirstByteIs, Cut, stop, gap, token, IsWritten}
 use Rattle.rb_syntax.specs.Tokens.{tokens}
 use Rattle.rb_syntax.specs.declared.token.Placed.{Placed}
 use Rattle.rb_syntax.specs.declared.token.Token.{Token}
@@ -18,12 +18,12 @@ pub and_both : (a b : Bool) → a ≡ true → b ≡ true → (a && b) ≡ true
 and_both true b d e = e
 and_both false b d e = absurd cc
 
-upper : (name : List ℕ) → Begins is_ascii_uppercase name → list_all is_word_byte name ≡ true → is_upper name ≡ true
+upper : (name : List ℕ) → FirstByteIs is_ascii_uppercase name → list_all is_word_byte name ≡ true → is_upper name ≡ true
 upper [] first all = absurd first
 upper (b ∷ bs) first all =
     and_both (is_capital b) (list_all is_word_byte bs) first (both (is_word_byte b) (list_all is_word_byte bs) all).1
 
-lower : (name : List ℕ) → Begins is_ascii_lowercase name → list_all is_word_byte name ≡ true → is_lower name ≡ true
+lower : (name : List ℕ) → FirstByteIs is_ascii_lowercase name → list_all is_word_byte name ≡ true → is_lower name ≡ true
 lower [] first all = absurd first
 lower (b ∷ bs) first all =
     and_both (is_small b) (list_all is_word_byte bs) first (both (is_word_byte b) (list_all is_word_byte bs) all).1

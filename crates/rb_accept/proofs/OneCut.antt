@@ -12,7 +12,7 @@ use Rattle.std.proofs.lemmas.Slice.Eq.{starts_is}
 use Rattle.rb_core.specs.WellNumbered.{is_word_byte}
 use Rattle.rb_syntax.specs.Bytes.{is_blank}
 use Rattle.rb_syntax.proofs.WordBytes.{digit-word, letter-word}
-use Rattle.rb_syntax.specs.Cutting.{IsGap, IsLongest, Begins, IsNumeral, IsWidth, IsWritten, Cut, HasTokens, IsTokenRun, IsBadBehind, HasBadByte, IsWideNumber, HasWideNumber}
+use Rattle.rb_syntax.specs.Cutting.{IsGap, IsLongest, FirstByteIs, IsNumeral, IsUintWord, IsWritten, Cut, HasTokens, IsTokenRun, IsBadBehind, HasBadByte, IsWideNumber, HasWideNumber}
 use Rattle.rb_syntax.specs.Cutting as cut
 use Rattle.rb_syntax.specs.Words.{word_text, symbol_text, symbols, word_of}
 use Rattle.rb_syntax.specs.declared.token.Placed.{Placed}
@@ -33,24 +33,24 @@ range : (lo hi b : ℕ) → is_in_range lo hi b ≡ true → (lo ≤ b) × (b �
 range lo hi b e = let h = both _ _ e in (leb-true lo b h.0, leb-true b hi h.1)
 
 -- what one test says of the first byte another says too
-begins_so : (p q : ℕ → Bool) → ((b : ℕ) → p b ≡ true → q b ≡ true) → (text : List ℕ) → Begins p text → Begins q text
+begins_so : (p q : ℕ → Bool) → ((b : ℕ) → p b ≡ true → q b ≡ true) → (text : List ℕ) → FirstByteIs p text → FirstByteIs q text
 begins_so p q h [] e = e
 begins_so p q h (b ∷ bs) e = h b e
 
-never_both : (p : ℕ → Bool) (text : List ℕ) → Begins p text → Begins (λ b. not (p b)) text → ⊥
+never_both : (p : ℕ → Bool) (text : List ℕ) → FirstByteIs p text → FirstByteIs (λ b. not (p b)) text → ⊥
 never_both p [] e f = e
 never_both p (b ∷ bs) e f = let g : not true ≡ true = subst (λ (c : Bool). not c ≡ true) e f in absurd (cc g)
 
-begins_front : (p : ℕ → Bool) (k : ℕ) (text : List ℕ) → Begins p (take k text) → Begins p text
+begins_front : (p : ℕ → Bool) (k : ℕ) (text : List ℕ) → FirstByteIs p (take k text) → FirstByteIs p text
 begins_front p zero text e = absurd e
 begins_front p (suc k) [] e = e
 begins_front p (suc k) (b ∷ bs) e = e
 
-front_begins : (p : ℕ → Bool) (k : ℕ) (text : List ℕ) → Begins p text → Begins p (take (suc k) text)
+front_begins : (p : ℕ → Bool) (k : ℕ) (text : List ℕ) → FirstByteIs p text → FirstByteIs p (take (suc k) text)
 front_begins p k [] e = e
 front_begins p k (b ∷ bs) e = e
 
-begins_all : (p : ℕ → Bool) (text : List ℕ) → 0 < length text → list_all p text ≡ true → Begins p text
+begins_all : (p : ℕ → Bool) (text : List ℕ) → 0 < length text → list_all p text ≡ true → FirstByteIs p text
 begins_all p [] some e = absurd (omega (arith, some))
 begins_all p (b ∷ bs) some e = (both (p b) (list_all p bs) e).0
 
@@ -102,7 +102,7 @@ kind_of (tok.Uint bits) = 1
 kind_of (tok.Symbol s) = 3
 
 abbrev AsWord : List ℕ → Type 0
-AsWord text = Begins (is_kind 1) text × Begins is_token_byte text × Begins (λ b. not (b == 117)) text × Begins is_ascii_alphabetic text × (list_all is_word_byte text ≡ true)
+AsWord text = FirstByteIs (is_kind 1) text × FirstByteIs is_token_byte text × FirstByteIs (λ b. not (b == 117)) text × FirstByteIs is_ascii_alphabetic text × (list_all is_word_byte text ≡ true)
 
 word-as : (w : Word) → AsWord (word_text w)
 unfolding kind
@@ -129,7 +129,7 @@ word-as word.Lt = (refl, refl, refl, refl, refl)
 word-as word.To = (refl, refl, refl, refl, refl)
 
 abbrev AsSymbol : List ℕ → Type 0
-AsSymbol text = Begins (is_kind 3) text × Begins is_token_byte text
+AsSymbol text = FirstByteIs (is_kind 3) text × FirstByteIs is_token_byte text
 
 symbol-as : (s : Symbol) → AsSymbol (symbol_text s)
 unfolding kind
@@ -152,39 +152,39 @@ symbol-as symbol.Arrow = (refl, refl)
 symbol-as symbol.FatArrow = (refl, refl)
 symbol-as symbol.Underscore = (refl, refl)
 
-numeral-as : (text : List ℕ) → IsNumeral text → Begins (is_kind 2) text × Begins is_token_byte text
+numeral-as : (text : List ℕ) → IsNumeral text → FirstByteIs (is_kind 2) text × FirstByteIs is_token_byte text
 numeral-as text n =
-    let d : Begins is_ascii_digit text = begins_all is_ascii_digit text n.some n.digits in
+    let d : FirstByteIs is_ascii_digit text = begins_all is_ascii_digit text n.some n.digits in
     (begins_so is_ascii_digit (is_kind 2) (λ b e. (digit b e).0) text d, begins_so is_ascii_digit is_token_byte (λ b e. (digit b e).1) text d)
 
-width-as : (bits : ℕ) (text : List ℕ) → IsWidth bits text → Begins (is_kind 1) text × Begins is_token_byte text
+width-as : (bits : ℕ) (text : List ℕ) → IsUintWord bits text → FirstByteIs (is_kind 1) text × FirstByteIs is_token_byte text
 unfolding kind
-width-as bits text w = subst (λ (xs : List ℕ). Begins (is_kind 1) xs × Begins is_token_byte xs) (sym w.written) (refl, refl)
+width-as bits text w = subst (λ (xs : List ℕ). FirstByteIs (is_kind 1) xs × FirstByteIs is_token_byte xs) (sym w.written) (refl, refl)
 
-written-as : (t : Token) (text : List ℕ) → IsWritten t text → Begins (is_kind (kind_of t)) text × Begins is_token_byte text
+written-as : (t : Token) (text : List ℕ) → IsWritten t text → FirstByteIs (is_kind (kind_of t)) text × FirstByteIs is_token_byte text
 written-as (tok.Upper name) text w =
-    subst (λ (xs : List ℕ). Begins (is_kind 0) xs × Begins is_token_byte xs) (sym w.0)
+    subst (λ (xs : List ℕ). FirstByteIs (is_kind 0) xs × FirstByteIs is_token_byte xs) (sym w.0)
     (begins_so is_ascii_uppercase (is_kind 0) (λ b e. (capital b e).0) name w.1, begins_so is_ascii_uppercase is_token_byte (λ b e. (capital b e).1) name w.1)
 written-as (tok.Lower name) text w =
-    subst (λ (xs : List ℕ). Begins (is_kind 1) xs × Begins is_token_byte xs) (sym w.0)
+    subst (λ (xs : List ℕ). FirstByteIs (is_kind 1) xs × FirstByteIs is_token_byte xs) (sym w.0)
     (begins_so is_ascii_lowercase (is_kind 1) (λ b e. (small b e).0) name w.1, begins_so is_ascii_lowercase is_token_byte (λ b e. (small b e).1) name w.1)
 written-as (tok.Num n) text w = numeral-as text w.0
 written-as (tok.Reserved r) text w =
-    let a = word-as r in subst (λ (xs : List ℕ). Begins (is_kind 1) xs × Begins is_token_byte xs) (sym w) (a.0, a.1)
+    let a = word-as r in subst (λ (xs : List ℕ). FirstByteIs (is_kind 1) xs × FirstByteIs is_token_byte xs) (sym w) (a.0, a.1)
 written-as (tok.Uint bits) text w = width-as bits text w
 written-as (tok.Symbol s) text w = subst (λ (xs : List ℕ). AsSymbol xs) (sym w) (symbol-as s)
 
-same_kind : (k j : ℕ) (text : List ℕ) → Begins (is_kind k) text → Begins (is_kind j) text → k ≡ j
+same_kind : (k j : ℕ) (text : List ℕ) → FirstByteIs (is_kind k) text → FirstByteIs (is_kind j) text → k ≡ j
 same_kind k j [] e f = absurd e
 same_kind k j (b ∷ bs) e f = let p : kind b ≡ k = eqb-true (kind b) k e in let q : kind b ≡ j = eqb-true (kind b) j f in sym p ∙ q
 
-gap-as : (text : List ℕ) → IsGap text → Begins is_gap_byte text
-gap-as text (cut.blank b e is) = subst (λ (xs : List ℕ). Begins is_gap_byte xs) (sym is) (rw e refl)
+gap-as : (text : List ℕ) → IsGap text → FirstByteIs is_gap_byte text
+gap-as text (cut.blank b e is) = subst (λ (xs : List ℕ). FirstByteIs is_gap_byte xs) (sym is) (rw e refl)
 gap-as text (cut.comment starts line) =
     let is : text ≡ codes "//" ++ drop 2 text = (starts_is Decides-eqb text (codes "//") (starts_with nat_eq text (codes "//")) refl).0 starts in
-    subst (λ (xs : List ℕ). Begins is_gap_byte xs) (sym is) refl
+    subst (λ (xs : List ℕ). FirstByteIs is_gap_byte xs) (sym is) refl
 
-no_gap : (text : List ℕ) → IsGap text → Begins is_token_byte text → ⊥
+no_gap : (text : List ℕ) → IsGap text → FirstByteIs is_token_byte text → ⊥
 no_gap text g h = never_both is_gap_byte text (gap-as text g) h
 
 -- One token ---------------------------------------------------------------------------------
@@ -245,9 +245,9 @@ same_symbol : (s u : Symbol) → symbol_text s ≡ symbol_text u → s ≡ u
 same_symbol s u e = some_same s u (sym (symbol-found s) ∙ ap symbol_of e ∙ symbol-found u)
 
 -- no reserved word begins with 'u', as widths do
-no_width : (w : Word) (bits : ℕ) (text : List ℕ) → text ≡ word_text w → IsWidth bits text → ⊥
+no_width : (w : Word) (bits : ℕ) (text : List ℕ) → text ≡ word_text w → IsUintWord bits text → ⊥
 no_width w bits text is v =
-    let e : Begins (λ b. not (b == 117)) (117 ∷ v.digits) = subst (λ (xs : List ℕ). Begins (λ b. not (b == 117)) xs) (sym is ∙ v.written) (word-as w).2 in absurd (cc e)
+    let e : FirstByteIs (λ b. not (b == 117)) (117 ∷ v.digits) = subst (λ (xs : List ℕ). FirstByteIs (λ b. not (b == 117)) xs) (sym is ∙ v.written) (word-as w).2 in absurd (cc e)
 
 module _ (text : List ℕ) where
   other_kind : (t u : Token) → (kind_of t ≡ kind_of u → ⊥) → IsWritten t text → IsWritten u text → ⊥
@@ -257,11 +257,11 @@ module _ (text : List ℕ) where
   one_token (tok.Upper name) (tok.Upper other) h k = ap tok.Upper (sym h.0 ∙ k.0)
   one_token (tok.Lower name) (tok.Lower other) h k = ap tok.Lower (sym h.0 ∙ k.0)
   one_token (tok.Lower name) (tok.Reserved w) h k = absurd (h.3.0 w (sym h.0 ∙ k))
-  one_token (tok.Lower name) (tok.Uint bits) h k = absurd (h.3.1 bits (subst (λ (xs : List ℕ). IsWidth bits xs) h.0 k))
+  one_token (tok.Lower name) (tok.Uint bits) h k = absurd (h.3.1 bits (subst (λ (xs : List ℕ). IsUintWord bits xs) h.0 k))
   one_token (tok.Reserved w) (tok.Lower name) h k = absurd (k.3.0 w (sym k.0 ∙ h))
   one_token (tok.Reserved v) (tok.Reserved w) h k = ap tok.Reserved (same_word v w (sym h ∙ k))
   one_token (tok.Reserved w) (tok.Uint bits) h k = absurd (no_width w bits text h k)
-  one_token (tok.Uint bits) (tok.Lower name) h k = absurd (k.3.1 bits (subst (λ (xs : List ℕ). IsWidth bits xs) k.0 h))
+  one_token (tok.Uint bits) (tok.Lower name) h k = absurd (k.3.1 bits (subst (λ (xs : List ℕ). IsUintWord bits xs) k.0 h))
   one_token (tok.Uint bits) (tok.Reserved w) h k = absurd (no_width w bits text k h)
   one_token (tok.Uint bits) (tok.Uint other) h k =
       let same : 117 ∷ h.digits ≡ 117 ∷ k.digits = sym h.written ∙ k.written in
@@ -295,17 +295,17 @@ all-front p (suc k) [] e = refl
 all-front p (suc k) (x ∷ xs) e = let h = both (p x) (list_all p xs) e in rw h.0 (all-front p k xs h.1)
 
 -- a run begins with a byte of names and numbers
-run-begins : (text : List ℕ) → IsTokenRun text → Begins is_word_byte text × Begins is_token_byte text
+run-begins : (text : List ℕ) → IsTokenRun text → FirstByteIs is_word_byte text × FirstByteIs is_token_byte text
 run-begins text (cut.name first all) = begun text first where
-  begun : (xs : List ℕ) → Begins is_ascii_alphabetic xs → Begins is_word_byte xs × Begins is_token_byte xs
+  begun : (xs : List ℕ) → FirstByteIs is_ascii_alphabetic xs → FirstByteIs is_word_byte xs × FirstByteIs is_token_byte xs
   begun [] e = (absurd e, absurd e)
   begun (b ∷ bs) e = (letter-word b e, grind (arith, common_steps))
 run-begins text (cut.numeral n) =
     (begins_so is_ascii_digit is_word_byte digit-word text (begins_all is_ascii_digit text n.some n.digits), (numeral-as text n).1)
-run-begins text (cut.underscore is) = subst (λ (xs : List ℕ). Begins is_word_byte xs × Begins is_token_byte xs) (sym is) (refl, refl)
+run-begins text (cut.underscore is) = subst (λ (xs : List ℕ). FirstByteIs is_word_byte xs × FirstByteIs is_token_byte xs) (sym is) (refl, refl)
 
 -- the front of a name or a number is one, and so is a longer one
-name-front : (k : ℕ) (text : List ℕ) → Begins is_ascii_alphabetic text → list_all is_word_byte text ≡ true → IsTokenRun (take (suc k) text)
+name-front : (k : ℕ) (text : List ℕ) → FirstByteIs is_ascii_alphabetic text → list_all is_word_byte text ≡ true → IsTokenRun (take (suc k) text)
 name-front k text first all = cut.name (front_begins is_ascii_alphabetic k text first) (all-front is_word_byte (suc k) text all)
 
 numeral-front : (k : ℕ) (text : List ℕ) → IsNumeral text → IsNumeral (take (suc k) text)
@@ -316,7 +316,7 @@ numeral-front k (b ∷ bs) n = record {
   leading = λ z. let one = n.leading z in let few = length-take k bs in omega (arith, one, few);
 }
 
-symbol-short : (s : Symbol) (k : ℕ) → k < length (symbol_text s) → Begins is_word_byte (take k (symbol_text s)) → ⊥
+symbol-short : (s : Symbol) (k : ℕ) → k < length (symbol_text s) → FirstByteIs is_word_byte (take k (symbol_text s)) → ⊥
 symbol-short s zero l e = e
 symbol-short symbol.Arrow (suc k) l e = absurd (cc e)
 symbol-short symbol.FatArrow (suc k) l e = absurd (cc e)
@@ -372,20 +372,20 @@ module _ (Stops : ℕ → List ℕ → Type 0)
   pub same_cut : (at : ℕ) (bytes : List ℕ) (ps qs : List Placed) → Cut AtEnd at bytes ps → Cut Stops at bytes qs → (ps ≡ qs) × ((place : ℕ) × Stops place [])
   same_cut at bytes ps qs (cut.stop _ _ e) (cut.stop _ _ h) = (refl, (at, subst (λ (xs : List ℕ). Stops at xs) e h))
   same_cut at bytes ps qs (cut.stop _ _ e) (cut.gap _ m _ _ l g rest) =
-      absurd (subst (λ (xs : List ℕ). Begins is_gap_byte xs) (none_left m bytes e) (gap-as (take m bytes) g))
+      absurd (subst (λ (xs : List ℕ). FirstByteIs is_gap_byte xs) (none_left m bytes e) (gap-as (take m bytes) g))
   same_cut at bytes ps qs (cut.stop _ _ e) (cut.token _ m t _ us l w rest) =
-      absurd (subst (λ (xs : List ℕ). Begins is_token_byte xs) (none_left m bytes e) (written-as t (take m bytes) w).1)
+      absurd (subst (λ (xs : List ℕ). FirstByteIs is_token_byte xs) (none_left m bytes e) (written-as t (take m bytes) w).1)
   same_cut at bytes ps qs (cut.gap _ n _ _ l g rest) (cut.stop _ _ h) = absurd (no_gap_there at n bytes h l g)
   same_cut at bytes ps qs (cut.gap _ n _ _ l g rest) (cut.gap _ m _ _ k f other) =
       let e : m ≡ n = same_length m n bytes k l in
       same_cut (at + n) (drop n bytes) ps qs rest (subst (λ (x : ℕ). Cut Stops (at + x) (drop x bytes) qs) e other)
   same_cut at bytes ps qs (cut.gap _ n _ _ l g rest) (cut.token _ m t _ us k w other) =
       let e : m ≡ n = same_length m n bytes k l in
-      absurd (no_gap (take n bytes) g (subst (λ (x : ℕ). Begins is_token_byte (take x bytes)) e (written-as t (take m bytes) w).1))
+      absurd (no_gap (take n bytes) g (subst (λ (x : ℕ). FirstByteIs is_token_byte (take x bytes)) e (written-as t (take m bytes) w).1))
   same_cut at bytes ps qs (cut.token _ n t _ ts l w rest) (cut.stop _ _ h) = absurd (no_token_there at n t bytes h l w)
   same_cut at bytes ps qs (cut.token _ n t _ ts l w rest) (cut.gap _ m _ _ k f other) =
       let e : n ≡ m = same_length n m bytes l k in
-      absurd (no_gap (take m bytes) f (subst (λ (x : ℕ). Begins is_token_byte (take x bytes)) e (written-as t (take n bytes) w).1))
+      absurd (no_gap (take m bytes) f (subst (λ (x : ℕ). FirstByteIs is_token_byte (take x bytes)) e (written-as t (take n bytes) w).1))
   same_cut at bytes ps qs (cut.token _ n t _ ts l w rest) (cut.token _ m u _ us k v other) =
       let e : m ≡ n = same_length m n bytes k l in
       let same : t ≡ u = one_token (take n bytes) t u w (subst (λ (x : ℕ). IsWritten u (take x bytes)) e v) in
@@ -394,8 +394,8 @@ module _ (Stops : ℕ → List ℕ → Type 0)
 
 pub one_cut : (bytes : List ℕ) (ps qs : List Placed) → HasTokens bytes ps → HasTokens bytes qs → ps ≡ qs
 one_cut bytes ps qs h k = (same_cut AtEnd
-    (λ at n xs e l g. absurd (subst (λ (ys : List ℕ). Begins is_gap_byte ys) (none_left n xs e) (gap-as (take n xs) g)))
-    (λ at n t xs e l w. absurd (subst (λ (ys : List ℕ). Begins is_token_byte ys) (none_left n xs e) (written-as t (take n xs) w).1))
+    (λ at n xs e l g. absurd (subst (λ (ys : List ℕ). FirstByteIs is_gap_byte ys) (none_left n xs e) (gap-as (take n xs) g)))
+    (λ at n t xs e l w. absurd (subst (λ (ys : List ℕ). FirstByteIs is_token_byte ys) (none_left n xs e) (written-as t (take n xs) w).1))
     0 bytes ps qs h k).0
 
 abbrev BadHere : ℕ → ℕ → List ℕ → Type 0
@@ -411,9 +411,9 @@ bad_gap : (k n : ℕ) (bytes : List ℕ) → IsBadBehind k bytes → IsLongest n
 bad_gap k n bytes (cut.no_piece is some none) l g = none n l.inside l.piece
 bad_gap k n bytes (cut.wrong_run m longest lt good bad) l g =
     no_gap (take n bytes) g (front_begins_in (begins_front is_token_byte k bytes (run-begins (take k bytes) good).1)) where
-      front_begins_in : Begins is_token_byte bytes → Begins is_token_byte (take n bytes)
+      front_begins_in : FirstByteIs is_token_byte bytes → FirstByteIs is_token_byte (take n bytes)
       front_begins_in h = let e : m ≡ n = same_length m n bytes longest l in first_in n (omega (arith, lt, e)) h where
-        first_in : (x : ℕ) → 0 < x → Begins is_token_byte bytes → Begins is_token_byte (take x bytes)
+        first_in : (x : ℕ) → 0 < x → FirstByteIs is_token_byte bytes → FirstByteIs is_token_byte (take x bytes)
         first_in zero some f = absurd (omega (arith, some))
         first_in (suc x) some f = front_begins is_token_byte x bytes f
 
@@ -442,7 +442,7 @@ never_wide bytes ps p h k =
     let at_end = (same_cut (WideHere p)
     (λ at n xs b l g.
     let e : b.1.len ≡ n = same_length b.1.len n xs b.1.longest l in
-    no_gap (take n xs) g (subst (λ (x : ℕ). Begins is_token_byte (take x xs)) e (numeral-as (take b.1.len xs) b.1.numeral).1))
+    no_gap (take n xs) g (subst (λ (x : ℕ). FirstByteIs is_token_byte (take x xs)) e (numeral-as (take b.1.len xs) b.1.numeral).1))
     (λ at n t xs b l w.
     let e : b.1.len ≡ n = same_length b.1.len n xs b.1.longest l in
     no_wide (take n xs) t w (subst (λ (x : ℕ). IsNumeral (take x xs)) e b.1.numeral) (subst (λ (x : ℕ). 2 ^ 64 ≤ digits_value 10 (take x xs)) e b.1.wide))
@@ -462,6 +462,6 @@ few_tokens bytes ps h = few 0 bytes ps h where
       let some : 0 < n = some_taken n xs (written-as t (take n xs) w).1 in
       omega (arith, i, d, some, l.inside)
     where
-      some_taken : (k : ℕ) (ys : List ℕ) → Begins is_token_byte (take k ys) → 0 < k
+      some_taken : (k : ℕ) (ys : List ℕ) → FirstByteIs is_token_byte (take k ys) → 0 < k
       some_taken zero ys e = absurd e
       some_taken (suc k) ys e = omega arith

@@ -41,7 +41,7 @@ pub record IsRefusedAt (types : List DataDecl) (number : ℕ) (ty : Ty) (word : 
   pub shown : due ≡ refusal Argument (argument_line types number ty fault)
 
 -- this is due to the first word that spells no value of its type, where all words before it spell theirs
-pub record IsFirstRefused (types : List DataDecl) (tys : List Ty) (words : List (List ℕ)) (due : Due) : Type 0 where
+pub record IsFirstBadWord (types : List DataDecl) (tys : List Ty) (words : List (List ℕ)) (due : Due) : Type 0 where
   pub place : ℕ
   pub ty : Ty
   pub has_type : slice_get tys place ≡ Some ty
@@ -57,4 +57,4 @@ pub data IsMisfit (p : Program) (words : List (List ℕ)) (due : Due) : Type 0 w
   miscounted : length words ≢ length (param_types p.funs p.main)
       → due ≡ refusal Argument (count_line (length (param_types p.funs p.main)) (length words)) → IsMisfit p words due
   misspelled : length words ≡ length (param_types p.funs p.main)
-      → IsFirstRefused p.types (param_types p.funs p.main) words due → IsMisfit p words due
+      → IsFirstBadWord p.types (param_types p.funs p.main) words due → IsMisfit p words due

@@ -55,7 +55,7 @@ Opens file image Then readings due =
 
 -- the file of this name was read within its limit, and nothing else, and its text is that of image `i`, whose blocks
 -- are in their places
-pub record IsReadAs (image : List ℕ) (readings : List Reading) (i : Image) : Type 0 where
+pub record IsReadImage (image : List ℕ) (readings : List Reading) (i : Image) : Type 0 where
   pub text : List ℕ
   pub is : readings ≡ whole image text ∷ []
   pub short : length text ≤ image_limit
@@ -69,4 +69,4 @@ pub record IsOpened (file image : List ℕ) (readings : List Reading) (o : Opene
   pub is : readings ≡ whole file bytes ∷ later
   pub short : length bytes ≤ file_limit
   pub acceptance : IsAcceptance bytes o.accepted
-  pub read : IsReadAs image later o.image
+  pub read : IsReadImage image later o.image

@@ -8,8 +8,8 @@ use Rattle.rb_accept.specs.Accepting.{IsNamed}
 use Rattle.rb_accept.specs.declared.accepting.Accepted.{Accepted}
 
 -- what a source handed out between two calls
-abbrev pub added : {S : Type 0} → (S → List Reading) → S → S → List Reading
-added readings old new = drop (length (readings old)) (readings new)
+abbrev pub handed_between : {S : Type 0} → (S → List Reading) → S → S → List Reading
+handed_between readings old new = drop (length (readings old)) (readings new)
 
 -- an accepted file: its tokens, and its typed and covered program, whose layouts agree
 pub record IsAcceptance (bytes : List ℕ) (a : Accepted) : Type 0 where

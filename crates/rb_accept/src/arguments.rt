@@ -11,7 +11,7 @@ ghost use Rattle.rb_lines.specs.View.{due_of, IsRefusal};
 ghost use Rattle.rb_lines.specs.declared.status.Status.TheVariants.{Argument};
 ghost use Rattle.rb_values.specs.Reading.{ValueIsRead};
 ghost use Rattle.rb_values.specs.declared.fault.ValueFault.TheVariants.{Memory};
-ghost use Rattle.rb_accept.specs.Arguments.{AreRead, IsFirstRefused, IsMisfit, IsRefusedAt, Spell};
+ghost use Rattle.rb_accept.specs.Arguments.{AreRead, IsFirstBadWord, IsMisfit, IsRefusedAt, Spell};
 
 use rb_core::program::{Param, Program};
 use rb_core::seq::Seq;
@@ -79,7 +79,7 @@ fn read_each(
 ) -> Result<Seq<Forest>, Refusal>
     requires { length words.now ≡ length params.now }
     ensures read { IfOk result (AreRead types.now (map (λ p. p.ty) params.now) words.now) }
-    ensures refused { IfErr result (IsRefusal (IsFirstRefused types.now (map (λ p. p.ty) params.now) words.now)) }
+    ensures refused { IfErr result (IsRefusal (IsFirstBadWord types.now (map (λ p. p.ty) params.now) words.now)) }
 {
     let mut args = Seq::new(alloc);
     for (i, param) in params.iter().enumerate() {

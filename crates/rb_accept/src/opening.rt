@@ -11,9 +11,9 @@ ghost use Rattle.rb_image_text.specs.Stopping.{IsTextOf};
 ghost use Rattle.rb_image_text.specs.declared.fault.ImageFault.TheVariants.{Memory};
 ghost use Rattle.rb_lines.specs.ImageLines.{image_due, image_status};
 ghost use Rattle.rb_lines.specs.View.{due_of, IsRefusal};
-ghost use Rattle.rb_accept.specs.Opening.{IsGarbled, IsOpened, IsReadAs, Opens, ReadsImage};
+ghost use Rattle.rb_accept.specs.Opening.{IsGarbled, IsOpened, IsReadImage, Opens, ReadsImage};
 ghost use Rattle.rb_accept.specs.Reading.{ReadsInTurn, file_limit, image_limit, source_of};
-ghost use Rattle.rb_accept.specs.View.{added};
+ghost use Rattle.rb_accept.specs.View.{handed_between};
 
 use crate::accepting::{Accepted, accept};
 use crate::reading::{FILE_LIMIT, IMAGE_LIMIT, read_within};
@@ -91,9 +91,9 @@ fn read_image_file<S: Source>(alloc: Global, src: &mut S, image: &[u8]) -> Resul
     ensures read { ReadsInTurn ((image.now, image_limit) ∷ [])
         (source_of S.tells S.held S.readings S.faults src.old src.new) }
     ensures later { S.faults src.old ≤ S.faults src.new }
-    ensures opened { IfOk result (IsReadAs image.now (added S.readings src.old src.new)) }
+    ensures opened { IfOk result (IsReadImage image.now (handed_between S.readings src.old src.new)) }
     ensures refused { IfErr result (IsRefusal
-        (ReadsImage image.now (λ i d. ⊥) (added S.readings src.old src.new))) }
+        (ReadsImage image.now (λ i d. ⊥) (handed_between S.readings src.old src.new))) }
 {
     let text = read_within(alloc, src, image, IMAGE_LIMIT)?;
     read_text(alloc, text.as_slice())
@@ -113,9 +113,9 @@ pub fn open_image<S: Source>(
 ) -> Result<Opened, Refusal>
     ensures read { ReadsInTurn ((file.now, file_limit) ∷ (image.now, image_limit) ∷ [])
         (source_of S.tells S.held S.readings S.faults src.old src.new) }
-    ensures opened { IfOk result (IsOpened file.now image.now (added S.readings src.old src.new)) }
+    ensures opened { IfOk result (IsOpened file.now image.now (handed_between S.readings src.old src.new)) }
     ensures refused { IfErr result (IsRefusal
-        (Opens file.now image.now (λ p i d. ⊥) (added S.readings src.old src.new))) }
+        (Opens file.now image.now (λ p i d. ⊥) (handed_between S.readings src.old src.new))) }
 {
     let bytes = read_within(alloc, src, file, FILE_LIMIT)?;
     let accepted = accept(alloc, bytes.as_slice())?;

@@ -11,7 +11,7 @@ ghost use Rattle.rb_lines.specs.Lines.{file_bytes_line, read_fault_line};
 ghost use Rattle.rb_lines.specs.View.{due_of, IsRefusal};
 ghost use Rattle.rb_lines.specs.declared.status.Status.TheVariants.{Limit, Unread};
 ghost use Rattle.rb_accept.specs.Reading.{IsUnread, ReadsInTurn, source_of, whole};
-ghost use Rattle.rb_accept.specs.View.{added};
+ghost use Rattle.rb_accept.specs.View.{handed_between};
 
 use rb_core::limits::MOST_FILE_BYTES;
 use rb_edge::seq::Seq;
@@ -81,9 +81,9 @@ pub fn read_within<S: Source>(
     // The file was opened once and nothing else was; at most one byte over the limit was taken.
     ensures read { ReadsInTurn ((name.now, limit) ∷ [])
         (source_of S.tells S.held S.readings S.faults src.old src.new) }
-    ensures given { IfOk result (λ bytes. added S.readings src.old src.new ≡ whole name.now bytes ∷ []) }
+    ensures given { IfOk result (λ bytes. handed_between S.readings src.old src.new ≡ whole name.now bytes ∷ []) }
     ensures within { IfOk result (λ bytes. length bytes ≤ limit) }
-    ensures refused { IfErr result (IsRefusal (IsUnread name.now limit (added S.readings src.old src.new))) }
+    ensures refused { IfErr result (IsRefusal (IsUnread name.now limit (handed_between S.readings src.old src.new))) }
 {
     match read_whole(alloc, src, name, limit) {
         Ok(bytes) => {

@@ -14,7 +14,7 @@ use Rattle.rb_layout.specs.declared.layout.FlatWord.{FlatWord}
 use Rattle.rb_layout.specs.declared.layout.Part.{Part}
 use Rattle.rb_layout.specs.declared.layout.WordRef.{WordRef}
 use Rattle.rb_layout.specs.A8.{last_length, length_of}
-use Rattle.rb_layout.specs.Locations.{Reached, block_at, constant_bit, constant_bits, known, known_in, next_ref, range_in, reached_at, resolve_from, with_bit}
+use Rattle.rb_layout.specs.Locations.{Reached, pointer_block, constant_bit, constant_bits, known, known_in, next_ref, range_in, reached_at, resolve_from, with_bit}
 use Rattle.rb_layout.specs.Words.{flat_at}
 use Rattle.rb_layout.specs.Excluded.{differs, Excludes}
 use Rattle.rb_agree.specs.inner.Tests.{IsAnother}
@@ -74,7 +74,7 @@ range-length (Some f) r o l x = elim (leb 1 l && leb (o + l) f.width) as (λ (b 
 reach-length : (leaf : Leaf) (r : Option WordRef) (o l : ℕ) (steps : List Step) (x : Reached) → resolve_from leaf r o l steps ≡ Some x → x.l ≡ last_length l steps
 reach-length leaf None o l steps x e = absurd cc
 reach-length leaf (Some r) o l [] x e = range-length (flat_at leaf r) r o l x e
-reach-length leaf (Some r) o l (s ∷ steps) x e = reach-length leaf (next_ref leaf (block_at (flat_at leaf r) o l s.align) s) s.o s.l steps x e
+reach-length leaf (Some r) o l (s ∷ steps) x e = reach-length leaf (next_ref leaf (pointer_block (flat_at leaf r) o l s.align) s) s.o s.l steps x e
 
 module _ (types : List DataDecl) (layouts : List Layout) (leaf : Leaf) (loc : Loc) where
   apart : (v c : ℕ) → known leaf loc ≡ Some v → (v ≡ c → ⊥) → c < 2 ^ length_of loc → Excludes types layouts leaf loc c

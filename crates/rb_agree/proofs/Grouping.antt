@@ -13,7 +13,7 @@ use Rattle.rb_layout.specs.declared.layout.Leaf.{Leaf}
 use Rattle.rb_layout.specs.A5.{HaveCommon}
 use Rattle.rb_layout.proofs.Walks.{drop_from}
 use Rattle.rb_layout.specs.Positions.{con_of_layer, sub_of_layer}
-use Rattle.rb_agree.specs.inner.Sharing.{ApartWhereOff, AreGroups, HaveAll, HaveBefore, IsAlone, IsGroupOf, IsIn, MayBe, SharesNone, con_at, con_from, heads_in}
+use Rattle.rb_agree.specs.inner.Sharing.{ApartWhereOff, AreGroups, HaveAll, HaveBefore, IsAlone, IsGroupOf, IsMember, MayBe, SharesNone, con_at, con_from, heads_in}
 use Rattle.rb_matrix.specs.Apart.{PatternsAreApart}
 use Rattle.rb_matrix.proofs.Differing.{cons-apart}
 use Rattle.rb_agree.proofs.Lists.{at-item, map-at}
@@ -89,13 +89,13 @@ con-next p path i field sub all at is here =
 
 -- Groups -----------------------------------------------------------------------------------------------------
 
-pub in-more : (members : List ℕ) (y m : ℕ) → IsIn members m → IsIn (members ++ y ∷ []) m
+pub in-more : (members : List ℕ) (y m : ℕ) → IsMember members m → IsMember (members ++ y ∷ []) m
 in-more members y m h = (h.0, at-old members y h.0 (slice_get_within members h.0 m h.1) ∙ h.1)
 
 module _ (heads : List (Option ℕ)) (con : ℕ) where
   pub member-added : (i y : ℕ) (members new : List ℕ) → HaveBefore heads con i members → y ≡ i → new ≡ members ++ y ∷ [] → HaveBefore heads con (i + 1) new
   member-added i y members new before is added = λ m head lt at may.
-      subst (λ ms. IsIn ms m) (sym added) (elim (cases_lt m i) [
+      subst (λ ms. IsMember ms m) (sym added) (elim (cases_lt m i) [
         | inl less ↦ in-more members y m (before m head less at may)
         | inr most ↦ (length members, at-new members y ∙ ap Some (is ∙ omega (arith, most, lt)))
       ])

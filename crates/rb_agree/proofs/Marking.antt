@@ -16,7 +16,7 @@ use Rattle.rb_layout.specs.declared.layout.WordRef.{WordRef}
 use Rattle.rb_layout.specs.declared.evidence.Why.TheVariants as W
 use Rattle.rb_layout.specs.Words.{words_of_block, words_in}
 use Rattle.rb_layout.specs.Pointers.{PointsTo}
-use Rattle.rb_layout.specs.A9.{FailsNoPointer, FlattensNoPointer, HasPointerPart, cons_below, cons_below_root, cons_of, cons_step}
+use Rattle.rb_layout.specs.A9.{FailsNoPointer, FlattensNoPointer, HasPointerPart, cons_below, cons_below_root, pattern_cons, cons_step}
 use Rattle.rb_agree.specs.inner.Lists.{EachOf, SomeOf, FindsIn}
 use Rattle.rb_layout.specs.Graphs.{mark_in, mark_of}
 use Rattle.rb_agree.specs.Pointing.{AreMarks, LeafPoints, LeavesPoint, WordsPoint}
@@ -30,23 +30,23 @@ none-of P xs none some = none some.0 some.1 some.2 some.3
 
 -- Constructors in patterns ----------------------------------------------------------------------------
 
-joined-cons : (ps : List Pat) → flat_map (λ (cs : List ConRef). cs) (map cons_of ps) ≡ flat_map cons_of ps
+joined-cons : (ps : List Pat) → flat_map (λ (cs : List ConRef). cs) (map pattern_cons ps) ≡ flat_map pattern_cons ps
 joined-cons [] = refl
-joined-cons (p ∷ ps) = ap (λ (cs : List ConRef). cons_of p ++ cs) (joined-cons ps)
+joined-cons (p ∷ ps) = ap (λ (cs : List ConRef). pattern_cons p ++ cs) (joined-cons ps)
 
-pub cons-Con : (p : Pat) (at : ℕ) (c : ConRef) (ps : List Pat) → p ≡ Con at c ps → cons_of p ≡ c ∷ flat_map cons_of ps
-cons-Con p at c ps is = ap cons_of is ∙ fold-Con (List ConRef) cons_step at c ps ∙ ap (λ (cs : List ConRef). c ∷ cs) (joined-cons ps)
+pub cons-Con : (p : Pat) (at : ℕ) (c : ConRef) (ps : List Pat) → p ≡ Con at c ps → pattern_cons p ≡ c ∷ flat_map pattern_cons ps
+cons-Con p at c ps is = ap pattern_cons is ∙ fold-Con (List ConRef) cons_step at c ps ∙ ap (λ (cs : List ConRef). c ∷ cs) (joined-cons ps)
 
-pub cons-Wild : (p : Pat) (at : ℕ) → p ≡ Wild at → cons_of p ≡ []
-cons-Wild p at is = ap cons_of is ∙ fold-Wild (List ConRef) cons_step at
+pub cons-Wild : (p : Pat) (at : ℕ) → p ≡ Wild at → pattern_cons p ≡ []
+cons-Wild p at is = ap pattern_cons is ∙ fold-Wild (List ConRef) cons_step at
 
-pub cons-Var : (p : Pat) (at x : ℕ) → p ≡ Var at x → cons_of p ≡ []
-cons-Var p at x is = ap cons_of is ∙ fold-Var (List ConRef) cons_step at x
+pub cons-Var : (p : Pat) (at x : ℕ) → p ≡ Var at x → pattern_cons p ≡ []
+cons-Var p at x is = ap pattern_cons is ∙ fold-Var (List ConRef) cons_step at x
 
-pub cons-Num : (p : Pat) (at n : ℕ) → p ≡ Num at n → cons_of p ≡ []
-cons-Num p at n is = ap cons_of is ∙ fold-Num (List ConRef) cons_step at n
+pub cons-Num : (p : Pat) (at n : ℕ) → p ≡ Num at n → pattern_cons p ≡ []
+cons-Num p at n is = ap pattern_cons is ∙ fold-Num (List ConRef) cons_step at n
 
-pub below-Con : (p : Pat) (at : ℕ) (c : ConRef) (ps : List Pat) → p ≡ Con at c ps → cons_below p ≡ flat_map cons_of ps
+pub below-Con : (p : Pat) (at : ℕ) (c : ConRef) (ps : List Pat) → p ≡ Con at c ps → cons_below p ≡ flat_map pattern_cons ps
 below-Con p at c ps is = ap cons_below is ∙ ap cons_below_root (X.outs-Con at c ps)
 
 module _ (marks : List Bool) where
@@ -57,20 +57,20 @@ module _ (marks : List Bool) where
   nothing-in cs none = subst (λ (xs : List ConRef). Finds xs None) (sym none) (λ k x e. absurd cc)
 
   module _ (p : Pat) (at : ℕ) (c : ConRef) (ps qs : List Pat) (is : p ≡ Con at c ps) (same : qs ≡ ps) where
-    whole : cons_of p ≡ c ∷ flat_map cons_of qs
-    whole = cons-Con p at c ps is ∙ ap (λ (xs : List Pat). c ∷ flat_map cons_of xs) (sym same)
+    whole : pattern_cons p ≡ c ∷ flat_map pattern_cons qs
+    whole = cons-Con p at c ps is ∙ ap (λ (xs : List Pat). c ∷ flat_map pattern_cons xs) (sym same)
 
-    pub root-marked : (b : Bool) → b ≡ mark_of marks c.ty → b ≡ true → Finds (cons_of p) (Some c.ty)
+    pub root-marked : (b : Bool) → b ≡ mark_of marks c.ty → b ≡ true → Finds (pattern_cons p) (Some c.ty)
     root-marked b mark marked =
-        subst (λ (xs : List ConRef). Finds xs (Some c.ty)) (sym whole) (finds-first (IsUnmarked marks) (IsMarked marks) c (flat_map cons_of qs) c.ty (refl, sym mark ∙ marked))
+        subst (λ (xs : List ConRef). Finds xs (Some c.ty)) (sym whole) (finds-first (IsUnmarked marks) (IsMarked marks) c (flat_map pattern_cons qs) c.ty (refl, sym mark ∙ marked))
 
-    pub root-unmarked : (b : Bool) (r : Option ℕ) → b ≡ mark_of marks c.ty → b ≡ false → Finds (flat_map cons_of qs) r → Finds (cons_of p) r
+    pub root-unmarked : (b : Bool) (r : Option ℕ) → b ≡ mark_of marks c.ty → b ≡ false → Finds (flat_map pattern_cons qs) r → Finds (pattern_cons p) r
     root-unmarked b r mark not rest =
-        subst (λ (xs : List ConRef). Finds xs r) (sym whole) (finds-rest (IsUnmarked marks) (IsMarked marks) c (flat_map cons_of qs) r (sym mark ∙ not) rest)
+        subst (λ (xs : List ConRef). Finds xs r) (sym whole) (finds-rest (IsUnmarked marks) (IsMarked marks) c (flat_map pattern_cons qs) r (sym mark ∙ not) rest)
 
-  pub below-found : (p : Pat) (at : ℕ) (c : ConRef) (ps qs : List Pat) (r : Option ℕ) → p ≡ Con at c ps → qs ≡ ps → Finds (flat_map cons_of qs) r → Finds (cons_below p) r
+  pub below-found : (p : Pat) (at : ℕ) (c : ConRef) (ps qs : List Pat) (r : Option ℕ) → p ≡ Con at c ps → qs ≡ ps → Finds (flat_map pattern_cons qs) r → Finds (cons_below p) r
   below-found p at c ps qs r is same h =
-      subst (λ (xs : List ConRef). Finds xs r) (sym (below-Con p at c ps is ∙ ap (λ (xs : List Pat). flat_map cons_of xs) (sym same))) h
+      subst (λ (xs : List ConRef). Finds xs r) (sym (below-Con p at c ps is ∙ ap (λ (xs : List Pat). flat_map pattern_cons xs) (sym same))) h
 
 -- Pointer parts -----------------------------------------------------------------------------------------
 

@@ -11,7 +11,7 @@ use Rattle.rb_layout.specs.declared.evidence.Why.TheVariants.{Outside, Overlap, 
 use Rattle.rb_layout.specs.Positions.{Open}
 use Rattle.rb_layout.specs.Flattening.{IsOpenIn, type_at}
 use Rattle.rb_layout.specs.Items.{Content, Number, Whole, Slice, WordOf, Address, WrittenPart}
-use Rattle.rb_layout.specs.A3.{Fits, FitsSlice, FitsWhole, FitsWord, IsPlaced, PartAt, PartsFit}
+use Rattle.rb_layout.specs.A3.{Fits, FitsSlice, FitsWhole, FitsWord, IsContentPlaced, PartAt, PartsFit}
 use Rattle.rb_agree.specs.declared.items.Written.{Written}
 use Rattle.rb_agree.specs.Written.{shown_part}
 use Rattle.rb_agree.specs.inner.Lists.{EachOf}
@@ -24,14 +24,14 @@ module _ (decls : List LayoutDecl) (opens : List Open) (l : ℕ) where
   when-open P path None is none not = subst P (sym is) none
   when-open P path (Some ty) is none not = absurd (not (ty, is))
 
-  pub no-demand : (c : Content) → (IsPlaced opens c → ⊥) → Fits decls opens l c
+  pub no-demand : (c : Content) → (IsContentPlaced opens c → ⊥) → Fits decls opens l c
   no-demand (Number c) not = absurd (not tt)
   no-demand (Whole path) not = when-open (λ x. FitsWhole decls x l) path (type_at opens path) refl tt not
   no-demand (Slice path a k) not = when-open (λ x. FitsSlice x l a k) path (type_at opens path) refl tt not
   no-demand (WordOf path j) not = when-open (λ x. FitsWord decls x l j) path (type_at opens path) refl tt not
   no-demand (Address align) not = tt
 
-pub not-placed : (decls : List LayoutDecl) (opens : List Open) (width : ℕ) (p : WrittenPart) → (IsPlaced opens p.content → ⊥) → IsPartFine decls opens width p
+pub not-placed : (decls : List LayoutDecl) (opens : List Open) (width : ℕ) (p : WrittenPart) → (IsContentPlaced opens p.content → ⊥) → IsPartFine decls opens width p
 not-placed decls opens width p not = record { inside = λ placed. absurd (not placed); fit = no-demand decls opens p.l p.content not }
 
 unmap : (ws : List Written) (k : ℕ) (p : WrittenPart) → slice_get (shown_parts ws) k ≡ Some p → (w : Written) × (slice_get ws k ≡ Some w) × (shown_part w ≡ p)
@@ -40,7 +40,7 @@ unmap (w ∷ ws) zero p e = (w, refl, same_Some (shown_part w) p e)
 unmap (w ∷ ws) (suc k) p e = unmap ws k p e
 
 module _ (decls : List LayoutDecl) (opens : List Open) (i width : ℕ) (parts : List Written) where
-  abbrev part-at : (k : ℕ) (w : Written) (o l : ℕ) → slice_get parts k ≡ Some w → IsPlaced opens (shown_part w).content → w.o ≡ o → w.l ≡ l → PartAt opens (shown_parts parts) o l
+  abbrev part-at : (k : ℕ) (w : Written) (o l : ℕ) → slice_get parts k ≡ Some w → IsContentPlaced opens (shown_part w).content → w.o ≡ o → w.l ≡ l → PartAt opens (shown_parts parts) o l
   part-at k w o l at placed from long =
       record { number = k; part = shown_part w; is_part = map-at shown_part parts k w at; placed = placed; from = from; length = long }
 
@@ -76,12 +76,12 @@ module _ (decls : List LayoutDecl) (opens : List Open) (i width : ℕ) (parts : 
   apart-fails why h = absurd h.1.8
 
   disjoint-at : PartsAreApart opens parts → (j k : ℕ) (p q : WrittenPart) → j < k → slice_get (shown_parts parts) j ≡ Some p → slice_get (shown_parts parts) k ≡ Some q
-      → IsPlaced opens p.content → IsPlaced opens q.content → AreDisjoint p.o p.l q.o q.l
+      → IsContentPlaced opens p.content → IsContentPlaced opens q.content → AreDisjoint p.o p.l q.o q.l
   disjoint-at apart j k p q lt ej ek pj pk =
       let v = unmap parts j p ej in
       let w = unmap parts k q ek in
-      let set-v : IsSet opens v.0 = subst (λ (x : WrittenPart). IsPlaced opens x.content) (sym v.2) pj in
-      let set-w : IsSet opens w.0 = subst (λ (x : WrittenPart). IsPlaced opens x.content) (sym w.2) pk in
+      let set-v : IsSet opens v.0 = subst (λ (x : WrittenPart). IsContentPlaced opens x.content) (sym v.2) pj in
+      let set-w : IsSet opens w.0 = subst (λ (x : WrittenPart). IsContentPlaced opens x.content) (sym w.2) pk in
       let here : AreDisjoint v.0.o v.0.l w.0.o w.0.l = apart k j v.0 w.0 lt v.1 w.1 set-v set-w in
       subst (λ (x : WrittenPart). AreDisjoint p.o p.l x.o x.l) w.2 (subst (λ (x : WrittenPart). AreDisjoint x.o x.l w.0.o w.0.l) v.2 here)
 

@@ -15,7 +15,7 @@ use Rattle.rb_layout.specs.declared.layout.Kind.TheVariants.{Const, Bits, Word, 
 use Rattle.rb_layout.specs.Cycles.{HasNoCycle, IsChain, IsCycleFrom}
 use Rattle.rb_layout.specs.Positions.{open_positions}
 use Rattle.rb_layout.specs.Flattening.{type_at}
-use Rattle.rb_layout.specs.A9.{Flattens, cons_below, cons_of}
+use Rattle.rb_layout.specs.A9.{Flattens, cons_below, pattern_cons}
 use Rattle.rb_layout.specs.A10.{HoldsField}
 use Rattle.rb_layout.specs.Graphs.{Leads}
 use Rattle.rb_agree.specs.Graphs.{IsGraphOf}
@@ -175,9 +175,9 @@ module _ (R : ℕ → ℕ → Type 0) (graph : List (List ℕ)) (is : IsGraphOf 
 
 -- Patterns ----------------------------------------------------------------------------------------------------
 
-types-flat : (ps : List Pat) → types_of_cons (flat_map cons_of ps) ≡ flat_map pattern_types ps
+types-flat : (ps : List Pat) → types_of_cons (flat_map pattern_cons ps) ≡ flat_map pattern_types ps
 types-flat [] = refl
-types-flat (p ∷ ps) = map-append (λ (c : ConRef). c.ty) (cons_of p) (flat_map cons_of ps) ∙ ap (λ (ns : List ℕ). pattern_types p ++ ns) (types-flat ps)
+types-flat (p ∷ ps) = map-append (λ (c : ConRef). c.ty) (pattern_cons p) (flat_map pattern_cons ps) ∙ ap (λ (ns : List ℕ). pattern_types p ++ ns) (types-flat ps)
 
 pub types-Con : (p : Pat) (at : ℕ) (c : ConRef) (ps : List Pat) → p ≡ Con at c ps → pattern_types p ≡ c.ty ∷ flat_map pattern_types ps
 types-Con p at c ps is = ap types_of_cons (cons-Con p at c ps is) ∙ ap (λ (ns : List ℕ). c.ty ∷ ns) (types-flat ps)

@@ -12,7 +12,7 @@ use Rattle.rb_layout.specs.declared.layout.Layout.{Layout}
 use Rattle.rb_layout.specs.declared.layout.Leaf.{Leaf}
 use Rattle.rb_layout.specs.declared.layout.WordRef.{WordRef}
 use Rattle.rb_layout.specs.declared.evidence.Why.{Why}
-use Rattle.rb_layout.specs.Splits.{Test, Is, IsNone, Route, Under, behind, arm_routes, else_routes, literals_of, routes_step, routes_arm, routes_of, routes_under}
+use Rattle.rb_layout.specs.Splits.{Test, Is, IsNone, Route, Under, under_test, arm_routes, else_routes, literals_of, routes_step, routes_arm, routes_of, routes_under}
 use Rattle.rb_layout.specs.Locations.{Reached, reached_at, ref_of}
 use Rattle.rb_layout.specs.Excluded.{Excludes}
 use Rattle.rb_layout.specs.A7.{FailsTest, FailsTests, IsLiteral, MeetsTest, MeetsAll, Resolves}
@@ -48,7 +48,7 @@ routes-Split loc arms None =
 routes-Split loc arms (Some tree) =
     fold-Split-else (List Route) (Under (List Route)) routes_step routes_arm loc arms tree
     ∙ ap (λ (rs : List Route). rs ++ else_routes loc (literals_of (map routes_under arms)) (Some (routes_of tree))) (joined-routes loc arms)
-    ∙ ap (λ (ls : List ℕ). arms_routes loc arms ++ map (behind (IsNone loc ls)) (routes_of tree)) (literals-are arms)
+    ∙ ap (λ (ls : List ℕ). arms_routes loc arms ++ map (under_test (IsNone loc ls)) (routes_of tree)) (literals-are arms)
 
 -- Two trees ---------------------------------------------------------------------------------------
 
@@ -89,28 +89,28 @@ module _ (types : List DataDecl) (layouts : List Layout) (leaf : Leaf) (n : ℕ)
   join xs ys Passes (Fails why) h g = some-right (FailsRoute types layouts leaf n why) xs ys g
 
   -- ---- below a test
-  behind-absent : (t : Test) (rs : List Route) → B rs Absent → B (map (behind t) rs) Absent
-  behind-absent t rs h = each-map (behind t) (Misses types layouts leaf n) rs h
+  behind-absent : (t : Test) (rs : List Route) → B rs Absent → B (map (under_test t) rs) Absent
+  behind-absent t rs h = each-map (under_test t) (Misses types layouts leaf n) rs h
 
-  behind-fails : (t : Test) (rs : List Route) (why : Why) → B rs (Fails why) → B (map (behind t) rs) (Fails why)
+  behind-fails : (t : Test) (rs : List Route) (why : Why) → B rs (Fails why) → B (map (under_test t) rs) (Fails why)
   behind-fails t rs why h =
-      some-map (behind t) (FailsRoute types layouts leaf n why) rs
+      some-map (under_test t) (FailsRoute types layouts leaf n why) rs
       (h.0, h.1, h.2, (h.3.0, some-right (λ (u : Test). FailsTest types layouts leaf u why) (t ∷ []) h.1.tests h.3.1))
 
-  behind-passes : (t : Test) (rs : List Route) → MeetsTest types layouts leaf t → B rs Passes → B (map (behind t) rs) Passes
+  behind-passes : (t : Test) (rs : List Route) → MeetsTest types layouts leaf t → B rs Passes → B (map (under_test t) rs) Passes
   behind-passes t rs meets h = (
-    some-map (behind t) (LeadsToLeaf types layouts leaf n) rs h.0,
-    each-map (behind t) (PassesRoute types layouts leaf n) rs (λ k r e leads. each-first (MeetsTest types layouts leaf) t r.tests meets (h.1 k r e leads)),
+    some-map (under_test t) (LeadsToLeaf types layouts leaf n) rs h.0,
+    each-map (under_test t) (PassesRoute types layouts leaf n) rs (λ k r e leads. each-first (MeetsTest types layouts leaf) t r.tests meets (h.1 k r e leads)),
   )
 
-  behind-fails-here : (t : Test) (rs : List Route) (why : Why) → FailsTest types layouts leaf t why → B rs Passes → B (map (behind t) rs) (Fails why)
+  behind-fails-here : (t : Test) (rs : List Route) (why : Why) → FailsTest types layouts leaf t why → B rs Passes → B (map (under_test t) rs) (Fails why)
   behind-fails-here t rs why bad h =
-      some-map (behind t) (FailsRoute types layouts leaf n why) rs
+      some-map (under_test t) (FailsRoute types layouts leaf n why) rs
       (h.0.0, h.0.1, h.0.2, (h.0.3, some-first (λ (u : Test). FailsTest types layouts leaf u why) t h.0.1.tests bad))
 
-  pub behind-is : (t : Test) (rs : List Route) (a b : Below) → B rs a → IsAfter types layouts leaf t a b → B (map (behind t) rs) b
-  behind-is t rs Absent b h is = subst (λ x. B (map (behind t) rs) x) (sym is) (behind-absent t rs h)
-  behind-is t rs (Fails why) b h is = subst (λ x. B (map (behind t) rs) x) (sym is) (behind-fails t rs why h)
+  pub behind-is : (t : Test) (rs : List Route) (a b : Below) → B rs a → IsAfter types layouts leaf t a b → B (map (under_test t) rs) b
+  behind-is t rs Absent b h is = subst (λ x. B (map (under_test t) rs) x) (sym is) (behind-absent t rs h)
+  behind-is t rs (Fails why) b h is = subst (λ x. B (map (under_test t) rs) x) (sym is) (behind-fails t rs why h)
   behind-is t rs Passes Absent h is = absurd is
   behind-is t rs Passes Passes h is = behind-passes t rs is h
   behind-is t rs Passes (Fails why) h is = behind-fails-here t rs why is h

@@ -12,13 +12,13 @@ use Rattle.rb_layout.specs.declared.layout.FlatTree.{FlatTree}
 use Rattle.rb_layout.specs.declared.layout.FlatArm.{FlatArm}
 use Rattle.rb_layout.specs.declared.layout.Layout.{Layout}
 use Rattle.rb_layout.specs.declared.layout.Leaf.{Leaf}
-use Rattle.rb_layout.specs.Splits.{Test, Is, IsNone, Route, Under, behind, arm_routes, routes_of, routes_under}
+use Rattle.rb_layout.specs.Splits.{Test, Is, IsNone, Route, Under, under_test, arm_routes, routes_of, routes_under}
 use Rattle.rb_layout.specs.A7.{MeetsTest, MeetsAll}
 use Rattle.rb_agree.specs.declared.passing.Span.{Span}
 use Rattle.rb_agree.specs.inner.Lists.{EachOf}
 use Rattle.rb_agree.specs.inner.Splits.{literals_in}
 use Rattle.rb_agree.specs.inner.Tests.{arms_routes}
-use Rattle.rb_agree.specs.inner.Passing.{AreAsked, AreWalked, CoversSpan, IsAmong, IsAsked, IsOff, KeepsMarks, MeetsWhereOff}
+use Rattle.rb_agree.specs.inner.Passing.{AreAsked, AreWalked, CoversSpan, IsInSpan, IsAsked, IsOff, KeepsMarks, MeetsWhereOff}
 use Rattle.rb_agree.proofs.Lists.{each-append, each-first, each-map, each-none}
 use Rattle.rb_agree.proofs.Testing.{meets-all, routes-Leaf, routes-Split, under-routes}
 
@@ -83,35 +83,35 @@ module _ (types : List DataDecl) (layouts : List Layout) (leaves : List Leaf) wh
   -- Ways that are walked
   pub walked-none : (span : Span) (marks : List Bool) → W [] span marks marks
   walked-none span marks = record {
-    among = each-none (λ (r : Route). IsAmong span r.leaf);
+    among = each-none (λ (r : Route). IsInSpan span r.leaf);
     keeps = λ k off. off;
     meet = each-none (λ (r : Route). EachOf (Off marks r.leaf) r.tests);
   }
 
-  walked-behind : (test : Test) (routes : List Route) (span : Span) (old mid new : List Bool) → W routes span old mid → A test span mid new → W (map (behind test) routes) span old new
+  walked-behind : (test : Test) (routes : List Route) (span : Span) (old mid new : List Bool) → W routes span old mid → A test span mid new → W (map (under_test test) routes) span old new
   walked-behind test routes span old mid new walked asked = record {
-    among = each-map (behind test) (λ (r : Route). IsAmong span r.leaf) routes walked.among;
+    among = each-map (under_test test) (λ (r : Route). IsInSpan span r.leaf) routes walked.among;
     keeps = λ k off. walked.keeps k (asked.keeps k off);
-    meet = each-map (behind test) (λ (r : Route). EachOf (Off new r.leaf) r.tests) routes (λ k r e.
+    meet = each-map (under_test test) (λ (r : Route). EachOf (Off new r.leaf) r.tests) routes (λ k r e.
         each-first (Off new r.leaf) test r.tests (asked.meet r.leaf (walked.among k r e))
         (λ j t is. still-meets mid new r.leaf t asked.keeps (walked.meet k r e j t is)));
   }
 
-  among-more : (whole span : Span) (n : ℕ) → CoversSpan whole span → IsAmong span n → IsAmong whole n
+  among-more : (whole span : Span) (n : ℕ) → CoversSpan whole span → IsInSpan span n → IsInSpan whole n
   among-more whole span n covers among = (omega (arith, covers.0, among.0), omega (arith, covers.1, among.1))
 
   walked-both : (xs ys : List Route) (one other whole : Span) (old mid new : List Bool) → W xs one old mid → W ys other mid new → CoversSpan whole one → CoversSpan whole other → W (xs ++ ys) whole old new
   walked-both xs ys one other whole old mid new first second c d = record {
-    among = each-append (λ (r : Route). IsAmong whole r.leaf) xs ys (λ k r e. among-more whole one r.leaf c (first.among k r e)) (λ k r e. among-more whole other r.leaf d (second.among k r e));
+    among = each-append (λ (r : Route). IsInSpan whole r.leaf) xs ys (λ k r e. among-more whole one r.leaf c (first.among k r e)) (λ k r e. among-more whole other r.leaf d (second.among k r e));
     keeps = λ k off. first.keeps k (second.keeps k off);
     meet = each-append (λ (r : Route). EachOf (Off new r.leaf) r.tests) xs ys
         (λ k r e j t is. still-meets mid new r.leaf t second.keeps (first.meet k r e j t is)) second.meet;
   }
 
-  pub walked-leaf : (tree : FlatTree) (m : ℕ) (span : Span) (marks : List Bool) → tree ≡ F.Leaf m → IsAmong span m → W (routes_of tree) span marks marks
+  pub walked-leaf : (tree : FlatTree) (m : ℕ) (span : Span) (marks : List Bool) → tree ≡ F.Leaf m → IsInSpan span m → W (routes_of tree) span marks marks
   walked-leaf tree m span marks is among =
       subst (λ (rs : List Route). W rs span marks marks) (sym (ap (λ (t : FlatTree). routes_of t) is ∙ routes-Leaf m)) (record {
-        among = each-first (λ (r : Route). IsAmong span r.leaf) (record { leaf = m; tests = [] }) [] among (each-none (λ (r : Route). IsAmong span r.leaf));
+        among = each-first (λ (r : Route). IsInSpan span r.leaf) (record { leaf = m; tests = [] }) [] among (each-none (λ (r : Route). IsInSpan span r.leaf));
         keeps = λ k off. off;
         meet = each-first (λ (r : Route). EachOf (Off marks r.leaf) r.tests) (record { leaf = m; tests = [] }) [] (each-none (Off marks m))
             (each-none (λ (r : Route). EachOf (Off marks r.leaf) r.tests));
@@ -139,7 +139,7 @@ module _ (types : List DataDecl) (layouts : List Layout) (leaves : List Leaf) wh
       → W (arms_routes loc arms) one old mid → W (routes_of other) under mid asked → A (IsNone loc (literals_in arms)) under asked new → CoversSpan whole one → CoversSpan whole under → W (routes_of tree) whole old new
   walked-else tree loc arms other one under whole old mid asked new is before below ask c d =
       subst (λ (rs : List Route). W rs whole old new) (sym (ap (λ (t : FlatTree). routes_of t) is ∙ routes-Split loc arms (Some other)))
-      (walked-both (arms_routes loc arms) (map (behind (IsNone loc (literals_in arms))) (routes_of other)) one under whole old mid new before
+      (walked-both (arms_routes loc arms) (map (under_test (IsNone loc (literals_in arms))) (routes_of other)) one under whole old mid new before
       (walked-behind (IsNone loc (literals_in arms)) (routes_of other) under mid asked new below ask) c d)
 
   -- A leaf whose mark is off

@@ -8,7 +8,7 @@ use Rattle.rb_core.specs.declared.layout_decl.LayItem.TheFolds.{fold_out-PartDec
 use Rattle.rb_core.specs.declared.layout_decl.PartKind.{PartKind}
 use Rattle.rb_core.specs.declared.layout_decl.PartKind as K
 use Rattle.rb_core.specs.declared.layout_decl.PartDecl.{PartDecl}
-use Rattle.rb_layout.specs.Items.{Content, Number, Whole, Slice, WordOf, Address, WrittenPart, Item, AWord, AField, Around, plain, item_list, item_lists, item_step, kind_step, part_step, items_inside}
+use Rattle.rb_layout.specs.Items.{Content, Number, Whole, Slice, WordOf, Address, WrittenPart, Item, AWord, AField, Around, plain, item_list, item_lists, items_step, content_step, written_part_step, items_inside}
 use Rattle.rb_layout.proofs.WrittenForms as W
 use Rattle.rb_agree.specs.declared.items.Written.{Written}
 use Rattle.rb_agree.specs.declared.items.Item as D
@@ -25,24 +25,24 @@ parts-inside (p ∷ parts) = ap (λ (ps : List Item). inside_of p ++ ps) (parts-
 
 pub list-Word : (width : ℕ) (parts : List PartDecl) → item_list (I.Word width parts) ≡ AWord width (map written_part parts) ∷ flat_map inside_of parts
 list-Word width parts =
-    W.fold-Word (List Item) (Around Content) (Around WrittenPart) item_step kind_step part_step width parts
+    W.fold-Word (List Item) (Around Content) (Around WrittenPart) items_step content_step written_part_step width parts
     ∙ ap (λ (ps : List WrittenPart). AWord width ps ∷ items_inside (map part_around parts)) (parts-it parts)
     ∙ ap (λ (xs : List Item). AWord width (map written_part parts) ∷ xs) (parts-inside parts)
 
 pub list-Inline : (path : List ℕ) → item_list (I.Inline path) ≡ AField path ∷ []
-list-Inline path = W.fold-Inline (List Item) (Around Content) (Around WrittenPart) item_step kind_step part_step path
+list-Inline path = W.fold-Inline (List Item) (Around Content) (Around WrittenPart) items_step content_step written_part_step path
 
 pub around-Const : (c : ℕ) → kind_around (K.Const c) ≡ plain (Number c)
-around-Const c = W.fold-Const (List Item) (Around Content) (Around WrittenPart) item_step kind_step part_step c
+around-Const c = W.fold-Const (List Item) (Around Content) (Around WrittenPart) items_step content_step written_part_step c
 
 pub around-Whole : (path : List ℕ) → kind_around (K.Whole path) ≡ plain (Whole path)
-around-Whole path = W.fold-Whole (List Item) (Around Content) (Around WrittenPart) item_step kind_step part_step path
+around-Whole path = W.fold-Whole (List Item) (Around Content) (Around WrittenPart) items_step content_step written_part_step path
 
 pub around-Slice : (path : List ℕ) (a k : ℕ) → kind_around (K.Slice path a k) ≡ plain (Slice path a k)
-around-Slice path a k = W.fold-Slice (List Item) (Around Content) (Around WrittenPart) item_step kind_step part_step path a k
+around-Slice path a k = W.fold-Slice (List Item) (Around Content) (Around WrittenPart) items_step content_step written_part_step path a k
 
 pub around-WordOf : (path : List ℕ) (j : ℕ) → kind_around (K.Word path j) ≡ plain (WordOf path j)
-around-WordOf path j = W.fold-WordOf (List Item) (Around Content) (Around WrittenPart) item_step kind_step part_step path j
+around-WordOf path j = W.fold-WordOf (List Item) (Around Content) (Around WrittenPart) items_step content_step written_part_step path j
 
 joined_lists : (xs : List LayItem) → flat_map (λ (ys : List Item). ys) (map item_list xs) ≡ item_lists xs
 joined_lists [] = refl
@@ -50,11 +50,11 @@ joined_lists (x ∷ xs) = ap (λ (ys : List Item). item_list x ++ ys) (joined_li
 
 pub around-Pointer : (align : ℕ) (items : List LayItem) → kind_around (K.Pointer align items) ≡ record { it = Address align; inside = item_lists items }
 around-Pointer align items =
-    W.fold-Pointer (List Item) (Around Content) (Around WrittenPart) item_step kind_step part_step align items
+    W.fold-Pointer (List Item) (Around Content) (Around WrittenPart) items_step content_step written_part_step align items
     ∙ ap (λ (xs : List Item). record { it = Address align; inside = xs }) (joined_lists items)
 
 pub around-Part : (p : PartDecl) → part_around p ≡ record { it = record { o = p.o; l = p.l; content = (kind_around p.kind).it }; inside = (kind_around p.kind).inside }
-around-Part p = fold_out-PartDecl (List Item) (Around Content) (Around WrittenPart) item_step kind_step part_step p
+around-Part p = fold_out-PartDecl (List Item) (Around Content) (Around WrittenPart) items_step content_step written_part_step p
 
 -- What a kind holds, by its form --------------------------------------------------------------------
 

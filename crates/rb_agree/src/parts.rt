@@ -11,7 +11,7 @@
 ghost use Rattle.std.specs.Prelude.{◌≡◌, ◌↔◌, ◌<◌, ◌≤◌, length, IfOk, IsTrue, MatchOption};
 ghost use Rattle.rb_layout.specs.Flattening.{IsOpenIn};
 ghost use Rattle.rb_layout.specs.Positions.{open_positions};
-ghost use Rattle.rb_layout.specs.A3.{FailsItem, Fits, FitsSlice, FitsWhole, FitsWord, IsPlaced, ItemFits, LiesIn, PartsFit};
+ghost use Rattle.rb_layout.specs.A3.{FailsItem, Fits, FitsSlice, FitsWhole, FitsWord, IsContentPlaced, ItemFits, LiesIn, PartsFit};
 ghost use Rattle.rb_layout.specs.declared.evidence.Why.TheVariants as Whys;
 ghost use Rattle.rb_bits.specs.Words.{AreDisjoint};
 ghost use Rattle.rb_agree.specs.inner.Parts.{PartsAreApart, AreFine, FailsApart, FailsBefore, FailsFit, FailsPair, FailsPart, FailsSome, FailsWord, HaveBits, IsApartBefore, IsPartFine, shown_parts};
@@ -85,7 +85,7 @@ pub(crate) fn is_open(types: &[DataDecl], prov: &Pat, path: &Seq<u32>) -> bool
 
 // Whether what is written is placed: its path, if it has one, is open.
 fn is_placed(types: &[DataDecl], prov: &Pat, content: &Content) -> bool
-    ensures { IsTrue result ↔ IsPlaced (open_positions types.now prov.now) (shown_content content.now) }
+    ensures { IsTrue result ↔ IsContentPlaced (open_positions types.now prov.now) (shown_content content.now) }
 {
     match content {
         Content::Number(_) => true,

@@ -5,7 +5,7 @@
 
 ghost use Rattle.std.specs.Prelude.{◌≡◌, IfOk, MatchBool, MatchOption};
 ghost use Rattle.std.specs.List.{flat_map};
-ghost use Rattle.rb_layout.specs.A9.{FailsNoPointer, FlattensNoPointer, cons_below, cons_of};
+ghost use Rattle.rb_layout.specs.A9.{FailsNoPointer, FlattensNoPointer, cons_below, pattern_cons};
 ghost use Rattle.rb_agree.specs.inner.Lists.{FindsIn};
 ghost use Rattle.rb_layout.specs.Graphs.{mark_of};
 ghost use Rattle.rb_agree.specs.Pointing.{AreMarks, PartPoints, LeafPoints, PartsPoint, WordsPoint, BlocksPoint, LeavesPoint};
@@ -116,7 +116,7 @@ fn is_marked(marks: &[bool], ty: u32) -> bool
 // where there is none.
 #[cycle(marking)]
 fn marked_in(marks: &[bool], pat: &Pat) -> Option<u32>
-    ensures { FindsIn (IsUnmarked marks.now) (IsMarked marks.now) (cons_of pat.now) result }
+    ensures { FindsIn (IsUnmarked marks.now) (IsMarked marks.now) (pattern_cons pat.now) result }
 {
     match pat {
         Pat::Wild(_) => None,
@@ -135,7 +135,7 @@ fn marked_in(marks: &[bool], pat: &Pat) -> Option<u32>
 // None where there is none.
 #[cycle(marking)]
 fn marked_among(marks: &[bool], pats: &[Pat]) -> Option<u32>
-    ensures { FindsIn (IsUnmarked marks.now) (IsMarked marks.now) (flat_map cons_of pats.now) result }
+    ensures { FindsIn (IsUnmarked marks.now) (IsMarked marks.now) (flat_map pattern_cons pats.now) result }
 {
     for pat in pats {
         if let Some(ty) = marked_in(marks, pat) {

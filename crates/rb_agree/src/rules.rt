@@ -20,7 +20,7 @@ ghost use Rattle.rb_agree.specs.Written.{shown_items};
 ghost use Rattle.rb_agree.specs.inner.Lists.{EachOf};
 ghost use Rattle.rb_agree.specs.inner.Leaves.{items_under, shown_leaves};
 ghost use Rattle.rb_agree.specs.inner.Passing.{IsOff};
-ghost use Rattle.rb_agree.specs.inner.Rules.{FindsAtLeaf, FindsAtLeaves, FindsAtType, FindsIn, IsKnown, RuleIsReady, IsRuled, RuleHoldsWhereOff, refusal, rule_number, rule_spots, rules_spots};
+ghost use Rattle.rb_agree.specs.inner.Rules.{FindsAtLeaf, FindsAtLeaves, FindsAtType, RuleFinds, IsKnown, RuleIsReady, IsRuled, RuleHoldsWhereOff, refusal, rule_number, rule_spots, rules_spots};
 
 use crate::blocks::blocks_fault;
 use crate::graphs::{flattening_fault, holding_fault};
@@ -337,7 +337,7 @@ fn leaves_fault(
 fn layout_fault(alloc: Global, ruled: &Ruled) -> Result<Option<Refused>, AllocError>
     requires ruled { IsRuled ruled.now }
     requires ready { RuleIsReady ruled.now.layouts.now ruled.now.rule }
-    ensures { IfOk result (FindsIn ruled.now) }
+    ensures { IfOk result (RuleFinds ruled.now) }
 {
     if let Some(why) = type_fault(alloc, ruled)? {
         return Ok(Some(Refused {

@@ -16,14 +16,14 @@ use Rattle.rb_layout.specs.declared.layout.WordRef.{WordRef}
 use Rattle.rb_layout.specs.Positions.{Open}
 use Rattle.rb_layout.specs.Words.{words_in, words_of_block}
 use Rattle.rb_layout.specs.Pointers.{PointsTo}
-use Rattle.rb_layout.specs.Flattening.{Laid, parts_of, type_at}
+use Rattle.rb_layout.specs.Flattening.{WithBlocks, parts_of, type_at}
 use Rattle.rb_layout.specs.A4.{HasBlocks, IsBlockLength}
 use Rattle.rb_layout.proofs.FlatForms.{Each}
 use Rattle.rb_auto.specs.declared.field_words.FieldWord.{FieldWord}
 use Rattle.rb_auto.specs.declared.form.Form.TheVariants.{Boxed}
 use Rattle.rb_auto.specs.declared.room.Room.{Room}
 use Rattle.rb_auto.specs.Fields.{cons_of}
-use Rattle.rb_auto.specs.FieldWords.{words_of}
+use Rattle.rb_auto.specs.FieldWords.{constructor_words}
 use Rattle.rb_auto.specs.Items.{groups}
 use Rattle.rb_auto.specs.inner.Standing.{EachDerivedLeaf}
 use Rattle.rb_auto.proofs.Leaves.{blocks-are, leaf-is, opens_at, root-is}
@@ -78,7 +78,7 @@ module _ (opens : List Open) where
       let most = h.1 in
       ((omega (arith, l, some), omega (arith, l, most)), any-word g)
 
-  record IsGoodInner (laid : Laid (List FlatWord)) : Type 0 where
+  record IsGoodInner (laid : WithBlocks (List FlatWord)) : Type 0 where
     pub blocks : Each IsGoodBlock laid.blocks
     pub words : Each IsGoodWord laid.it
     pub size : IsBlockLength (length laid.it)
@@ -149,17 +149,17 @@ module _ (leaf : Leaf) (width : ℕ) (parts : List Part) (root : leaf.root ≡ r
 
 -- the words of each constructor's fields are few enough for 63 groups of 64
 abbrev pub HasFewWords : Program → List Room → ℕ → Type 0
-HasFewWords p rooms t = (k : ℕ) (c : Con) → slice_get (cons_of p.types t) k ≡ Some c → length (words_of p rooms c.fields) ≤ 64 * 63
+HasFewWords p rooms t = (k : ℕ) (c : Con) → slice_get (cons_of p.types t) k ≡ Some c → length (constructor_words p rooms c.fields) ≤ 64 * 63
 
 pub box-has-blocks : (p : Program) (decls : List LayoutDecl) (rooms : List Room) (t : ℕ) → HasFewWords p rooms t → EachDerivedLeaf p decls rooms t Boxed (λ n leaf. HasBlocks leaf)
 box-has-blocks p decls rooms t few n leaf e =
     let c = leaf-is p rooms t Boxed decls n leaf e in
-    let ws = words_of p rooms c.0.fields in
+    let ws = constructor_words p rooms c.0.fields in
     let opens = opens_at p rooms t Boxed decls n c.0 in
     let laid = boxed-laid decls opens n ws in
     let root : leaf.root ≡ record { width = 64; parts = box_parts opens n ws } ∷ [] =
-    ap (λ (l : Leaf). l.root) c.2 ∙ root-is p rooms t Boxed decls n c.0 ∙ ap (λ (x : Laid (List Part)). record { width = 64; parts = x.it } ∷ []) laid in
-    let blocks : leaf.blocks ≡ box_blocks opens ws = ap (λ (l : Leaf). l.blocks) c.2 ∙ blocks-are p rooms t Boxed decls n c.0 ∙ ap (λ (x : Laid (List Part)). x.blocks) laid in
+    ap (λ (l : Leaf). l.root) c.2 ∙ root-is p rooms t Boxed decls n c.0 ∙ ap (λ (x : WithBlocks (List Part)). record { width = 64; parts = x.it } ∷ []) laid in
+    let blocks : leaf.blocks ≡ box_blocks opens ws = ap (λ (l : Leaf). l.blocks) c.2 ∙ blocks-are p rooms t Boxed decls n c.0 ∙ ap (λ (x : WithBlocks (List Part)). x.blocks) laid in
     let good = blocks-good opens ws (few n c.0 c.1) in
     has-blocks leaf 64 (box_parts opens n ws) root (root-good opens n ws) (subst (λ (bs : List Block). Each IsGoodBlock bs) (sym blocks) good.0)
     (subst (λ (bs : List Block). length bs ≤ 64) (sym blocks) good.1)

@@ -16,7 +16,7 @@ use Rattle.rb_auto.specs.declared.field_words.FieldWord.{FieldWord}
 use Rattle.rb_auto.specs.declared.form.Form.TheVariants.{Boxed}
 use Rattle.rb_auto.specs.declared.room.Room.{Room}
 use Rattle.rb_auto.specs.Fields.{cons_of}
-use Rattle.rb_auto.specs.FieldWords.{words_of}
+use Rattle.rb_auto.specs.FieldWords.{constructor_words}
 use Rattle.rb_auto.specs.Items.{groups}
 use Rattle.rb_auto.specs.Derived.{derived}
 use Rattle.rb_auto.specs.inner.Standing.{EachDerivedLeaf, TagFits}
@@ -74,10 +74,10 @@ module _ (p : Program) (decls : List LayoutDecl) (rooms : List Room) (all : List
 
 -- the items of a boxed leaf of a completed program
 pub box-items-of : (p : Program) (decls : List LayoutDecl) (rooms : List Room) (t n : ℕ) (c : Con) → slice_get (cons_of p.types t) n ≡ Some c
-    → decl_of decls t ≡ Some (derived p rooms t Boxed) → items_of decls t n ≡ box_written n (words_of p rooms c.fields)
+    → decl_of decls t ≡ Some (derived p rooms t Boxed) → items_of decls t n ≡ box_written n (constructor_words p rooms c.fields)
 box-items-of p decls rooms t n c at is =
     ap (λ (d : Option LayoutDecl). items_in (slice_get (leaves_in d) n)) is ∙ ap (λ (w : Option WrittenLeaf). items_in w) (leaf-written p rooms t Boxed n c at)
-    ∙ boxed-items n (words_of p rooms c.fields)
+    ∙ boxed-items n (constructor_words p rooms c.fields)
 
 pub box-has-fitting-parts : (p : Program) (decls : List LayoutDecl) (rooms : List Room) (t : ℕ) → TagFits p t Boxed → FieldsFit p decls rooms t
     → decl_of decls t ≡ Some (derived p rooms t Boxed)
@@ -86,7 +86,7 @@ pub box-has-fitting-parts : (p : Program) (decls : List LayoutDecl) (rooms : Lis
 box-has-fitting-parts p decls rooms t tag_fits fields is n leaf e i item at =
     let c = leaf-is p rooms t Boxed decls n leaf e in
     let all = c.0.fields in
-    let ws = words_of p rooms all in
+    let ws = constructor_words p rooms all in
     let lt = slice_get_within (cons_of p.types t) n c.0 c.1 in
     let told = tag_fits.told in
     let opens_is : open_positions p.types leaf.prov ≡ field_opens 0 all = ap (λ l. open_positions p.types l.prov) c.2 ∙ opens-are p.types t n c.0 c.1 in

@@ -13,14 +13,14 @@ use Rattle.rb_layout.specs.declared.layout.FlatWord.{FlatWord}
 use Rattle.rb_layout.specs.declared.layout.Part.{Part}
 use Rattle.rb_layout.specs.declared.layout.Kind.TheVariants.{Const, Pointer}
 use Rattle.rb_layout.specs.Positions.{Open, open_positions}
-use Rattle.rb_layout.specs.Flattening.{IsOpenIn, Laid, decl_of}
+use Rattle.rb_layout.specs.Flattening.{IsOpenIn, WithBlocks, decl_of}
 use Rattle.rb_layout.specs.Items.{Item, content_paths, item_paths, items_of, paths_of}
 use Rattle.rb_layout.specs.A6.{HoldsOnce, times_held, times_in_block, times_in_word, holds_unit, units_of}
 use Rattle.rb_layout.proofs.FlatForms.{Each}
 use Rattle.rb_auto.specs.declared.field_words.FieldWord.{FieldWord}
 use Rattle.rb_auto.specs.declared.form.Form.TheVariants.{Boxed}
 use Rattle.rb_auto.specs.declared.room.Room.{Room}
-use Rattle.rb_auto.specs.FieldWords.{words_of}
+use Rattle.rb_auto.specs.FieldWords.{constructor_words}
 use Rattle.rb_auto.specs.Items.{groups}
 use Rattle.rb_auto.specs.Derived.{derived}
 use Rattle.rb_auto.specs.Completed.{with_layouts}
@@ -160,15 +160,15 @@ pub box-holds-its-fields : (p : Program) (decls : List LayoutDecl) (rooms : List
 box-holds-its-fields p decls rooms t fields is n leaf e =
     let c = leaf-is p rooms t Boxed decls n leaf e in
     let all = c.0.fields in
-    let ws = words_of p rooms all in
+    let ws = constructor_words p rooms all in
     let opens = opens_at p rooms t Boxed decls n c.0 in
     let opens_is : open_positions p.types leaf.prov ≡ field_opens 0 all = ap (λ l. open_positions p.types l.prov) c.2 ∙ opens-are p.types t n c.0 c.1 in
     let opens_at_is : opens ≡ field_opens 0 all = opens-are p.types t n c.0 c.1 in
     let items_are = box-items-of p decls rooms t n c.0 c.1 is in
     let laid = boxed-laid decls opens n ws in
     let root : leaf.root ≡ record { width = 64; parts = box_parts opens n ws } ∷ [] =
-    ap (λ (l : Leaf). l.root) c.2 ∙ root-is p rooms t Boxed decls n c.0 ∙ ap (λ (x : Laid (List Part)). record { width = 64; parts = x.it } ∷ []) laid in
-    let blocks : leaf.blocks ≡ box_blocks opens ws = ap (λ (l : Leaf). l.blocks) c.2 ∙ blocks-are p rooms t Boxed decls n c.0 ∙ ap (λ (x : Laid (List Part)). x.blocks) laid in
+    ap (λ (l : Leaf). l.root) c.2 ∙ root-is p rooms t Boxed decls n c.0 ∙ ap (λ (x : WithBlocks (List Part)). record { width = 64; parts = x.it } ∷ []) laid in
+    let blocks : leaf.blocks ≡ box_blocks opens ws = ap (λ (l : Leaf). l.blocks) c.2 ∙ blocks-are p rooms t Boxed decls n c.0 ∙ ap (λ (x : WithBlocks (List Part)). x.blocks) laid in
     let once : (f : ℕ) (ty : Ty) (i : ℕ) → slice_get all f ≡ Some ty → i < units_of (with_layouts p decls) ty → times_held leaf ty (f ∷ []) i ≡ 1 =
     λ f ty i at lt.
     let own = own-field p decls rooms ty f i (field_opens 0 all) (field-type all f ty at) (fields.each n c.0 f ty c.1 at) lt in

@@ -9,7 +9,7 @@ use Rattle.rb_core.specs.declared.layout_decl.LayItem.TheFolds.{fold-PartDecl, f
 use Rattle.rb_core.specs.declared.layout_decl.PartDecl.{PartDecl}
 use Rattle.rb_core.specs.declared.layout_decl.PartKind.{PartKind}
 use Rattle.rb_core.specs.declared.layout_decl.PartKind.TheVariants as K
-use Rattle.rb_layout.specs.Items.{Address, Around, Content, Item, AWord, Number, WrittenPart, item_list, item_lists, item_step, items_inside, kind_step, part_step, plain}
+use Rattle.rb_layout.specs.Items.{Address, Around, Content, Item, AWord, Number, WrittenPart, item_list, item_lists, items_step, items_inside, content_step, written_part_step, plain}
 use Rattle.rb_layout.proofs.WrittenForms.{fold-Word, fold-Const, fold-Pointer}
 use Rattle.rb_auto.specs.declared.field_words.FieldWord.{FieldWord}
 use Rattle.rb_auto.specs.FieldWords.{content}
@@ -38,19 +38,19 @@ box_written k [] = AWord 64 (written_at 0 8 (Number k) ∷ []) ∷ []
 box_written k (w ∷ ws) = AWord 64 (written_at 0 8 (Number k) ∷ written_at 8 56 (Address 8) ∷ []) ∷ inner_written (nat_le (length (w ∷ ws)) 64) (w ∷ ws)
 
 abbrev around : PartDecl → Around WrittenPart
-around = fold-PartDecl (List Item) (Around Content) (Around WrittenPart) item_step kind_step part_step
+around = fold-PartDecl (List Item) (Around Content) (Around WrittenPart) items_step content_step written_part_step
 
 abbrev kind_around : PartKind → Around Content
-kind_around = fold-PartKind (List Item) (Around Content) (Around WrittenPart) item_step kind_step part_step
+kind_around = fold-PartKind (List Item) (Around Content) (Around WrittenPart) items_step content_step written_part_step
 
 -- a part, and what is written inside it
 part-around : (o l : ℕ) (kind : PartKind) (a : Around Content) → kind_around kind ≡ a → around (part o l kind) ≡ record { it = written_at o l a.it; inside = a.inside }
 part-around o l kind a is =
-    fold_out-PartDecl (List Item) (Around Content) (Around WrittenPart) item_step kind_step part_step (part o l kind)
+    fold_out-PartDecl (List Item) (Around Content) (Around WrittenPart) items_step content_step written_part_step (part o l kind)
     ∙ ap (λ (x : Around Content). record { it = written_at o l x.it; inside = x.inside }) is
 
 word-list : (width : ℕ) (parts : List PartDecl) → item_list (I.Word width parts) ≡ AWord width (map (λ (x : Around WrittenPart). x.it) (map around parts)) ∷ items_inside (map around parts)
-word-list width parts = fold-Word (List Item) (Around Content) (Around WrittenPart) item_step kind_step part_step width parts
+word-list width parts = fold-Word (List Item) (Around Content) (Around WrittenPart) items_step content_step written_part_step width parts
 
 whole-list : (l : ℕ) (kind : PartKind) (a : Around Content) → kind_around kind ≡ a → item_list (whole_word l kind) ≡ AWord 64 (written_at 0 l a.it ∷ []) ∷ a.inside
 whole-list l kind a is =
@@ -75,7 +75,7 @@ pointed_at items = record { it = Address 8; inside = items }
 
 pointer-around : (items : List LayItem) (xs : List Item) → item_lists items ≡ xs → kind_around (K.Pointer 8 items) ≡ pointed_at xs
 pointer-around items xs is =
-    fold-Pointer (List Item) (Around Content) (Around WrittenPart) item_step kind_step part_step 8 items ∙ ap pointed_at (joined items ∙ is)
+    fold-Pointer (List Item) (Around Content) (Around WrittenPart) items_step content_step written_part_step 8 items ∙ ap pointed_at (joined items ∙ is)
 
 group-list : (g : List FieldWord) → item_list (group_item g) ≡ group_written g
 group-list g = whole-list 64 (K.Pointer 8 (map field_item g)) (pointed_at (map field_written g)) (pointer-around (map field_item g) (map field_written g) (fields-list g))
@@ -91,7 +91,7 @@ inner-list true ws = fields-list ws
 inner-list false ws = groups-list (groups (length ws) ws)
 
 const-around : (k : ℕ) → kind_around (K.Const k) ≡ plain (Number k)
-const-around k = fold-Const (List Item) (Around Content) (Around WrittenPart) item_step kind_step part_step k
+const-around k = fold-Const (List Item) (Around Content) (Around WrittenPart) items_step content_step written_part_step k
 
 box-list : (k : ℕ) (ws : List FieldWord) → item_list (I.Word 64 (boxed_parts k ws)) ≡ box_written k ws
 box-list k [] =

@@ -20,8 +20,8 @@ use Rattle.rb_auto.specs.declared.form.Form.TheVariants.{Packed}
 use Rattle.rb_auto.specs.declared.room.Room.{Room}
 use Rattle.rb_auto.specs.declared.room.Room.TheVariants.{Word, Recursive, Bits}
 use Rattle.rb_auto.specs.Fields.{cons_of}
-use Rattle.rb_auto.specs.FieldWords.{field_words, fields_words, words_from, words_of}
-use Rattle.rb_auto.specs.Widths.{counted, field_width, packed_width, room_width, shape, shape_or, widths, word_width}
+use Rattle.rb_auto.specs.FieldWords.{field_words, fields_words, words_from, constructor_words}
+use Rattle.rb_auto.specs.Widths.{counted_width, field_width, packed_width, room_width, shape, shape_or, widths, word_width}
 use Rattle.rb_auto.specs.inner.PackedRules.{FieldFits, HasFittingParts}
 use Rattle.rb_auto.proofs.Leaves.{leaf-is, leaf-written}
 use Rattle.rb_auto.proofs.Opens.{field_opens, field-type, opens-are}
@@ -88,7 +88,7 @@ module _ (p : Program) (rooms : List Room) where
 
 -- Widths are those of words ---------------------------------------------------------------------------------
 
-counted-width : (w : ℕ) → IsShapeWidth (counted w)
+counted-width : (w : ℕ) → IsShapeWidth (counted_width w)
 counted-width w = by_test (nat_le 1 w && nat_le w 64) refl
   where
     by_test : (b : Bool) → (nat_le 1 w && nat_le w 64) ≡ b → IsShapeWidth (if b then w else 64)
@@ -115,9 +115,9 @@ room-wide (Some room) = word-width room
 abbrev AreWidths : List ℕ → Type 0
 AreWidths ws = (k w : ℕ) → slice_get ws k ≡ Some w → IsShapeWidth w
 
-counted-all : (ws : List ℕ) → AreWidths (map counted ws)
+counted-all : (ws : List ℕ) → AreWidths (map counted_width ws)
 counted-all [] k w e = absurd cc
-counted-all (x ∷ ws) zero w e = subst IsShapeWidth (same_Some (counted x) w e) (counted-width x)
+counted-all (x ∷ ws) zero w e = subst IsShapeWidth (same_Some (counted_width x) w e) (counted-width x)
 counted-all (x ∷ ws) (suc k) w e = counted-all ws k w e
 
 shape-widths : (decl : Option LayoutDecl) (room : Option Room) → AreWidths (shape_or decl room)
@@ -222,7 +222,7 @@ pub has-fitting-parts : HasFittingParts
 has-fitting-parts p decls rooms t tag width tag_fits fields room is n leaf e i item at =
     let form = Packed tag width in
     let c = leaf-is p rooms t form decls n leaf e in
-    let ws = words_of p rooms c.0.fields in
+    let ws = constructor_words p rooms c.0.fields in
     let lt = slice_get_within (cons_of p.types t) n c.0 c.1 in
     let opens_is : open_positions p.types leaf.prov ≡ field_opens 0 c.0.fields = ap (λ l. open_positions p.types l.prov) c.2 ∙ opens-are p.types t n c.0 c.1 in
     let items_are : items_of decls t n ≡ AWord width (written_parts tag n ws) ∷ [] =

@@ -18,7 +18,7 @@ use Rattle.rb_layout.specs.declared.layout.Part.{Part}
 use Rattle.rb_layout.specs.declared.layout.Kind.{Kind}
 use Rattle.rb_layout.specs.declared.layout.Kind.TheVariants.{Const, Bits, Word}
 use Rattle.rb_layout.specs.Positions.{Open, open_positions}
-use Rattle.rb_layout.specs.Flattening.{Laid, in_turn, kind_if_open, kind_laid, part_laid, parts_of, same_path, type_at, whole_kind, without_blocks, IsOpenIn}
+use Rattle.rb_layout.specs.Flattening.{WithBlocks, in_turn, kind_if_open, kind_laid, part_laid, parts_of, same_path, type_at, whole_kind, without_blocks, IsOpenIn}
 use Rattle.rb_layout.specs.Items.{Item, AWord, WrittenPart, content_paths, items_in, items_of, leaves_in, paths_of}
 use Rattle.rb_layout.specs.A6.{times_held, times_in_block, times_in_part, times_in_word, holds_unit, units_of}
 use Rattle.rb_layout.proofs.FlatForms.{Each}
@@ -26,7 +26,7 @@ use Rattle.rb_layout.proofs.Computing.{part_at, const_at, whole_at, word_of_laid
 use Rattle.rb_auto.specs.declared.field_words.FieldWord.{FieldWord}
 use Rattle.rb_auto.specs.declared.form.Form.TheVariants.{Packed}
 use Rattle.rb_auto.specs.declared.room.Room.{Room}
-use Rattle.rb_auto.specs.FieldWords.{content, content_in, field_words, fields_words, words_from, words_of}
+use Rattle.rb_auto.specs.FieldWords.{content, content_in, field_words, fields_words, words_from, constructor_words}
 use Rattle.rb_auto.specs.Items.{packed_parts, part, parts_from}
 use Rattle.rb_auto.specs.Widths.{widths, shape}
 use Rattle.rb_auto.specs.Completed.{with_layouts}
@@ -128,8 +128,8 @@ module _ (ty : Ty) (f i : ℕ) where
 
     word-laid : (o : ℕ) (w : FieldWord) (n : ℕ) → in_parts (part_laid decls opens (part o w.width (content w)) n).it ≡ units_in w.width (kind_of_word w.field w.word)
     word-laid o w n =
-        ap (λ (laid : Laid (List Part)). in_parts laid.it) (part_at decls opens n (part o w.width (content w)))
-        ∙ ap (λ (laid : Laid (Option Kind)). in_parts (parts_of o w.width laid.it)) (kind-laid w.field w.word n)
+        ap (λ (laid : WithBlocks (List Part)). in_parts laid.it) (part_at decls opens n (part o w.width (content w)))
+        ∙ ap (λ (laid : WithBlocks (Option Kind)). in_parts (parts_of o w.width laid.it)) (kind-laid w.field w.word n)
         ∙ in-kind o w.width (kind_of_word w.field w.word)
 
     words-laid : (o : ℕ) (ws : List FieldWord) (n : ℕ) → in_parts (in_turn (map (part_laid decls opens) (parts_from o ws)) n).it ≡ count ws
@@ -151,8 +151,8 @@ module _ (ty : Ty) (f i : ℕ) where
         let first = part_laid decls opens d 0 in
         let rest = in_turn (map (part_laid decls opens) (parts_from (suc tag) ws)) (0 + length first.blocks) in
         let tag_part : in_parts first.it ≡ 0 =
-        ap (λ (laid : Laid (List Part)). in_parts laid.it) (part_at decls opens 0 d)
-        ∙ ap (λ (laid : Laid (Option Kind)). in_parts (parts_of 0 (suc tag) laid.it)) (const_at decls opens 0 k)
+        ap (λ (laid : WithBlocks (List Part)). in_parts laid.it) (part_at decls opens 0 d)
+        ∙ ap (λ (laid : WithBlocks (Option Kind)). in_parts (parts_of 0 (suc tag) laid.it)) (const_at decls opens 0 k)
         ∙ in-kind 0 (suc tag) (Some (Const k)) ∙ no (holds_unit ty (f ∷ []) i (suc tag) (Const k)) (const-none ty (suc tag) k) in
         parts-append first.it rest.it ∙ ap (λ m. m + in_parts rest.it) tag_part ∙ zero-add (in_parts rest.it) ∙ words-laid (suc tag) ws (0 + length first.blocks)
 
@@ -299,7 +299,7 @@ holds-its-fields p decls rooms t tag width fields is n leaf e =
     let form = Packed tag width in
     let c = leaf-is p rooms t form decls n leaf e in
     let all = c.0.fields in
-    let ws = words_of p rooms all in
+    let ws = constructor_words p rooms all in
     let opens_is : open_positions p.types leaf.prov ≡ field_opens 0 all = ap (λ l. open_positions p.types l.prov) c.2 ∙ opens-are p.types t n c.0 c.1 in
     let opens_at_is : opens_at p rooms t form decls n c.0 ≡ field_opens 0 all = opens-are p.types t n c.0 c.1 in
     let items_are : items_of decls t n ≡ AWord width (written_parts tag n ws) ∷ [] =

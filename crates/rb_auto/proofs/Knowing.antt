@@ -19,7 +19,7 @@ use Rattle.rb_layout.specs.declared.layout.Kind.{Kind}
 use Rattle.rb_layout.specs.declared.layout.Kind.TheVariants.{Const}
 use Rattle.rb_layout.specs.Locations.{Reached, constant_bit, constant_bits, known_in, or_else, range_in, reached_at, with_bit}
 use Rattle.rb_layout.specs.Splits.{Test, Is}
-use Rattle.rb_layout.specs.Flattening.{Laid, in_turn, part_laid, parts_of, flat_leaf}
+use Rattle.rb_layout.specs.Flattening.{WithBlocks, in_turn, part_laid, parts_of, flat_leaf}
 use Rattle.rb_layout.specs.A7.{MeetsTest}
 use Rattle.rb_layout.proofs.Computing.{part_at, const_at}
 use Rattle.rb_auto.specs.declared.field_words.FieldWord.{FieldWord}
@@ -27,7 +27,7 @@ use Rattle.rb_auto.specs.declared.form.Form.{Form}
 use Rattle.rb_auto.specs.declared.form.Form.TheVariants.{Boxed, Packed}
 use Rattle.rb_auto.specs.declared.room.Room.{Room}
 use Rattle.rb_auto.specs.Fields.{cons_of}
-use Rattle.rb_auto.specs.FieldWords.{words_of}
+use Rattle.rb_auto.specs.FieldWords.{constructor_words}
 use Rattle.rb_auto.specs.Items.{form_parts, form_tag, form_width, part, parts_from, pointer_parts}
 use Rattle.rb_auto.specs.Derived.{tag_loc}
 use Rattle.rb_auto.specs.inner.Rules.{MeetsItsTests}
@@ -86,15 +86,15 @@ module _ (p : Program) (decls : List LayoutDecl) (rooms : List Room) (t : ℕ) (
       ≡ record { it = record { o = 0; l = form_tag form; kind = Const n } ∷ []; blocks = [] }
   tag-laid =
       part_at decls (opens_at p rooms t form decls n c) 0 (part 0 (form_tag form) (K.Const n))
-      ∙ ap (λ (laid : Laid (Option Kind)). record { it = parts_of 0 (form_tag form) laid.it; blocks = laid.blocks }) (const_at decls (opens_at p rooms t form decls n c) 0 n)
+      ∙ ap (λ (laid : WithBlocks (Option Kind)). record { it = parts_of 0 (form_tag form) laid.it; blocks = laid.blocks }) (const_at decls (opens_at p rooms t form decls n c) 0 n)
 
   parts-are : (ps : List Part) × ((parts_at p rooms t form decls n c).it ≡ record { o = 0; l = form_tag form; kind = Const n } ∷ ps)
   parts-are =
       let opens = opens_at p rooms t form decls n c in
-      let later = map (part_laid decls opens) (later_parts form (words_of p rooms c.fields)) in (
+      let later = map (part_laid decls opens) (later_parts form (constructor_words p rooms c.fields)) in (
         (in_turn later 0).it,
-        ap (λ (ds : List PartDecl). (in_turn (map (part_laid decls opens) ds) 0).it) (tag-first form n (words_of p rooms c.fields) some)
-            ∙ ap (λ (laid : Laid (List Part)). laid.it ++ (in_turn later (0 + length laid.blocks)).it) tag-laid,
+        ap (λ (ds : List PartDecl). (in_turn (map (part_laid decls opens) ds) 0).it) (tag-first form n (constructor_words p rooms c.fields) some)
+            ∙ ap (λ (laid : WithBlocks (List Part)). laid.it ++ (in_turn later (0 + length laid.blocks)).it) tag-laid,
       )
 
   -- the tag resolves, and is the constructor's number

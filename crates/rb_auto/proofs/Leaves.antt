@@ -14,13 +14,13 @@ use Rattle.rb_layout.specs.declared.layout.FlatWord.{FlatWord}
 use Rattle.rb_layout.specs.declared.layout.Part.{Part}
 use Rattle.rb_layout.specs.declared.layout.Kind.{Kind}
 use Rattle.rb_layout.specs.Positions.{Open, open_positions}
-use Rattle.rb_layout.specs.Flattening.{Laid, Laying, in_turn, item_laid, item_step, kind_step, part_step, part_laid, flat_leaf}
+use Rattle.rb_layout.specs.Flattening.{WithBlocks, Laying, in_turn, item_laid, item_step, kind_step, part_step, part_laid, flat_leaf}
 use Rattle.rb_layout.proofs.TreeLemmas.{leaves-Leaf, leaves-Split, arm_leaves-is}
 use Rattle.rb_layout.proofs.WrittenForms.{fold-Word}
 use Rattle.rb_auto.specs.declared.form.Form.{Form}
 use Rattle.rb_auto.specs.declared.room.Room.{Room}
 use Rattle.rb_auto.specs.Fields.{cons_of}
-use Rattle.rb_auto.specs.FieldWords.{words_of}
+use Rattle.rb_auto.specs.FieldWords.{constructor_words}
 use Rattle.rb_auto.specs.Items.{form_parts, form_tag, form_width, leaf_items}
 use Rattle.rb_auto.specs.Derived.{arms_from, derived, leaf, provenance, tag_loc, tree_of}
 use Rattle.rb_auto.specs.inner.Standing.{flat_derived}
@@ -38,7 +38,7 @@ map-get f (z ∷ xs) (suc n) x e = map-get f xs n x e
 module _ (p : Program) (rooms : List Room) (t : ℕ) (form : Form) where
   -- the leaf of constructor k as it is written
   abbrev pub leaf_at : ℕ → Con → WrittenLeaf
-  leaf_at k c = record { provenance = provenance t k c; items = leaf_items form k (words_of p rooms c.fields) }
+  leaf_at k c = record { provenance = provenance t k c; items = leaf_items form k (constructor_words p rooms c.fields) }
 
   abbrev pub leaves_from : ℕ → List Con → List WrittenLeaf
   leaves_from k [] = []
@@ -48,12 +48,12 @@ module _ (p : Program) (rooms : List Room) (t : ℕ) (form : Form) where
   arms-leaves k [] = refl
   arms-leaves k (c ∷ cs) =
       let here : leaves_under (record { literal = k; under = leaf p rooms t form k c }) ≡ leaf_at k c ∷ [] =
-      arm_leaves-is (record { literal = k; under = leaf p rooms t form k c }) ∙ leaves-Leaf 0 (provenance t k c) (leaf_items form k (words_of p rooms c.fields)) in
+      arm_leaves-is (record { literal = k; under = leaf p rooms t form k c }) ∙ leaves-Leaf 0 (provenance t k c) (leaf_items form k (constructor_words p rooms c.fields)) in
       ap (λ (ls : List WrittenLeaf). ls ++ flat_map leaves_under (arms_from p rooms t form (k + 1) cs)) here ∙ ap (λ (ls : List WrittenLeaf). leaf_at k c ∷ ls) (arms-leaves (k + 1) cs)
 
   pub tree-leaves : (tag : ℕ) (cs : List Con) → leaves (tree_of p rooms t form tag cs) ≡ leaves_from 0 cs
   tree-leaves zero [] = leaves-Split (tag_loc zero) [] ∙ arms-leaves 0 []
-  tree-leaves zero (c ∷ []) = leaves-Leaf 0 (provenance t 0 c) (leaf_items form 0 (words_of p rooms c.fields))
+  tree-leaves zero (c ∷ []) = leaves-Leaf 0 (provenance t 0 c) (leaf_items form 0 (constructor_words p rooms c.fields))
   tree-leaves zero (c ∷ d ∷ cs) = leaves-Split (tag_loc zero) (arms_from p rooms t form 0 (c ∷ d ∷ cs)) ∙ arms-leaves 0 (c ∷ d ∷ cs)
   tree-leaves (suc tag) cs = leaves-Split (tag_loc (suc tag)) (arms_from p rooms t form 0 cs) ∙ arms-leaves 0 cs
 
@@ -115,18 +115,18 @@ module _ (p : Program) (rooms : List Room) (t : ℕ) (form : Form) where
     abbrev pub opens_at : ℕ → Con → List Open
     opens_at k c = open_positions p.types (provenance t k c)
 
-    abbrev pub parts_at : ℕ → Con → Laid (List Part)
-    parts_at k c = in_turn (map (part_laid decls (opens_at k c)) (form_parts form k (words_of p rooms c.fields))) 0
+    abbrev pub parts_at : ℕ → Con → WithBlocks (List Part)
+    parts_at k c = in_turn (map (part_laid decls (opens_at k c)) (form_parts form k (constructor_words p rooms c.fields))) 0
 
-    word-laid : (k : ℕ) (c : Con) → item_laid decls (opens_at k c) (I.Word (form_width form) (form_parts form k (words_of p rooms c.fields))) 0
+    word-laid : (k : ℕ) (c : Con) → item_laid decls (opens_at k c) (I.Word (form_width form) (form_parts form k (constructor_words p rooms c.fields))) 0
         ≡ record { it = record { width = form_width form; parts = (parts_at k c).it } ∷ []; blocks = (parts_at k c).blocks }
     word-laid k c =
         ap (λ (lay : Laying (List FlatWord)). lay 0)
         (fold-Word (Laying (List FlatWord)) (Laying (Option Kind)) (Laying (List Part)) (item_step decls (opens_at k c)) (kind_step (opens_at k c)) part_step
-        (form_width form) (form_parts form k (words_of p rooms c.fields)))
+        (form_width form) (form_parts form k (constructor_words p rooms c.fields)))
 
     pub root-is : (k : ℕ) (c : Con) → (flat_leaf p.types decls (leaf_at k c)).root ≡ record { width = form_width form; parts = (parts_at k c).it } ∷ []
-    root-is k c = ap (λ (l : Laid (List FlatWord)). l.it ++ []) (word-laid k c)
+    root-is k c = ap (λ (l : WithBlocks (List FlatWord)). l.it ++ []) (word-laid k c)
 
     pub blocks-are : (k : ℕ) (c : Con) → (flat_leaf p.types decls (leaf_at k c)).blocks ≡ (parts_at k c).blocks
-    blocks-are k c = ap (λ (l : Laid (List FlatWord)). l.blocks ++ []) (word-laid k c) ∙ append-nil (parts_at k c).blocks
+    blocks-are k c = ap (λ (l : WithBlocks (List FlatWord)). l.blocks ++ []) (word-laid k c) ∙ append-nil (parts_at k c).blocks

@@ -20,7 +20,7 @@ use Rattle.rb_core.proofs.MatchingForms.{matches-Con, matches-Wild}
 use Rattle.rb_core.proofs.ValueLaws.{is_of_type-Num, is_of_type-Con}
 use Rattle.rb_core.proofs.ValueLaws as laws
 use Rattle.rb_core.proofs.PatternLaws.{fold-Wild}
-use Rattle.rb_layout.specs.A9.{cons_below, cons_below_root, cons_of, cons_step}
+use Rattle.rb_layout.specs.A9.{cons_below, cons_below_root, pattern_cons, cons_step}
 use Rattle.rb_auto.specs.Fields.{cons_in}
 use Rattle.rb_auto.specs.Derived.{provenance}
 use Rattle.rb_auto.specs.inner.Rules.{FlattensNothing, HasOneLeaf, HasALeaf}
@@ -31,9 +31,9 @@ use Rattle.rb_auto.proofs.Leaves.{leaf-is, has-leaf}
 abbrev wilds : List Ty → List Pat
 wilds tys = map (λ (ty : Ty). P.Wild 0) tys
 
-none-below : (tys : List Ty) → flat_map cons_of (wilds tys) ≡ []
+none-below : (tys : List Ty) → flat_map pattern_cons (wilds tys) ≡ []
 none-below [] = refl
-none-below (ty ∷ tys) = ap (λ (cs : List ConRef). cs ++ flat_map cons_of (wilds tys)) (fold-Wild (List ConRef) cons_step 0) ∙ none-below tys
+none-below (ty ∷ tys) = ap (λ (cs : List ConRef). cs ++ flat_map pattern_cons (wilds tys)) (fold-Wild (List ConRef) cons_step 0) ∙ none-below tys
 
 below-none : (t k : ℕ) (c : Con) → cons_below (provenance t k c) ≡ []
 below-none t k c = ap cons_below_root (P.outs-Con 0 (record { ty = t; con = k }) (wilds c.fields)) ∙ none-below c.fields

@@ -17,8 +17,8 @@ use Rattle.rb_layout.specs.Flattening.{decl_of}
 use Rattle.rb_layout.specs.A1.{IsShapeWidth}
 use Rattle.rb_auto.specs.declared.room.Room.{Room}
 use Rattle.rb_auto.specs.Fields.{cons_in, cons_of}
-use Rattle.rb_auto.specs.FieldWords.{field_words, fields_words, words_from, words_of}
-use Rattle.rb_auto.specs.Widths.{counted, shape_or, widths}
+use Rattle.rb_auto.specs.FieldWords.{field_words, fields_words, words_from, constructor_words}
+use Rattle.rb_auto.specs.Widths.{counted_width, shape_or, widths}
 
 all-at : {A : Type 0} (f : A → Bool) (xs : List A) (k : ℕ) (x : A) → list_all f xs ≡ true → slice_get xs k ≡ Some x → f x ≡ true
 all-at f [] k x all e = absurd cc
@@ -99,7 +99,7 @@ field-count i (w ∷ v ∷ ws) = from-count i 0 (w ∷ v ∷ ws)
 
 shape-count : (decl : Option LayoutDecl) (room : Option Room) → ((d : LayoutDecl) → decl ≡ Some d → length d.shape ≤ 8) → length (shape_or decl room) ≤ 8
 shape-count None room short = omega arith
-shape-count (Some d) room short = let s = short d refl in let l = length-map d.shape counted in omega (arith, s, l)
+shape-count (Some d) room short = let s = short d refl in let l = length-map d.shape counted_width in omega (arith, s, l)
 
 module _ (p : Program) (numbered : IsWellNumbered p) (rooms : List Room) where
   width-count : (ty : Ty) → length (widths p rooms ty) ≤ 8
@@ -115,5 +115,5 @@ module _ (p : Program) (numbered : IsWellNumbered p) (rooms : List Room) where
       let rest = fields-count (i + 1) tys in
       omega (arith, both, here, few, rest)
 
-  pub words-count : (c : Con) → length c.fields ≤ 32 → length (words_of p rooms c.fields) ≤ 256
+  pub words-count : (c : Con) → length c.fields ≤ 32 → length (constructor_words p rooms c.fields) ≤ 256
   words-count c few = let n = fields-count 0 c.fields in omega (arith, n, few)

@@ -13,7 +13,7 @@ use Rattle.rb_layout.specs.declared.layout.Part.{Part}
 use Rattle.rb_layout.specs.declared.layout.Kind.{Kind}
 use Rattle.rb_layout.specs.declared.layout.Kind.TheVariants.{Word}
 use Rattle.rb_layout.specs.Positions.{Open, layout_of, open_positions}
-use Rattle.rb_layout.specs.Flattening.{Laid, in_turn, item_laid, part_laid, parts_of}
+use Rattle.rb_layout.specs.Flattening.{WithBlocks, in_turn, item_laid, part_laid, parts_of}
 use Rattle.rb_layout.specs.Cycles.{IsChain}
 use Rattle.rb_layout.specs.A10.{HoldsField}
 use Rattle.rb_layout.proofs.FlatForms.{Each}
@@ -23,7 +23,7 @@ use Rattle.rb_auto.specs.declared.field_words.FieldWord.{FieldWord}
 use Rattle.rb_auto.specs.declared.form.Form.TheVariants.{Boxed}
 use Rattle.rb_auto.specs.declared.room.Room.{Room}
 use Rattle.rb_auto.specs.Fields.{HasField}
-use Rattle.rb_auto.specs.FieldWords.{words_of}
+use Rattle.rb_auto.specs.FieldWords.{constructor_words}
 use Rattle.rb_auto.specs.Items.{block_items, boxed_parts, part, pointer_parts}
 use Rattle.rb_auto.specs.inner.Standing.{flat_derived}
 use Rattle.rb_auto.specs.inner.HoldingRules.{OpensItsFields, BoxIsOnNoCycle, FiniteIsOnNoCycle, HoldWhatTheyReach}
@@ -56,7 +56,7 @@ module _ (decls : List LayoutDecl) (opens : List Open) where
   tag-none : (k n : ℕ) → Each HoldsNone (part_laid decls opens (part 0 8 (K.Const k)) n).it
   tag-none k n =
       subst (λ (qs : List Part). Each HoldsNone qs)
-      (sym (ap (λ (l : Laid (List Part)). l.it) (part_at decls opens n (part 0 8 (K.Const k))) ∙ ap (λ (l : Laid (Option Kind)). parts_of 0 8 l.it) (const_at decls opens n k)))
+      (sym (ap (λ (l : WithBlocks (List Part)). l.it) (part_at decls opens n (part 0 8 (K.Const k))) ∙ ap (λ (l : WithBlocks (Option Kind)). parts_of 0 8 l.it) (const_at decls opens n k)))
       ((λ path j e. cc), tt)
 
   pointer-none : (ws : List FieldWord) (n : ℕ) → Each HoldsNone (in_turn (map (part_laid decls opens) (pointer_parts ws)) n).it
@@ -66,8 +66,8 @@ module _ (decls : List LayoutDecl) (opens : List Open) where
       let laid = in_turn (map (item_laid decls opens) (block_items (w ∷ ws))) n in
       each-append (part_laid decls opens d n).it []
       (subst (λ (qs : List Part). Each HoldsNone qs)
-      (sym (ap (λ (l : Laid (List Part)). l.it) (part_at decls opens n d)
-      ∙ ap (λ (l : Laid (Option Kind)). parts_of 8 56 l.it) (pointer_at decls opens n 8 (block_items (w ∷ ws)))))
+      (sym (ap (λ (l : WithBlocks (List Part)). l.it) (part_at decls opens n d)
+      ∙ ap (λ (l : WithBlocks (Option Kind)). parts_of 8 56 l.it) (pointer_at decls opens n 8 (block_items (w ∷ ws)))))
       ((λ path j e. cc), tt)) tt
 
   box-none : (k : ℕ) (ws : List FieldWord) → Each HoldsNone (in_turn (map (part_laid decls opens) (boxed_parts k ws)) 0).it
@@ -86,7 +86,7 @@ module _ (p : Program) (decls : List LayoutDecl) (rooms : List Room) (t : ℕ) (
       let c = leaf-is p rooms t Boxed decls h.leaf_number h.leaf (ap (λ (l : Layout). slice_get l.leaves h.leaf_number) same ∙ h.is_leaf) in
       let root = ap (λ (l : Leaf). l.root) c.2 ∙ root-is p rooms t Boxed decls h.leaf_number c.0 in
       let word = one-word _ h.word_number h.word (ap (λ (ws : List FlatWord). slice_get ws h.word_number) (sym root) ∙ h.is_word) in
-      each-get (parts_at p rooms t Boxed decls h.leaf_number c.0).it h.part_number h.part (box-none decls (opens_at p rooms t Boxed decls h.leaf_number c.0) h.leaf_number (words_of p rooms c.0.fields))
+      each-get (parts_at p rooms t Boxed decls h.leaf_number c.0).it h.part_number h.part (box-none decls (opens_at p rooms t Boxed decls h.leaf_number c.0) h.leaf_number (constructor_words p rooms c.0.fields))
       (ap (λ (f : FlatWord). slice_get f.parts h.part_number) word ∙ h.is_part) h.path h.index h.is_kind
 
 pub box-is-on-no-cycle : BoxIsOnNoCycle

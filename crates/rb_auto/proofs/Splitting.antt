@@ -12,7 +12,7 @@ use Rattle.rb_layout.specs.declared.layout.FlatTree.TheVariants as Flat
 use Rattle.rb_layout.specs.declared.layout.FlatTree.TheFolds.{fold_out-FlatArm}
 use Rattle.rb_layout.specs.declared.layout.FlatArm.{FlatArm}
 use Rattle.rb_layout.specs.Splits.{SplitAt, Test, Is, Route, Under, arm_routes, literals_of, routes_arm, routes_of, routes_step, routes_under, splits_arm, splits_of, splits_step, splits_under}
-use Rattle.rb_layout.specs.Flattening.{Numbering, arm_numbering, flat_tree, numbering}
+use Rattle.rb_layout.specs.Flattening.{LeafNumbering, arm_numbering, flat_tree, numbering}
 use Rattle.rb_layout.specs.Flattening as F
 use Rattle.rb_layout.specs.A8.{SplitsWell}
 use Rattle.rb_layout.proofs.TreeLemmas.{arm_numbering-is}
@@ -21,7 +21,7 @@ use Rattle.rb_layout.proofs.Computing.{from-Leaf, from-Split, numbering-Leaf}
 use Rattle.rb_auto.specs.declared.form.Form.{Form}
 use Rattle.rb_auto.specs.declared.room.Room.{Room}
 use Rattle.rb_auto.specs.Fields.{cons_of}
-use Rattle.rb_auto.specs.FieldWords.{words_of}
+use Rattle.rb_auto.specs.FieldWords.{constructor_words}
 use Rattle.rb_auto.specs.Items.{form_tag, leaf_items}
 use Rattle.rb_auto.specs.Derived.{arms_from, leaf, provenance, tag_loc, tree_of}
 use Rattle.rb_auto.specs.inner.Rules.{SplitsItsTag}
@@ -51,15 +51,15 @@ module _ (p : Program) (rooms : List Room) (t : ℕ) (form : Form) where
   flat-arms k (c ∷ cs) =
       let a : Arm = record { literal = k; under = leaf p rooms t form k c } in
       let prov = provenance t k c in
-      let items = leaf_items form k (words_of p rooms c.fields) in
+      let items = leaf_items form k (constructor_words p rooms c.fields) in
       let of : arm_numbering a ≡ record { literal = k; of = record { count = 1; from = λ n. Flat.Leaf n } } =
-      arm_numbering-is a ∙ ap (λ (n : Numbering). record { literal = k; of = n }) (numbering-Leaf 0 prov items) in
-      ap (λ (u : Under Numbering). record { literal = u.literal; under = u.of.from k } ∷ F.arms_from (map arm_numbering (arms_from p rooms t form (k + 1) cs)) (k + u.of.count)) of
+      arm_numbering-is a ∙ ap (λ (n : LeafNumbering). record { literal = k; of = n }) (numbering-Leaf 0 prov items) in
+      ap (λ (u : Under LeafNumbering). record { literal = u.literal; under = u.of.from k } ∷ F.arms_from (map arm_numbering (arms_from p rooms t form (k + 1) cs)) (k + u.of.count)) of
       ∙ ap (λ (arms : List FlatArm). record { literal = k; under = Flat.Leaf k } ∷ arms) (flat-arms (k + 1) cs)
 
   -- without a tag it is the leaf
   pub tree-one : (c : Con) → flat_tree (tree_of p rooms t form zero (c ∷ [])) ≡ Flat.Leaf 0
-  tree-one c = from-Leaf 0 (provenance t 0 c) (leaf_items form 0 (words_of p rooms c.fields)) 0
+  tree-one c = from-Leaf 0 (provenance t 0 c) (leaf_items form 0 (constructor_words p rooms c.fields)) 0
 
   pub tree-split : (tag : ℕ) (cs : List Con) → flat_tree (tree_of p rooms t form (suc tag) cs) ≡ Flat.Split (tag_loc (suc tag)) (tag_arms 0 cs) None
   tree-split tag cs = from-Split (tag_loc (suc tag)) (arms_from p rooms t form 0 cs) 0 ∙ ap (λ (arms : List FlatArm). Flat.Split (tag_loc (suc tag)) arms None) (flat-arms 0 cs)

@@ -19,7 +19,7 @@ use Rattle.rb_auto.specs.declared.form.Form.TheVariants.{Boxed, Packed}
 use Rattle.rb_auto.specs.declared.room.Room.{Room}
 use Rattle.rb_auto.specs.declared.room.Room.TheVariants.{Word, Recursive, Bits}
 use Rattle.rb_auto.specs.Fields.{HasField, cons_of}
-use Rattle.rb_auto.specs.Widths.{bits_from, con_width, counted, greatest, need, packed_width, room_width, shape, shape_or, tag_bits, tag_of}
+use Rattle.rb_auto.specs.Widths.{bits_from, con_width, counted_width, greatest, need, packed_width, room_width, shape, shape_or, tag_bits, tag_of}
 use Rattle.rb_auto.specs.Items.{form_width}
 use Rattle.rb_auto.specs.Derived.{derived}
 use Rattle.rb_auto.specs.Rooms.{AreRooms, AreTheRooms, kind_of}
@@ -126,13 +126,13 @@ module _ (p : Program) (kinds : List (Option Auto)) (rooms : List Room) (numbere
 
 -- The shapes of fields --------------------------------------------------------------------------------------
 
-counted-is : (w : ℕ) → IsShapeWidth w → counted w ≡ w
+counted-is : (w : ℕ) → IsShapeWidth w → counted_width w ≡ w
 counted-is w h = ap (λ (b : Bool). if b then w else 64) (and_from (nat_le 1 w) (nat_le w 64) (le-leb 1 w h.0) (le-leb w 64 h.1))
 
-all-counted : (ws : List ℕ) → ((i w : ℕ) → slice_get ws i ≡ Some w → IsShapeWidth w) → map counted ws ≡ ws
+all-counted : (ws : List ℕ) → ((i w : ℕ) → slice_get ws i ≡ Some w → IsShapeWidth w) → map counted_width ws ≡ ws
 all-counted [] each = refl
 all-counted (w ∷ ws) each =
-    ap (λ x. x ∷ map counted ws) (counted-is w (each 0 w refl)) ∙ ap (λ (xs : List ℕ). w ∷ xs) (all-counted ws (λ i x e. each (suc i) x e))
+    ap (λ x. x ∷ map counted_width ws) (counted-is w (each 0 w refl)) ∙ ap (λ (xs : List ℕ). w ∷ xs) (all-counted ws (λ i x e. each (suc i) x e))
 
 pub decl-first : (xs ys : List LayoutDecl) (t : ℕ) (d : LayoutDecl) → decl_of xs t ≡ Some d → decl_of (xs ++ ys) t ≡ Some d
 decl-first [] ys t d e = absurd cc

@@ -18,13 +18,13 @@ use Rattle.rb_layout.specs.declared.layout.WordRef.{WordRef}
 use Rattle.rb_layout.specs.Positions.{Open}
 use Rattle.rb_layout.specs.Words.{words_in, words_of_block}
 use Rattle.rb_layout.specs.Pointers.{PointsTo}
-use Rattle.rb_layout.specs.Flattening.{Laid, in_turn, kind_laid, kind_if_open, part_laid, parts_of, type_at, whole_kind, without_blocks}
+use Rattle.rb_layout.specs.Flattening.{WithBlocks, in_turn, kind_laid, kind_if_open, part_laid, parts_of, type_at, whole_kind, without_blocks}
 use Rattle.rb_layout.proofs.FlatForms.{Each}
 use Rattle.rb_layout.proofs.Computing.{part_at, const_at, whole_at, word_of_laid}
 use Rattle.rb_auto.specs.declared.field_words.FieldWord.{FieldWord}
 use Rattle.rb_auto.specs.declared.form.Form.TheVariants.{Packed}
 use Rattle.rb_auto.specs.declared.room.Room.{Room}
-use Rattle.rb_auto.specs.FieldWords.{content, content_in, words_of}
+use Rattle.rb_auto.specs.FieldWords.{content, content_in, constructor_words}
 use Rattle.rb_auto.specs.Items.{packed_parts, part, parts_from}
 use Rattle.rb_auto.specs.inner.Standing.{EachDerivedLeaf}
 use Rattle.rb_auto.specs.inner.PackedRules.{HasNoBlocks}
@@ -38,7 +38,7 @@ IsPlainKind None = Unit {0}
 IsPlainKind (Some kind) = (align b : ℕ) → kind ≡ Pointer align b → ⊥
 
 -- parts without pointers, and without blocks
-pub record ArePlain (laid : Laid (List Part)) : Type 0 where
+pub record ArePlain (laid : WithBlocks (List Part)) : Type 0 where
   pub plain : Each IsPlain laid.it
   pub none : laid.blocks ≡ []
 
@@ -68,7 +68,7 @@ module _ (decls : List LayoutDecl) (opens : List Open) where
   laid-plain : (d : PartDecl) (n : ℕ) (kind : Option Kind) → kind_laid decls opens d.kind n ≡ without_blocks kind → IsPlainKind kind → ArePlain (part_laid decls opens d n)
   laid-plain d n kind is h =
       let whole : part_laid decls opens d n ≡ record { it = parts_of d.o d.l kind; blocks = [] } =
-      part_at decls opens n d ∙ ap (λ (laid : Laid (Option Kind)). record { it = parts_of d.o d.l laid.it; blocks = laid.blocks }) is in
+      part_at decls opens n d ∙ ap (λ (laid : WithBlocks (Option Kind)). record { it = parts_of d.o d.l laid.it; blocks = laid.blocks }) is in
       subst ArePlain (sym whole) (record { plain = part-plain d.o d.l kind h; none = refl })
 
   content-laid : (i : ℕ) (word : Option ℕ) (n : ℕ) → (kind : Option Kind) × (kind_laid decls opens (content_in i word) n ≡ without_blocks kind) × IsPlainKind kind
@@ -76,7 +76,7 @@ module _ (decls : List LayoutDecl) (opens : List Open) where
   content-laid i (Some j) n =
       (kind_if_open (type_at opens (i ∷ [])) (Word (i ∷ []) j), ap (λ lay. lay n) (word_of_laid decls opens (i ∷ []) j), word-plain (type_at opens (i ∷ [])) (i ∷ []) j)
 
-  in-turn-plain : (first : Laid (List Part)) (rest : ℕ → Laid (List Part)) → ArePlain first → ((n : ℕ) → ArePlain (rest n)) → (n : ℕ)
+  in-turn-plain : (first : WithBlocks (List Part)) (rest : ℕ → WithBlocks (List Part)) → ArePlain first → ((n : ℕ) → ArePlain (rest n)) → (n : ℕ)
       → ArePlain (record { it = first.it ++ (rest (n + length first.blocks)).it; blocks = first.blocks ++ (rest (n + length first.blocks)).blocks })
   in-turn-plain first rest h g n =
       let r = g (n + length first.blocks) in
@@ -128,7 +128,7 @@ pub has-no-pointer : (p : Program) (decls : List LayoutDecl) (rooms : List Room)
 has-no-pointer p decls rooms t tag width n leaf e =
     let form = Packed tag width in
     let c = leaf-is p rooms t form decls n leaf e in
-    let plain = packed-plain decls (opens_at p rooms t form decls n c.0) tag n (words_of p rooms c.0.fields) in
+    let plain = packed-plain decls (opens_at p rooms t form decls n c.0) tag n (constructor_words p rooms c.0.fields) in
     let root = ap (λ (l : Leaf). l.root) c.2 ∙ root-is p rooms t form decls n c.0 in
     let none = ap (λ (l : Leaf). l.blocks) c.2 ∙ blocks-are p rooms t form decls n c.0 ∙ plain.none in
     one-plain leaf width (parts_at p rooms t form decls n c.0).it root none plain.plain
@@ -137,7 +137,7 @@ pub has-no-blocks : HasNoBlocks
 has-no-blocks p decls rooms t tag width n leaf e =
     let form = Packed tag width in
     let c = leaf-is p rooms t form decls n leaf e in
-    let plain = packed-plain decls (opens_at p rooms t form decls n c.0) tag n (words_of p rooms c.0.fields) in
+    let plain = packed-plain decls (opens_at p rooms t form decls n c.0) tag n (constructor_words p rooms c.0.fields) in
     let none = ap (λ (l : Leaf). l.blocks) c.2 ∙ blocks-are p rooms t form decls n c.0 ∙ plain.none in
     record {
       widths = λ b block j f at word. absurd (no-block leaf.blocks b block none at);

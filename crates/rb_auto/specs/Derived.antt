@@ -15,7 +15,7 @@ use Rattle.rb_core.specs.declared.layout_decl.LayoutDecl.{LayoutDecl}
 use Rattle.rb_auto.specs.declared.form.Form.{Form}
 use Rattle.rb_auto.specs.declared.room.Room.{Room}
 use Rattle.rb_auto.specs.Fields.{cons_of}
-use Rattle.rb_auto.specs.FieldWords.{words_of}
+use Rattle.rb_auto.specs.FieldWords.{constructor_words}
 use Rattle.rb_auto.specs.Items.{form_width, form_tag, leaf_items}
 
 -- the provenance of the leaf of constructor c, number k of type t: the constructor over wildcards
@@ -30,7 +30,7 @@ module _ (p : Program) (rooms : List Room) (t : ℕ) (form : Form) where
   -- the leaf of constructor c, with number k: its provenance, and the one word of the form with its tag and its
   -- fields
   abbrev pub leaf : ℕ → Con → LayTree
-  leaf k c = S.Leaf 0 (provenance t k c) (leaf_items form k (words_of p rooms c.fields))
+  leaf k c = S.Leaf 0 (provenance t k c) (leaf_items form k (constructor_words p rooms c.fields))
 
   -- an arm for each of these constructors, the first of which has number k in the type
   abbrev pub arms_from : ℕ → List Con → List Arm

@@ -36,5 +36,5 @@ fields_words p rooms i [] = []
 fields_words p rooms i (ty ∷ tys) = field_words i (widths p rooms ty) ++ fields_words p rooms (i + 1) tys
 
 -- the words of the fields of a constructor, which have these types, in order
-abbrev pub words_of : Program → List Room → List Ty → List FieldWord
-words_of p rooms tys = fields_words p rooms 0 tys
+abbrev pub constructor_words : Program → List Room → List Ty → List FieldWord
+constructor_words p rooms tys = fields_words p rooms 0 tys

@@ -31,13 +31,13 @@ room_width None = 64
 room_width (Some room) = word_width room
 
 -- a written width as it counts: one outside 1 to 64 counts as 64
-abbrev pub counted : ℕ → ℕ
-counted w = if nat_le 1 w && nat_le w 64 then w else 64
+abbrev pub counted_width : ℕ → ℕ
+counted_width w = if nat_le 1 w && nat_le w 64 then w else 64
 
 -- the widths of a type's words: those of its written layout, as they count, or else that of one word by its room
 abbrev pub shape_or : Option LayoutDecl → Option Room → List ℕ
 shape_or None room = room_width room ∷ []
-shape_or (Some d) room = map counted d.shape
+shape_or (Some d) room = map counted_width d.shape
 
 -- the widths of the words of type t: those of its written layout, or else that of one word by its room
 abbrev pub shape : Program → List Room → ℕ → List ℕ

@@ -3,8 +3,8 @@
 //! are numbered from 0 in their constructor. An `Err` is want of memory.
 
 ghost use Rattle.std.specs.Prelude.{◌≡◌, ◌++◌, IfOk, OnOk, map};
-ghost use Rattle.rb_auto.specs.FieldWords.{content, field_words, words_from, words_of};
-ghost use Rattle.rb_auto.specs.Widths.{counted, widths};
+ghost use Rattle.rb_auto.specs.FieldWords.{content, field_words, words_from, constructor_words};
+ghost use Rattle.rb_auto.specs.Widths.{counted_width, widths};
 
 use crate::room::{Room, counted, room_width};
 use rb_core::layout_decl::PartKind;
@@ -39,7 +39,7 @@ pub(crate) fn content(alloc: Global, word: &FieldWord) -> Result<PartKind, Alloc
 // Adds a word of field `field` for each word of a written shape, the list of its words' widths; all
 // have numbers of their own, from 0.
 fn add_words(field: u32, shape: &[u64], words: &mut Seq<FieldWord>) -> Result<(), AllocError>
-    ensures { OnOk result (words.new ≡ words.old ++ words_from field 0 (map counted shape.now)) }
+    ensures { OnOk result (words.new ≡ words.old ++ words_from field 0 (map counted_width shape.now)) }
 {
     for (number, width) in shape.iter().enumerate() {
         words.push(FieldWord {
@@ -53,7 +53,7 @@ fn add_words(field: u32, shape: &[u64], words: &mut Seq<FieldWord>) -> Result<()
 
 // Adds the words of field `field`, whose type has this written shape; an only word has no number.
 fn add_shape(field: u32, shape: &[u64], words: &mut Seq<FieldWord>) -> Result<(), AllocError>
-    ensures { OnOk result (words.new ≡ words.old ++ field_words field (map counted shape.now)) }
+    ensures { OnOk result (words.new ≡ words.old ++ field_words field (map counted_width shape.now)) }
 {
     if let [width] = shape {
         return words.push(FieldWord {
@@ -100,7 +100,7 @@ pub(crate) fn words_of(
     rooms: &[Room],
     fields: &[Ty],
 ) -> Result<Seq<FieldWord>, AllocError>
-    ensures { IfOk result (λ words. words ≡ words_of program.now rooms.now fields.now) }
+    ensures { IfOk result (λ words. words ≡ constructor_words program.now rooms.now fields.now) }
 {
     let mut words = Seq::new(alloc);
     for (field, ty) in fields.iter().enumerate() {

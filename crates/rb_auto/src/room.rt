@@ -3,7 +3,7 @@
 
 ghost use Rattle.std.specs.Prelude.{◌≡◌};
 ghost use Rattle.std.specs.Option.{option_copied};
-ghost use Rattle.rb_auto.specs.Widths.{counted, room_width, word_width};
+ghost use Rattle.rb_auto.specs.Widths.{counted_width, room_width, word_width};
 
 /// The bits of a word.
 pub const WORD_BITS: u64 = 64;
@@ -44,7 +44,7 @@ pub(crate) fn room_width(room: Option<&Room>) -> u64
 
 /// A written width as it counts: one outside 1 to 64 counts as 64.
 pub(crate) fn counted(width: u64) -> u64
-    ensures { result ≡ counted width }
+    ensures { result ≡ counted_width width }
 {
     if 1 <= width && width <= WORD_BITS {
         width

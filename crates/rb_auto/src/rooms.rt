@@ -15,7 +15,7 @@ ghost use Rattle.std.specs.Prelude.{◌≡◌, List, Option, Some, IfOk, IfSome,
 ghost use Rattle.rb_core.specs.declared.types.Auto.{Auto as Kind};
 ghost use Rattle.rb_auto.specs.declared.room.Room.{Room as TheRoom};
 ghost use Rattle.rb_auto.specs.Rooms.{AreTheRooms, kind_of};
-ghost use Rattle.rb_auto.specs.Widths.{con_width, counted, field_width, greatest, need, tag_bits};
+ghost use Rattle.rb_auto.specs.Widths.{con_width, counted_width, field_width, greatest, need, tag_bits};
 ghost use Rattle.rb_auto.specs.inner.Graphs.{field_graph};
 ghost use Rattle.rb_auto.specs.inner.Settling.{AreSettled, ExtendsSettled, IsFirst};
 
@@ -43,7 +43,7 @@ pub(crate) fn tag_bits(count: usize) -> u64
 
 // The sum of the widths of a written shape, as they count; None where it is 2^64 or more.
 fn shape_width(shape: &[u64]) -> Option<u64>
-    ensures { IfSome result (λ bits. bits ≡ sum_by counted shape.now) }
+    ensures { IfSome result (λ bits. bits ≡ sum_by counted_width shape.now) }
 {
     let mut bits: u64 = 0;
     for width in shape {

@@ -9,7 +9,7 @@ use Rattle.rb_core.specs.declared.outcome.Event.TheVariants.{Built}
 use Rattle.rb_core.specs.declared.outcome.SourceEnd.TheVariants.{Done}
 use Rattle.rb_core.specs.declared.pattern.Pat.{Pat}
 use Rattle.rb_core.specs.Meaning.{built}
-use Rattle.rb_target.specs.Meaning.{World, Outcome as Run}
+use Rattle.rb_target.specs.Meaning.{World, CallEnd as Run}
 use Rattle.rb_target.specs.Sheet.{Sheet}
 use Rattle.rb_layout.specs.declared.agreed.LaidOut.{LaidOut}
 use Rattle.rb_rel.specs.Placing.{Laid, Fits, Over, blocks_of, lay}

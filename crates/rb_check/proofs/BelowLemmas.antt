@@ -4,24 +4,24 @@ use Rattle.std.specs.List.{list_any}
 use Rattle.std.proofs.lemmas.Grind.{common_steps}
 use Rattle.rb_core.specs.declared.program.Param.{Param}
 use Rattle.rb_core.specs.Typing.{repeat_after}
-use Rattle.rb_check.specs.inner.Below.{AreBelow}
+use Rattle.rb_check.specs.inner.Below.{ParamsBelow}
 
 -- a number that is not below the bound is none of theirs
-pub none-stands : (above x : ℕ) (ps : List Param) → AreBelow above ps → above ≤ x → list_any (λ q. q.var == x) ps ≡ false
+pub none-stands : (above x : ℕ) (ps : List Param) → ParamsBelow above ps → above ≤ x → list_any (λ q. q.var == x) ps ≡ false
 none-stands above x [] h le = refl
 none-stands above x (p ∷ ps) h le =
     let apart : (p.var == x) ≡ false = grind (arith, common_steps, h.0, le) in
     rw apart (none-stands above x ps h.1 le)
 
 below-more : (above new : ℕ) (ps : List Param) (i : ℕ) (default : Param) → i < length ps → above ≤ new → (get_or ps i default).var < new
-    → AreBelow above (take i ps) → AreBelow new (take (suc i) ps)
+    → ParamsBelow above (take i ps) → ParamsBelow new (take (suc i) ps)
 below-more above new [] i default lt le here h = absurd (omega arith)
 below-more above new (p ∷ ps) zero default lt le here h = (here, tt)
 below-more above new (p ∷ ps) (suc i) default lt le here h = (omega (arith, h.0, le), below-more above new ps i default (omega arith) le here h.1)
 
 -- one more of them
 pub below-next : (above new x : ℕ) (ps : List Param) (i : ℕ) (default : Param) → i < length ps → x ≡ (get_or ps i default).var → above ≤ new → x < new
-    → AreBelow above (take i ps) → AreBelow new (take (i + 1) ps)
+    → ParamsBelow above (take i ps) → ParamsBelow new (take (i + 1) ps)
 below-next above new x ps i default lt is le here h = rw (add-one i) (below-more above new ps i default lt le (subst (λ y. y < new) is here) h)
 
 drop-here : {A : Type 0} (xs : List A) (i : ℕ) (default : A) → i < length xs → drop i xs ≡ get_or xs i default ∷ drop (suc i) xs

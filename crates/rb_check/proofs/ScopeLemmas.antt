@@ -8,7 +8,7 @@ use Rattle.rb_core.specs.declared.types.Ty.TheVariants.{Int}
 use Rattle.rb_core.specs.declared.program.Param.{Param}
 use Rattle.rb_core.specs.declared.typing.Binder.{Binder}
 use Rattle.rb_core.specs.Typing.{binder_of, bound_type, variable_type}
-use Rattle.rb_check.specs.inner.Answers.{binders}
+use Rattle.rb_check.specs.inner.Answers.{binders_of_params}
 
 bound-last : (outer : Ty) (x : ℕ) (bs : List Binder) (b : Binder)
     → bound_type outer x (bs ++ b ∷ []) ≡ (if b.var == x then b.ty else bound_type outer x bs)
@@ -20,16 +20,16 @@ module _ (x : ℕ) (ps : List Param) (i : ℕ) (d : Param) (some : 0 < i) (withi
   abbrev pub last-of : Param
   last-of = get_or ps (i - 1) d
 
-  last-decides : variable_type x (binders (take i ps)) ≡ (if last-of.var == x then last-of.ty else variable_type x (binders (take (i - 1) ps)))
+  last-decides : variable_type x (binders_of_params (take i ps)) ≡ (if last-of.var == x then last-of.ty else variable_type x (binders_of_params (take (i - 1) ps)))
   last-decides =
       let e : i ≡ suc (i - 1) = omega (arith, some) in
-      ap (λ k. variable_type x (binders (take k ps))) e
-      ∙ ap (λ qs. variable_type x (binders qs)) (take-suc ps (i - 1) d (omega (arith, some, within)))
+      ap (λ k. variable_type x (binders_of_params (take k ps))) e
+      ∙ ap (λ qs. variable_type x (binders_of_params qs)) (take-suc ps (i - 1) d (omega (arith, some, within)))
       ∙ ap (bound_type (Int 64) x) (map-append binder_of (take (i - 1) ps) (last-of ∷ []))
-      ∙ bound-last (Int 64) x (binders (take (i - 1) ps)) (binder_of last-of)
+      ∙ bound-last (Int 64) x (binders_of_params (take (i - 1) ps)) (binder_of last-of)
 
-  pub found-here : last-of.var ≡ x → variable_type x (binders (take i ps)) ≡ last-of.ty
-  found-here h = last-decides ∙ ap (λ b. if b then last-of.ty else variable_type x (binders (take (i - 1) ps))) (eq-eqb last-of.var x h)
+  pub found-here : last-of.var ≡ x → variable_type x (binders_of_params (take i ps)) ≡ last-of.ty
+  found-here h = last-decides ∙ ap (λ b. if b then last-of.ty else variable_type x (binders_of_params (take (i - 1) ps))) (eq-eqb last-of.var x h)
 
-  pub not-here : last-of.var ≢ x → variable_type x (binders (take (i - 1) ps)) ≡ variable_type x (binders (take i ps))
-  not-here h = sym (last-decides ∙ ap (λ b. if b then last-of.ty else variable_type x (binders (take (i - 1) ps))) (ne_eqb last-of.var x h))
+  pub not-here : last-of.var ≢ x → variable_type x (binders_of_params (take (i - 1) ps)) ≡ variable_type x (binders_of_params (take i ps))
+  not-here h = sym (last-decides ∙ ap (λ b. if b then last-of.ty else variable_type x (binders_of_params (take (i - 1) ps))) (ne_eqb last-of.var x h))

@@ -6,7 +6,7 @@ ghost use Rattle.rb_core.specs.declared.types.DataDecl.{DataDecl};
 ghost use Rattle.rb_core.specs.declared.types.Ty.TheVariants.{Named};
 ghost use Rattle.rb_core.specs.declared.program.Fun.{Fun};
 ghost use Rattle.rb_core.specs.Typing.{and_then, arguments, clause_rule, clauses, field_types, as_wanted, integer_operand, operands, operator_type, params_of, param_types, result_type, rule_of, type_of, variable_type};
-ghost use Rattle.rb_check.specs.inner.Answers.{AnswersTyping, binders, wanted_types};
+ghost use Rattle.rb_check.specs.inner.Answers.{AnswersTyping, binders_of_params, wanted_types};
 
 use crate::pattern::bind_whole;
 use crate::types::{fit, integer, type_number};
@@ -60,7 +60,7 @@ pub fn type_expression(
     scope: &mut Seq<Param>,
 ) -> Result<Ty, TypeFault>
     ensures answers { AnswersTyping result
-        (type_of program.now.types program.now.funs expr.now wanted (binders scope.old)) }
+        (type_of program.now.types program.now.funs expr.now wanted (binders_of_params scope.old)) }
     ensures scope { OnOk result (scope.new ≡ scope.old) }
 {
     match expr {
@@ -110,7 +110,7 @@ fn type_call(
 ) -> Result<Ty, TypeFault>
     ensures answers { AnswersTyping result (and_then
         (arguments at (map (rule_of program.now.types program.now.funs) parts.now)
-        (param_types program.now.funs fun) (binders scope.old))
+        (param_types program.now.funs fun) (binders_of_params scope.old))
         (λ typed. as_wanted at wanted (result_type program.now.funs fun))) }
     ensures scope { OnOk result (scope.new ≡ scope.old) }
 {
@@ -136,7 +136,8 @@ fn type_build(
 ) -> Result<Ty, TypeFault>
     ensures answers { AnswersTyping result (and_then
         (arguments at (map (rule_of program.now.types program.now.funs) parts.now)
-        (field_types program.now.types con) (binders scope.old)) (λ typed. as_wanted at wanted (Named con.ty))) }
+        (field_types program.now.types con) (binders_of_params scope.old))
+        (λ typed. as_wanted at wanted (Named con.ty))) }
     ensures scope { OnOk result (scope.new ≡ scope.old) }
 {
     let fields = types_of_fields(program.types.as_slice(), con);
@@ -156,7 +157,7 @@ fn type_arguments(
 ) -> Result<(), TypeFault>
     ensures answers { AnswersTyping result
         (arguments at (map (rule_of program.now.types program.now.funs) parts.now)
-        (wanted_types wanted.entry) (binders scope.old)) }
+        (wanted_types wanted.entry) (binders_of_params scope.old)) }
     ensures scope { OnOk result (scope.new ≡ scope.old) }
 {
     if parts.len() != wanted.len() {
@@ -181,7 +182,7 @@ fn type_binary(
 ) -> Result<Ty, TypeFault>
     ensures answers { AnswersTyping result (and_then
         (operands op (rule_of program.now.types program.now.funs a.now)
-        (rule_of program.now.types program.now.funs b.now) wanted (binders scope.old))
+        (rule_of program.now.types program.now.funs b.now) wanted (binders_of_params scope.old))
         (λ t. as_wanted at wanted (operator_type op t))) }
     ensures scope { OnOk result (scope.new ≡ scope.old) }
 {
@@ -200,7 +201,7 @@ fn type_integer(
 ) -> Result<Ty, TypeFault>
     ensures answers { AnswersTyping result
         (integer_operand (rule_of program.now.types program.now.funs expr.now) wanted
-        (binders scope.old)) }
+        (binders_of_params scope.old)) }
     ensures scope { OnOk result (scope.new ≡ scope.old) }
 {
     let found = type_expression(program, expr, wanted, scope)?;
@@ -218,9 +219,9 @@ fn type_let(
     scope: &mut Seq<Param>,
 ) -> Result<Ty, TypeFault>
     ensures answers { AnswersTyping result (and_then
-        (type_of program.now.types program.now.funs a.now (Some param.ty) (binders scope.old))
+        (type_of program.now.types program.now.funs a.now (Some param.ty) (binders_of_params scope.old))
         (λ t. type_of program.now.types program.now.funs b.now wanted
-        (binders scope.old ++ record { var = param.var; ty = param.ty } ∷ []))) }
+        (binders_of_params scope.old ++ record { var = param.var; ty = param.ty } ∷ []))) }
     ensures scope { OnOk result (scope.new ≡ scope.old) }
 {
     type_expression(program, a, Some(param.ty), scope)?;
@@ -241,8 +242,9 @@ fn type_match(
     scope: &mut Seq<Param>,
 ) -> Result<Ty, TypeFault>
     ensures answers { AnswersTyping result (and_then
-        (type_of program.now.types program.now.funs scrutinee.now None (binders scope.old))
-        (λ t. clauses (map (clause_rule program.now.types program.now.funs) cases.now) t wanted (binders scope.old))) }
+        (type_of program.now.types program.now.funs scrutinee.now None (binders_of_params scope.old))
+        (λ t. clauses (map (clause_rule program.now.types program.now.funs) cases.now) t wanted
+        (binders_of_params scope.old))) }
     ensures scope { OnOk result (scope.new ≡ scope.old) }
 {
     let scrutinee = type_expression(program, scrutinee, None, scope)?;
@@ -259,7 +261,8 @@ fn type_clauses(
     scope: &mut Seq<Param>,
 ) -> Result<Ty, TypeFault>
     ensures answers { AnswersTyping result (clauses
-        (map (clause_rule program.now.types program.now.funs) cases.now) scrutinee wanted (binders scope.old)) }
+        (map (clause_rule program.now.types program.now.funs) cases.now) scrutinee wanted
+        (binders_of_params scope.old)) }
     ensures scope { OnOk result (scope.new ≡ scope.old) }
 {
     let mut found = wanted;
@@ -280,7 +283,7 @@ fn type_clause(
 ) -> Result<Ty, TypeFault>
     ensures answers { AnswersTyping result
         (clause_rule program.now.types program.now.funs case.now scrutinee wanted
-        (binders scope.old)) }
+        (binders_of_params scope.old)) }
     ensures scope { OnOk result (scope.new ≡ scope.old) }
 {
     let depth = scope.len();
@@ -309,7 +312,7 @@ fn first_token(expr: &Expr) -> u32
 
 // The type of the innermost parameter or variable with this number, which is looked for from the innermost on outwards.
 fn variable_type(var: u32, scope: &[Param]) -> Ty
-    ensures { result ≡ variable_type var (binders scope.now) }
+    ensures { result ≡ variable_type var (binders_of_params scope.now) }
 {
     for i in (0..scope.len()).rev() {
         if scope[i].var == var {

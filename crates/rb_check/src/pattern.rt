@@ -3,8 +3,8 @@
 ghost use Rattle.std.specs.Prelude.{◌≡◌, ◌==◌, length, map, take, drop, OnOk};
 ghost use Rattle.std.specs.List.{list_any};
 ghost use Rattle.rb_core.specs.Typing.{also_bound, fields_match, pattern_binders, pattern_params, repeated};
-ghost use Rattle.rb_check.specs.inner.Answers.{Leaves, binders, within};
-ghost use Rattle.rb_check.specs.inner.Below.{AreBelow};
+ghost use Rattle.rb_check.specs.inner.Answers.{LeavesTyping, binders_of_params, within};
+ghost use Rattle.rb_check.specs.inner.Below.{ParamsBelow};
 
 use crate::types::{can_hold, number_type};
 use rb_core::inference::types_of_fields;
@@ -31,7 +31,7 @@ pub fn repeated(params: &[Param]) -> Option<u32>
 
 // Whether a variable is one of the list, in which each number is below `above`.
 fn stands_below(params: &[Param], above: u64, var: u32) -> bool
-    requires { AreBelow above params.now }
+    requires { ParamsBelow above params.now }
     ensures { result ≡ list_any (λ q. q.var == var) params.now }
 {
     u64::from(var) < above && stands_in(params, var)
@@ -56,8 +56,8 @@ pub fn bind_whole(
     ty: Ty,
     scope: &mut Seq<Param>,
 ) -> Result<(), TypeFault>
-    ensures binds { Leaves result (binders scope.new)
-        (within (binders scope.old) (pattern_binders types.now pattern.now ty)) }
+    ensures binds { LeavesTyping result (binders_of_params scope.new)
+        (within (binders_of_params scope.old) (pattern_binders types.now pattern.now ty)) }
     ensures kept { OnOk result (take (length scope.old) scope.new ≡ scope.old) }
 {
     let depth = scope.len();
@@ -90,7 +90,7 @@ pub fn bind_pattern(
     ty: Ty,
     bound: &mut Seq<Param>,
 ) -> Result<(), TypeFault>
-    ensures binds { Leaves result bound.new (also_bound bound.old (pattern_params types.now pattern.now ty)) }
+    ensures binds { LeavesTyping result bound.new (also_bound bound.old (pattern_params types.now pattern.now ty)) }
 {
     match pattern {
         Pat::Wild(_) => Ok(()),
@@ -133,7 +133,7 @@ fn bind_fields(
     fields: &[Ty],
     bound: &mut Seq<Param>,
 ) -> Result<(), TypeFault>
-    ensures binds { Leaves result bound.new (also_bound bound.old
+    ensures binds { LeavesTyping result bound.new (also_bound bound.old
         (fields_match at (map (pattern_params types.now) subpatterns.now) fields.now)) }
 {
     if subpatterns.len() != fields.len() {

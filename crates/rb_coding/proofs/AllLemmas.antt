@@ -16,7 +16,7 @@ use Rattle.rb_bytes.specs.declared.fault.Full.{Full as Unplaced}
 use Rattle.rb_bytes.proofs.GrowthLemmas.{Grown-extends}
 use Rattle.rb_layout.specs.declared.layout.Layout.{Layout}
 use Rattle.rb_layout.specs.Flattening.{flat_layouts}
-use Rattle.rb_rel.specs.Placing.{Laid, Fits, Over, Request, behind, lay, requests_of, requests_at}
+use Rattle.rb_rel.specs.Placing.{Laid, Fits, Over, Request, block_before, lay, requests_of, requests_at}
 use Rattle.rb_rel.specs.Answers.{making_of, all_makings}
 use Rattle.rb_rel.proofs.Lists.{both}
 use Rattle.rb_coding.specs.declared.fault.EncodeFault.{EncodeFault}
@@ -32,16 +32,16 @@ abbrev full_at : ℕ → ℕ → Request → Unplaced
 full_at limit next r = record { next = next; size = r.size; align = r.align; limit = limit }
 
 abbrev lay_by : ℕ → ℕ → Request → List Request → Bool → Laid
-lay_by limit next r rs b = if b then behind (aligned next r.align, r.size) (lay limit (aligned next r.align + r.size) rs) else Over (full_at limit next r)
+lay_by limit next r rs b = if b then block_before (aligned next r.align, r.size) (lay limit (aligned next r.align + r.size) rs) else Over (full_at limit next r)
 
 abbrev before_by : ℕ → ℕ → Request → List Request → Bool → List (ℕ × ℕ)
 before_by limit next r rs b = if b then (aligned next r.align, r.size) ∷ laid_before limit (aligned next r.align + r.size) rs else []
 
-fits_behind : (b : ℕ × ℕ) (l : Laid) (bs : List (ℕ × ℕ)) (p : ℕ) → behind b l ≡ Fits bs p → (cs : List (ℕ × ℕ)) × (l ≡ Fits cs p) × (bs ≡ b ∷ cs)
+fits_behind : (b : ℕ × ℕ) (l : Laid) (bs : List (ℕ × ℕ)) (p : ℕ) → block_before b l ≡ Fits bs p → (cs : List (ℕ × ℕ)) × (l ≡ Fits cs p) × (bs ≡ b ∷ cs)
 fits_behind b (Fits cs q) bs p e = let x : b ∷ cs ≡ bs = cc in let y : q ≡ p = cc in (cs, ap (Fits cs) y, sym x)
 fits_behind b (Over full) bs p e = absurd cc
 
-over_behind : (b : ℕ × ℕ) (l : Laid) (full : Unplaced) → behind b l ≡ Over full → l ≡ Over full
+over_behind : (b : ℕ × ℕ) (l : Laid) (full : Unplaced) → block_before b l ≡ Over full → l ≡ Over full
 over_behind b (Fits cs q) full e = absurd cc
 over_behind b (Over f) full e = e
 
@@ -56,7 +56,7 @@ fits_more limit next (r ∷ rs) bs p e qs = elim (leb_tells (aligned next r.alig
       let b : ℕ × ℕ = (aligned next r.align, r.size) in
       let f = fits_behind b (lay limit (aligned next r.align + r.size) rs) bs p (sym (ap (lay_by limit next r rs) t.0) ∙ e) in
       let q = fits_more limit (aligned next r.align + r.size) rs f.0 p f.1 qs in (
-        ap (lay_by limit next r (rs ++ qs)) t.0 ∙ ap (behind b) q.0 ∙ ap (λ cs. behind_all cs (lay limit p qs)) (sym f.2),
+        ap (lay_by limit next r (rs ++ qs)) t.0 ∙ ap (block_before b) q.0 ∙ ap (λ cs. behind_all cs (lay limit p qs)) (sym f.2),
         ap (before_by limit next r (rs ++ qs)) t.0 ∙ ap (λ cs. b ∷ cs) q.1 ∙ ap (λ cs. cs ++ laid_before limit p qs) (sym f.2),
       )
   | inr f ↦ absurd (let h : Over (full_at limit next r) ≡ Fits bs p = sym (ap (lay_by limit next r rs) f.0) ∙ e in cc)
@@ -70,7 +70,7 @@ over_more limit next (r ∷ rs) full e qs = elim (leb_tells (aligned next r.alig
       let b : ℕ × ℕ = (aligned next r.align, r.size) in
       let o = over_behind b (lay limit (aligned next r.align + r.size) rs) full (sym (ap (lay_by limit next r rs) t.0) ∙ e) in
       let q = over_more limit (aligned next r.align + r.size) rs full o qs in (
-        ap (lay_by limit next r (rs ++ qs)) t.0 ∙ ap (behind b) q.0,
+        ap (lay_by limit next r (rs ++ qs)) t.0 ∙ ap (block_before b) q.0,
         ap (before_by limit next r (rs ++ qs)) t.0 ∙ ap (λ cs. b ∷ cs) q.1 ∙ sym (ap (before_by limit next r rs) t.0),
       )
   | inr f ↦ (

@@ -24,7 +24,7 @@ use Rattle.rb_layout.specs.declared.layout.Leaf.{Leaf}
 use Rattle.rb_layout.specs.Agreement.{Agrees}
 use Rattle.rb_layout.specs.Flattening.{flat_layouts}
 use Rattle.rb_layout.specs.Positions.{Open, open_positions, types_or_none}
-use Rattle.rb_rel.specs.Placing.{Request, request_of, requests_of, requests_at, blocks_of, blocks_in}
+use Rattle.rb_rel.specs.Placing.{Request, request_of, requests_of, requests_at, blocks_of, leaf_requests}
 use Rattle.rb_rel.specs.Answers.{making_of, in_turn}
 use Rattle.rb_rel.specs.Relation.{Represents, number}
 use Rattle.rb_rel.proofs.Existence.{PartIs, con_log, declared_type, makings, part_is}
@@ -286,7 +286,7 @@ module _ (p : Program) (is_typed : IsTyped p) (agrees : Agrees p) (ty : Ty) (v :
         let progress' : Progress m m' (map request_of c.leaf.blocks) bs = subst (λ (l : Leaf). Progress m m' (map request_of l.blocks) bs) same progress in
         let filled' : m' ≡ with_blocks (word_made ss (address_at bs)) m c.leaf.blocks = filled ∙ ap (λ (l : Leaf). with_blocks (word_made ss (address_at bs)) m l.blocks) same in
         let words' : ws ≡ map (word_made ss (address_at bs)) c.leaf.root = words ∙ ap (λ (l : Leaf). map (word_made ss (address_at bs)) l.root) same in
-        let requests : map request_of c.leaf.blocks ≡ blocks_of the_layouts t x.0 = sym (ap blocks_in (chosen_in p is_typed agrees t x.0 c)) in (
+        let requests : map request_of c.leaf.blocks ≡ blocks_of the_layouts t x.0 = sym (ap leaf_requests (chosen_in p is_typed agrees t x.0 c)) in (
           bs,
           subst (λ rs. Progress m m' rs bs) requests progress',
           leaf_shown p is_typed agrees t x.0 c (only m e.bs) here_good ss (opens t is c) bs (only m' (e.bs ++ bs)) (over c.leaf bs (word_made ss (address_at bs)) progress') (filled_over c.leaf bs (word_made ss (address_at bs)) progress' filled') ws words',
@@ -294,7 +294,7 @@ module _ (p : Program) (is_typed : IsTyped p) (agrees : Agrees p) (ty : Ty) (v :
 
     pub made_stops : (t : Ty) (full : Unplaced) → IsNodeMade the_layouts t x.0 ss m m' (Err (Full full)) → Stopped m m' (requests_at_type the_layouts t x.0) full
     made_stops (Int bits) full h = absurd h
-    made_stops (Named t) full (leaf, is_leaf, stopped) = subst (λ rs. Stopped m m' rs full) (sym (ap blocks_in is_leaf)) stopped
+    made_stops (Named t) full (leaf, is_leaf, stopped) = subst (λ rs. Stopped m m' rs full) (sym (ap leaf_requests is_leaf)) stopped
 
     pub encode_stops : (fault : EncodeFault) → IsNodeMade the_layouts x.1 x.0 ss m m' (Err fault) → IsEncoded p ty v old m' (Err fault)
     encode_stops NoMemory h = tt

@@ -30,7 +30,7 @@ use Rattle.rb_layout.specs.Flattening.{flat_layouts, same_path, type_at}
 use Rattle.rb_layout.specs.Positions.{Open, open_positions, layout_of, leaf_of}
 use Rattle.rb_layout.specs.Words.{words_in, words_of_block, begins_at}
 use Rattle.rb_layout.proofs.OpenPositions.{position-typed}
-use Rattle.rb_rel.specs.Relation.{HoldsKind, PartHolds, Placed, Represents, word_count}
+use Rattle.rb_rel.specs.Relation.{HoldsKind, PartHolds, LeafStands, Represents, word_count}
 use Rattle.rb_rel.proofs.Agreeing.{lawful}
 use Rattle.rb_rel.proofs.Fitting.{KindFits}
 use Rattle.rb_rel.proofs.Holding.{path_is}
@@ -336,7 +336,7 @@ module _ (p : Program) (typed : IsTyped p) (agrees : Agrees p) (m : Memory) (t :
   abbrev opens : List Open
   opens = open_positions p.types leaf.prov
 
-  module _ (subs : List ℕ → List ℕ) (ats : ℕ → ℕ) (placed : Placed leaf ws m false subs ats) (path : List ℕ) where
+  module _ (subs : List ℕ → List ℕ) (ats : ℕ → ℕ) (placed : LeafStands leaf ws m false subs ats) (path : List ℕ) where
     root_words : AreWords (flat_layouts p) p.layouts opens subs ats path leaf.root ws 0
     root_words = λ k f e q part at.
         (let fit = (sound p agrees t layout n leaf typed is_layout is_number).root k f e in
@@ -355,7 +355,7 @@ module _ (p : Program) (typed : IsTyped p) (agrees : Agrees p) (m : Memory) (t :
         (fit.some q part at, fit.kinds q part at, subst (λ j. PartHolds subs ats (slice_index xs j) part) z (holds.parts q part at)))
 
   -- what is gathered for a field is what represents the value there
-  pub field_is : (subs : List ℕ → List ℕ) (ats : ℕ → ℕ) → Placed leaf ws m false subs ats → (k : ℕ) (o : Open) → slice_get opens k ≡ Some o → (u : Value) → AreOf p m o.ty (subs o.path) u
+  pub field_is : (subs : List ℕ → List ℕ) (ats : ℕ → ℕ) → LeafStands leaf ws m false subs ats → (k : ℕ) (o : Open) → slice_get opens k ≡ Some o → (u : Value) → AreOf p m o.ty (subs o.path) u
       → field_words p.types (flat_layouts p) leaf ws loaded o.path ≡ subs o.path
   field_is subs ats placed k o at u rep =
       let law = lawful p agrees typed in

@@ -13,7 +13,7 @@ use Rattle.rb_layout.specs.declared.layout.Part.{Part}
 use Rattle.rb_layout.specs.declared.layout.Kind.{Kind}
 use Rattle.rb_layout.specs.declared.layout.Kind.TheVariants.{Const, Bits, Word, Pointer}
 use Rattle.rb_layout.specs.Words.{size_of, begins_at}
-use Rattle.rb_rel.specs.Placing.{Laid, Fits, Over, Request, request_of, behind, lay}
+use Rattle.rb_rel.specs.Placing.{Laid, Fits, Over, Request, request_of, block_before, lay}
 use Rattle.rb_rel.proofs.Packing.{number_of}
 use Rattle.rb_rel.proofs.Storing.{written, with_block, with_blocks, IsBlock, filled_grown}
 use Rattle.rb_rel.proofs.Layers.{address_at}
@@ -23,15 +23,15 @@ use Rattle.rb_coding.specs.Packing.{put_into, made_of}
 
 behind_more : (bs cs : List (ℕ × ℕ)) (l : Laid) → behind_all bs (behind_all cs l) ≡ behind_all (bs ++ cs) l
 behind_more [] cs l = refl
-behind_more (b ∷ bs) cs l = ap (behind b) (behind_more bs cs l)
+behind_more (b ∷ bs) cs l = ap (block_before b) (behind_more bs cs l)
 
 behind_over : (bs : List (ℕ × ℕ)) (full : Full) → behind_all bs (Over full) ≡ Over full
 behind_over [] full = refl
-behind_over (b ∷ bs) full = ap (behind b) (behind_over bs full)
+behind_over (b ∷ bs) full = ap (block_before b) (behind_over bs full)
 
 behind_fits : (bs : List (ℕ × ℕ)) (next : ℕ) → behind_all bs (Fits [] next) ≡ Fits bs next
 behind_fits [] next = refl
-behind_fits (b ∷ bs) next = ap (behind b) (behind_fits bs next)
+behind_fits (b ∷ bs) next = ap (block_before b) (behind_fits bs next)
 
 pub progress_none : (m : Memory) → IsGood m → Progress m m [] []
 progress_none m good = record { lays = λ qs. refl; before = λ qs. refl; grown = Grown-refl m good }
@@ -110,7 +110,7 @@ pub progress_one : (m : Memory) → IsGood m → (block : Block) → IsBlock blo
 progress_one m good block is number fits room =
     let a = aligned m.next block.align in
     record {
-      lays = λ qs. ap (λ b. if b then behind (a, size_of block) (lay m.limit (a + size_of block) qs) else Over (record { next = m.next; size = size_of block; align = block.align; limit = m.limit })) fits;
+      lays = λ qs. ap (λ b. if b then block_before (a, size_of block) (lay m.limit (a + size_of block) qs) else Over (record { next = m.next; size = size_of block; align = block.align; limit = m.limit })) fits;
       before = λ qs. ap (λ b. if b then (a, size_of block) ∷ laid_before m.limit (a + size_of block) qs else []) fits;
       grown = filled_grown m good block is number room;
     }
@@ -121,7 +121,7 @@ stop_one m good r over =
     let a = aligned m.next r.align in
     record {
       bs = [];
-      over = λ qs. ap (λ b. if b then behind (a, r.size) (lay m.limit (a + r.size) qs) else Over (record { next = m.next; size = r.size; align = r.align; limit = m.limit })) over;
+      over = λ qs. ap (λ b. if b then block_before (a, r.size) (lay m.limit (a + r.size) qs) else Over (record { next = m.next; size = r.size; align = r.align; limit = m.limit })) over;
       before = λ qs. ap (λ b. if b then (a, r.size) ∷ laid_before m.limit (a + r.size) qs else []) over;
       grown = Grown-refl m good;
     }

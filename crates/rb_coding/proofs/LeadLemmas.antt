@@ -19,7 +19,7 @@ use Rattle.rb_layout.specs.Agreement.{Agrees}
 use Rattle.rb_layout.specs.Excluded.{Excludes}
 use Rattle.rb_layout.specs.Flat.{IsFlat}
 use Rattle.rb_layout.specs.Flattening.{flat_layouts}
-use Rattle.rb_layout.specs.Locations.{Reached, reached_at, known_in, next_ref, ref_in, block_at, word_beginning, resolve_from}
+use Rattle.rb_layout.specs.Locations.{Reached, reached_at, known_in, next_ref, ref_in, pointer_block, word_beginning, resolve_from}
 use Rattle.rb_layout.specs.Splits.{Test, Is, IsNone}
 use Rattle.rb_layout.specs.Words.{words_in, words_of_block, flat_at}
 use Rattle.rb_rel.specs.Reading.{read_loc}
@@ -63,7 +63,7 @@ module _ (leaf : Leaf) (wide : (b : ℕ) (block : Block) (j : ℕ) (f : FlatWord
 
   widths_from : (steps : List Step) (r : WordRef) (o l : ℕ) (x : Reached) → resolve_from leaf (Some r) o l steps ≡ Some x → AreWide steps
   widths_from [] r o l x e = λ k s h. absurd cc
-  widths_from (s ∷ steps) r o l x e = by_block s steps x (λ q h. widths_from steps q s.o s.l x h) (block_at (flat_at leaf r) o l s.align) e
+  widths_from (s ∷ steps) r o l x e = by_block s steps x (λ q h. widths_from steps q s.o s.l x h) (pointer_block (flat_at leaf r) o l s.align) e
 
   pub widths : (loc : Loc) (x : Reached) → reached_at leaf loc ≡ Some x → (k : ℕ) (s : Step) → slice_get loc.steps k ≡ Some s → IsWidth s.width
   widths loc x e = widths_from loc.steps (record { block = None; word = loc.word }) loc.o loc.l x e

@@ -25,7 +25,7 @@ use Rattle.rb_layout.specs.A4.{IsBlockWidth, IsAlignment}
 use Rattle.rb_layout.specs.Flattening.{flat_layouts}
 use Rattle.rb_layout.specs.Pointers.{PointsTo}
 use Rattle.rb_layout.specs.Positions.{Open, open_positions, opens_of, leaf_of, layout_of}
-use Rattle.rb_layout.specs.Words.{words_in, words_of_block, bytes_in}
+use Rattle.rb_layout.specs.Words.{words_in, words_of_block, bytes_taken}
 use Rattle.rb_rel.specs.Placing.{Fits, request_of, leaf_in, leaf_numbered, lay}
 use Rattle.rb_rel.specs.Relation.{Represents}
 use Rattle.rb_rel.proofs.Agreeing.{lawful}
@@ -75,7 +75,7 @@ at_most_64 w (inr (inl e)) = omega (arith, e)
 at_most_64 w (inr (inr (inl e))) = omega (arith, e)
 at_most_64 w (inr (inr (inr e))) = omega (arith, e)
 
-few_bytes : (fs : List FlatWord) → ((j : ℕ) (f : FlatWord) → slice_get fs j ≡ Some f → IsBlockWidth f.width) → bytes_in fs ≤ 8 * length fs
+few_bytes : (fs : List FlatWord) → ((j : ℕ) (f : FlatWord) → slice_get fs j ≡ Some f → IsBlockWidth f.width) → bytes_taken fs ≤ 8 * length fs
 few_bytes [] wide = omega arith
 few_bytes (f ∷ fs) wide = let r = few_bytes fs (λ j x e. wide (suc j) x e) in let w = at_most_64 f.width (wide 0 f refl) in omega (arith, r, w)
 

@@ -14,7 +14,7 @@ use Rattle.rb_layout.specs.declared.layout.Leaf.{Leaf}
 use Rattle.rb_layout.specs.declared.layout.Part.{Part}
 use Rattle.rb_layout.specs.Flat.{IsAbove}
 use Rattle.rb_layout.specs.Words.{words_in, words_of_block, flat_at, begins_at, size_of}
-use Rattle.rb_rel.specs.Relation.{PartHolds, Placed}
+use Rattle.rb_rel.specs.Relation.{PartHolds, LeafStands}
 use Rattle.rb_rel.proofs.Lists.{got}
 use Rattle.rb_coding.specs.inner.Gathering.{put_words}
 use Rattle.rb_coding.specs.inner.Loading.{AreLoaded, AreWordsOf, CanLoad, IsLoadable}
@@ -38,8 +38,8 @@ Known leaf b ats addresses =
 pub record Loading (leaf : Leaf) (ws : List ℕ) (m : Memory) (b : ℕ) (addresses : List ℕ) (loaded : List (List ℕ)) : Type 0 where
   pub long : length addresses ≡ length leaf.blocks
   pub count : length loaded + b ≡ length leaf.blocks
-  pub known : (subs : List ℕ → List ℕ) (ats : ℕ → ℕ) → Placed leaf ws m false subs ats → Known leaf b ats addresses
-  pub words : (subs : List ℕ → List ℕ) (ats : ℕ → ℕ) → Placed leaf ws m false subs ats
+  pub known : (subs : List ℕ → List ℕ) (ats : ℕ → ℕ) → LeafStands leaf ws m false subs ats → Known leaf b ats addresses
+  pub words : (subs : List ℕ → List ℕ) (ats : ℕ → ℕ) → LeafStands leaf ws m false subs ats
       → (a c : ℕ) (block : Block) → a + 1 + c ≡ length leaf.blocks → b ≤ a → slice_get leaf.blocks a ≡ Some block
       → AreLoaded m (ats a) block.words (slice_index_or loaded c [])
 
@@ -95,7 +95,7 @@ module _ (leaf : Leaf) (ws : List ℕ) (m : Memory) (good : IsGood m) where
   in_blocks a j f None is e = absurd cc
   in_blocks a j f (Some block) is e = slice_get_within leaf.blocks a block is
 
-  module _ (subs : List ℕ → List ℕ) (ats : ℕ → ℕ) (placed : Placed leaf ws m false subs ats) where
+  module _ (subs : List ℕ → List ℕ) (ats : ℕ → ℕ) (placed : LeafStands leaf ws m false subs ats) where
     small : (b : ℕ) → b < length leaf.blocks → ats b < 18446744073709551616
     small b lt =
         let g = got leaf.blocks b lt in
@@ -171,7 +171,7 @@ module _ (leaf : Leaf) (ws : List ℕ) (m : Memory) (good : IsGood m) where
 
     module _ (b : ℕ) (block : Block) (at : slice_get leaf.blocks b ≡ Some block) (addresses : List ℕ) (loaded : List (List ℕ)) (h : Loading leaf ws m (b + 1) addresses loaded) where
       -- the address of the next block is known
-      pub base_is : (subs : List ℕ → List ℕ) (ats : ℕ → ℕ) → Placed leaf ws m false subs ats → slice_index addresses b ≡ ats b
+      pub base_is : (subs : List ℕ → List ℕ) (ats : ℕ → ℕ) → LeafStands leaf ws m false subs ats → slice_index addresses b ≡ ats b
       base_is subs ats placed =
           let q = can.flat.pointed b block at in
           h.known subs ats placed q.0.block q.0.word q.2.word q.2.is_word q.2.number q.2.part q.2.is_part block.align b q.2.is_pointer (above q.0.block q.3) (slice_get_within leaf.blocks b block at)
@@ -188,7 +188,7 @@ module _ (leaf : Leaf) (ws : List ℕ) (m : Memory) (good : IsGood m) where
       pub loading_next : (words new : List ℕ) (more : List (List ℕ)) → AreLoaded m (slice_index addresses b) block.words words → new ≡ put_words Addresses [] block.words words 0 addresses → more ≡ loaded ++ words ∷ []
           → Loading leaf ws m b new more
       loading_next words new more are is_new is_more =
-          let here : (subs : List ℕ → List ℕ) (ats : ℕ → ℕ) → Placed leaf ws m false subs ats → AreLoaded m (ats b) block.words words =
+          let here : (subs : List ℕ → List ℕ) (ats : ℕ → ℕ) → LeafStands leaf ws m false subs ats → AreLoaded m (ats b) block.words words =
           λ subs ats placed. subst (λ a. AreLoaded m a block.words words) (base_is subs ats placed) are in
           let n = h.count in
           record {

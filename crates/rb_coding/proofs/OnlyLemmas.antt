@@ -17,7 +17,7 @@ use Rattle.rb_layout.specs.declared.layout.Layout.{Layout}
 use Rattle.rb_layout.specs.Words.{begins_at, size_of}
 use Rattle.rb_rel.specs.Answers.{making_of}
 use Rattle.rb_rel.specs.Placing.{Fits, Request, request_of, requests_of, lay}
-use Rattle.rb_rel.specs.Relation.{IsFound, Placed, Made, Represents, number, built, Represent}
+use Rattle.rb_rel.specs.Relation.{IsFound, LeafStands, Made, Represents, number, built, Represent}
 use Rattle.rb_rel.proofs.Elsewhere.{made_elsewhere}
 use Rattle.rb_rel.proofs.Growth.{Represents-kept}
 use Rattle.rb_rel.proofs.Storing.{with_block, with_blocks, laid_more}
@@ -104,7 +104,7 @@ module _ (m m' : Memory) (wider : IsWider m m') where
   found_wider None fs f j ws ats w e = e
   found_wider (Some b) fs f j ws ats w e = load_wider (ats b) (begins_at fs j) f.width w e
 
-  placed_wider : (leaf : Leaf) (ws : List ℕ) (subs : List ℕ → List ℕ) (ats : ℕ → ℕ) → Placed leaf ws m true subs ats → Placed leaf ws m' true subs ats
+  placed_wider : (leaf : Leaf) (ws : List ℕ) (subs : List ℕ → List ℕ) (ats : ℕ → ℕ) → LeafStands leaf ws m true subs ats → LeafStands leaf ws m' true subs ats
   placed_wider leaf ws subs ats p = record {
     count = p.count;
     blocks = λ b block is. wider.sized _ _ (p.blocks b block is);

@@ -14,7 +14,7 @@ use Rattle.rb_layout.specs.declared.layout.Leaf.{Leaf}
 use Rattle.rb_layout.specs.Agreement.{Agrees}
 use Rattle.rb_layout.specs.Flattening.{flat_layouts}
 use Rattle.rb_layout.specs.Positions.{leaf_of}
-use Rattle.rb_rel.specs.Relation.{Placed}
+use Rattle.rb_rel.specs.Relation.{LeafStands}
 use Rattle.rb_rel.proofs.Agreeing.{lawful}
 use Rattle.rb_rel.proofs.Represented.{Opened, opened}
 use Rattle.rb_coding.specs.Decoding.{AreOf}
@@ -72,7 +72,7 @@ module _ (p : Program) (typed : IsTyped p) (agrees : Agrees p) (m : Memory) (goo
             widths = (agrees.a4 t layout n leaf is_layout is_number).widths;
             subs = o.made.subs;
             ats = o.made.ats;
-            placed = subst (λ (y : Leaf). Placed y ws m false o.made.subs o.made.ats) (own_leaf v o) o.made.placed;
+            placed = subst (λ (y : Leaf). LeafStands y ws m false o.made.subs o.made.ats) (own_leaf v o) o.made.placed;
           }
 
       -- and once they are, its plan opens the words

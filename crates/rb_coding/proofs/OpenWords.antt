@@ -18,10 +18,10 @@ use Rattle.rb_layout.specs.declared.layout.Kind.{Kind}
 use Rattle.rb_layout.specs.declared.layout.Kind.TheVariants.{Bits, Word, Pointer}
 use Rattle.rb_layout.specs.declared.layout.WordRef.{WordRef}
 use Rattle.rb_layout.specs.Words.{words_in, flat_at}
-use Rattle.rb_rel.specs.Relation.{HoldsKind, IsFound, Placed, Represents, WordHolds, word_count}
+use Rattle.rb_rel.specs.Relation.{HoldsKind, IsFound, LeafStands, Represents, WordHolds, word_count}
 use Rattle.rb_rel.proofs.Represented.{Represents-int, Represents-count}
 
-module _ (leaf : Leaf) (ws : List ℕ) (m : Memory) (clean : Bool) (subs : List ℕ → List ℕ) (ats : ℕ → ℕ) (placed : Placed leaf ws m clean subs ats) where
+module _ (leaf : Leaf) (ws : List ℕ) (m : Memory) (clean : Bool) (subs : List ℕ → List ℕ) (ats : ℕ → ℕ) (placed : LeafStands leaf ws m clean subs ats) where
   found_one : (b : Option ℕ) (fs : List FlatWord) (f : FlatWord) (j w x : ℕ) → IsFound b fs f j ws ats m w → IsFound b fs f j ws ats m x → w ≡ x
   found_one None fs f j w x e h = same_Some w x (sym e ∙ h)
   found_one (Some b) fs f j w x e h = let g = sym e ∙ h in cc

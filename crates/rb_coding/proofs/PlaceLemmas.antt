@@ -10,7 +10,7 @@ use Rattle.rb_bytes.proofs.BlockLemmas.{size_at-push, aligned_from}
 use Rattle.rb_bytes.specs.declared.fault.Full.{Full}
 use Rattle.rb_layout.specs.declared.layout.Block.{Block}
 use Rattle.rb_layout.specs.declared.layout.FlatWord.{FlatWord}
-use Rattle.rb_layout.specs.Words.{size_of, bytes_in, begins_at}
+use Rattle.rb_layout.specs.Words.{size_of, bytes_taken, begins_at}
 use Rattle.rb_rel.specs.Placing.{Request, request_of}
 use Rattle.rb_rel.proofs.Storing.{written, with_block, with_blocks, IsBlock, begins_within, within_yes}
 use Rattle.rb_rel.proofs.Layers.{address_at}
@@ -24,12 +24,12 @@ got [] i x lt is = absurd (omega (arith, lt))
 got (y ∷ xs) zero x lt is = ap Some (sym is)
 got (y ∷ xs) (suc i) x lt is = got xs i x (omega (arith, lt)) is
 
-module _ (m : Memory) (base : ℕ) (fs : List FlatWord) (placed : size_at m.blocks base ≡ Some (bytes_in fs)) (number : FlatWord → ℕ) where
+module _ (m : Memory) (base : ℕ) (fs : List FlatWord) (placed : size_at m.blocks base ≡ Some (bytes_taken fs)) (number : FlatWord → ℕ) where
   abbrev pub stored : ℕ → Memory
   stored i = record m { bytes = written number (take i fs) base m.bytes }
 
   inside : (i : ℕ) (f : FlatWord) → slice_get fs i ≡ Some f → lies_within (size_at m.blocks base) (begins_at fs i + f.width / 8) ≡ true
-  inside i f is = ap (λ o. lies_within o (begins_at fs i + f.width / 8)) placed ∙ within_yes (bytes_in fs) (begins_at fs i + f.width / 8) (begins_within fs i f is)
+  inside i f is = ap (λ o. lies_within o (begins_at fs i + f.width / 8)) placed ∙ within_yes (bytes_taken fs) (begins_at fs i + f.width / 8) (begins_within fs i f is)
 
   pub store_is : (i : ℕ) (f : FlatWord) → slice_get fs i ≡ Some f → store_of (stored i) base (begins_at fs i) f.width (number f) ≡ (Ok tt, stored (i + 1))
   unfolding store_of
@@ -45,7 +45,7 @@ module _ (m : Memory) (base : ℕ) (fs : List FlatWord) (placed : size_at m.bloc
   store_goes i f is m' offset n em eo en =
       ap (λ (x : Memory). store_of x base offset f.width n) em ∙ ap (λ o. store_of (stored i) base o f.width n) eo ∙ ap (store_of (stored i) base (begins_at fs i) f.width) en ∙ store_is i f is
 
-  pub store_fits : (i : ℕ) (f : FlatWord) → slice_get fs i ≡ Some f → begins_at fs i + f.width / 8 ≤ bytes_in fs
+  pub store_fits : (i : ℕ) (f : FlatWord) → slice_get fs i ≡ Some f → begins_at fs i + f.width / 8 ≤ bytes_taken fs
   store_fits i f is = begins_within fs i f is
 
 -- Placing blocks -----------------------------------------------------------------------------------

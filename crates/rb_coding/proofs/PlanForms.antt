@@ -20,7 +20,7 @@ use Rattle.rb_layout.specs.declared.layout.Layout.{Layout}
 use Rattle.rb_layout.specs.Agreement.{Agrees}
 use Rattle.rb_layout.specs.Flattening.{flat_layouts}
 use Rattle.rb_layout.specs.Positions.{Open, below, opens_below, opens_of, open_positions, root_type, types_or_none, layout_of, leaf_of}
-use Rattle.rb_rel.specs.Relation.{Placed, Made}
+use Rattle.rb_rel.specs.Relation.{LeafStands, Made}
 use Rattle.rb_rel.specs.Reading.{walk}
 use Rattle.rb_rel.proofs.Agreeing.{lawful}
 use Rattle.rb_rel.proofs.Lawful.{fits_type, is_named}
@@ -275,13 +275,13 @@ module _ (p : Program) (typed : IsTyped p) (agrees : Agrees p) (m : Memory) (t :
   module _ (layout : Layout) (n : ℕ) (leaf : Leaf) (is_layout : layout_of (flat_layouts p) t ≡ Some layout) (is_leaf : (v : Value) → AreOf p m (Named t) ws v → leaf_of layout v ≡ Some n)
       (is_number : slice_get layout.leaves n ≡ Some leaf) (old new : List Step) where
     -- steps are added that open the words, where they are the leaf's plan for any words at its open positions that these can have
-    pub opens : ((subs : List ℕ → List ℕ) (ats : ℕ → ℕ) → Placed leaf ws m false subs ats → AreSubs leaf subs → new ≡ old ++ plan_of p.types subs leaf.prov (Named t) []) → IsOpened p m t ws old new
+    pub opens : ((subs : List ℕ → List ℕ) (ats : ℕ → ℕ) → LeafStands leaf ws m false subs ats → AreSubs leaf subs → new ≡ old ++ plan_of p.types subs leaf.prov (Named t) []) → IsOpened p m t ws old new
     opens planned = λ v rep.
         (let law = lawful p agrees typed in
         let o = opened p.types (flat_layouts p) m false rep in
         let d = o.made in
         let e : d.leaf ≡ leaf = same_Some d.leaf leaf (sym (made_number v d layout n is_layout (is_leaf v rep)) ∙ is_number) in
-        let placed : Placed leaf ws m false d.subs d.ats = subst (λ (y : Leaf). Placed y ws m false d.subs d.ats) e d.placed in
+        let placed : LeafStands leaf ws m false d.subs d.ats = subst (λ (y : Leaf). LeafStands y ws m false d.subs d.ats) e d.placed in
         let at : (k : ℕ) (q : Open) → slice_get (open_positions p.types leaf.prov) k ≡ Some q → slice_get (open_positions p.types d.leaf.prov) k ≡ Some q =
         λ k q x. ap (λ (y : Leaf). slice_get (open_positions p.types y.prov) k) e ∙ x in
         let root = law.provenances.root t layout n leaf is_layout is_number in
@@ -298,7 +298,7 @@ module _ (p : Program) (typed : IsTyped p) (agrees : Agrees p) (m : Memory) (t :
 
     -- so they do where they are its plan for words that are read there
     pub opens_read : (ss : List ℕ → List ℕ)
-        → ((subs : List ℕ → List ℕ) (ats : ℕ → ℕ) → Placed leaf ws m false subs ats → AreSubs leaf subs → AtOpens (Agree p.types subs ss) (open_positions p.types leaf.prov) [])
+        → ((subs : List ℕ → List ℕ) (ats : ℕ → ℕ) → LeafStands leaf ws m false subs ats → AreSubs leaf subs → AtOpens (Agree p.types subs ss) (open_positions p.types leaf.prov) [])
         → new ≡ old ++ plan_of p.types ss leaf.prov (Named t) [] → IsOpened p m t ws old new
     opens_read ss read is = opens (λ subs ats placed are.
         let root = (lawful p agrees typed).provenances.root t layout n leaf is_layout is_number in

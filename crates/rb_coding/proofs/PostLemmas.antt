@@ -23,7 +23,7 @@ use Rattle.rb_values.specs.Nodes.{at, posts, IsLayer}
 use Rattle.rb_values.specs.declared.nodes.Layer.{Layer}
 use Rattle.rb_values.specs.declared.nodes.Layer.TheVariants as L
 use Rattle.rb_values.proofs.PostLemmas.{posts-Num, posts-Con, count_posts}
-use Rattle.rb_coding.specs.inner.Nodes.{Typing, typed_in_turn, typed_step, typed_posts, field_list, layer_fields, start_of, arity_of, field_node, node_at}
+use Rattle.rb_coding.specs.inner.Nodes.{NodeTyping, typed_in_turn, typed_step, typed_posts, field_list, layer_fields, start_of, arity_of, field_node, node_at}
 
 pub below_lt : (a b : ℕ) → nat_lt a b ≡ true → a < b
 below_lt a b e = grind (arith, common_steps)
@@ -76,17 +76,17 @@ module _ (types : List DataDecl) where
   -- Forms ------------------------------------------------------------------------------------------
   pub tposts-Num : (n : ℕ) (t : Ty) → tposts (Num n) t ≡ (Num n, t) ∷ []
   unfolding X.roll-Value denote.Hole.Carrier.roll
-  tposts-Num n t = ap (λ (f : Typing). f t) (para-roll-Value Typing (typed_step types) (V.Num n))
+  tposts-Num n t = ap (λ (f : NodeTyping). f t) (para-roll-Value NodeTyping (typed_step types) (V.Num n))
 
   tposts-layer : (k : ℕ) (vs : List Value) (t : Ty) → tposts (Con k vs) t ≡ typed_step types (V.Con k (map (λ v. (v, typed_posts types v)) vs)) t
   unfolding X.roll-Value denote.Hole.Carrier.roll
-  tposts-layer k vs t = ap (λ (f : Typing). f t) (para-roll-Value Typing (typed_step types) (V.Con k vs))
+  tposts-layer k vs t = ap (λ (f : NodeTyping). f t) (para-roll-Value NodeTyping (typed_step types) (V.Con k vs))
 
-  firsts : (vs : List Value) → map (λ (x : Value × Typing). x.0) (map (λ v. (v, typed_posts types v)) vs) ≡ vs
+  firsts : (vs : List Value) → map (λ (x : Value × NodeTyping). x.0) (map (λ v. (v, typed_posts types v)) vs) ≡ vs
   firsts [] = refl
   firsts (v ∷ vs) = ap (λ xs. v ∷ xs) (firsts vs)
 
-  seconds : (vs : List Value) → map (λ (x : Value × Typing). x.1) (map (λ v. (v, typed_posts types v)) vs) ≡ map (typed_posts types) vs
+  seconds : (vs : List Value) → map (λ (x : Value × NodeTyping). x.1) (map (λ v. (v, typed_posts types v)) vs) ≡ map (typed_posts types) vs
   seconds [] = refl
   seconds (v ∷ vs) = ap (λ xs. typed_posts types v ∷ xs) (seconds vs)
 
@@ -98,7 +98,7 @@ module _ (types : List DataDecl) where
   pub tposts-Con : (k : ℕ) (vs : List Value) (t : Ty) → tposts (Con k vs) t ≡ typed_all (pairs vs (field_list types t k)) ++ (Con k vs, t) ∷ []
   tposts-Con k vs t =
       tposts-layer k vs t
-      ∙ ap (λ xs. typed_in_turn xs (field_list types t k) ++ (Con k (map (λ (x : Value × Typing). x.0) (map (λ v. (v, typed_posts types v)) vs)), t) ∷ []) (seconds vs)
+      ∙ ap (λ xs. typed_in_turn xs (field_list types t k) ++ (Con k (map (λ (x : Value × NodeTyping). x.0) (map (λ v. (v, typed_posts types v)) vs)), t) ∷ []) (seconds vs)
       ∙ ap (λ xs. typed_in_turn (map (typed_posts types) vs) (field_list types t k) ++ (Con k xs, t) ∷ []) (firsts vs)
       ∙ ap (λ xs. xs ++ (Con k vs, t) ∷ []) (in_pairs vs (field_list types t k))
 

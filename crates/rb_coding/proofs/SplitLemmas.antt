@@ -14,17 +14,17 @@ use Rattle.rb_bytes.proofs.GrowthLemmas.{address_small}
 use Rattle.rb_layout.specs.declared.layout.FlatTree.{FlatTree, Split, Leaf}
 use Rattle.rb_layout.specs.declared.layout.FlatTree.TheFolds.{fold-roll-FlatArm}
 use Rattle.rb_layout.specs.declared.layout.FlatArm.{FlatArm}
-use Rattle.rb_layout.specs.Splits.{Test, Is, IsNone, Route, behind, Under, arm_routes, else_routes, literals_of, routes_step, routes_arm, routes_of, routes_under, SplitAt, splits_or_none, splits_step, splits_arm, splits_of, splits_under}
+use Rattle.rb_layout.specs.Splits.{Test, Is, IsNone, Route, under_test, Under, arm_routes, else_routes, literals_of, routes_step, routes_arm, routes_of, routes_under, SplitAt, splits_or_none, splits_step, splits_arm, splits_of, splits_under}
 use Rattle.rb_layout.specs.A7.{IsLiteral}
 use Rattle.rb_layout.proofs.FlatForms as F
-use Rattle.rb_rel.specs.Reading.{after, read_from, read_loc}
+use Rattle.rb_rel.specs.Reading.{on_loaded, read_from, read_loc}
 use Rattle.rb_rel.proofs.Lists.{get-append, get-map, get-left, get-right}
 use Rattle.rb_rel.proofs.Trees.{AreDistinct, LiteralsDistinct}
 use Rattle.rb_coding.specs.Arms.{under_number}
 use Rattle.rb_coding.specs.inner.Leading.{ReadsNumber, Passes, RouteLeads}
 
 -- Steps of a location ------------------------------------------------------------------------------
-loaded : (x : Result ℕ Trap) (go : ℕ → Option ℕ) (n : ℕ) → after x go ≡ Some n → (r : ℕ) × (x ≡ Ok r)
+loaded : (x : Result ℕ Trap) (go : ℕ → Option ℕ) (n : ℕ) → on_loaded x go ≡ Some n → (r : ℕ) × (x ≡ Ok r)
 loaded (Ok r) go n e = (r, refl)
 loaded (Err t) go n e = absurd cc
 
@@ -109,15 +109,15 @@ record ByArm (loc : Loc) (arms : List FlatArm) (r : Route) : Type 0 where
   pub number : ℕ
   pub rest : Route
   pub is_rest : slice_get (routes_of arm.under) number ≡ Some rest
-  pub is_route : r ≡ behind (Is loc arm.literal) rest
+  pub is_route : r ≡ under_test (Is loc arm.literal) rest
 
 find_arm : (loc : Loc) (arms : List FlatArm) (k : ℕ) (r : Route) → slice_get (arms_routes loc arms) k ≡ Some r → ByArm loc arms r
 find_arm loc [] k r e = absurd cc
 find_arm loc (a ∷ arms) k r e =
     elim (get-append (arm_routes loc (routes_under a)) (arms_routes loc arms) k r e) [
       | inl h ↦
-          let h' : slice_get (map (behind (Is loc a.literal)) (routes_of a.under)) k ≡ Some r = ap (λ (u : Under (List Route)). slice_get (arm_routes loc u) k) (sym (under_is a)) ∙ h in
-          let g = get-map (behind (Is loc a.literal)) (routes_of a.under) k r h' in
+          let h' : slice_get (map (under_test (Is loc a.literal)) (routes_of a.under)) k ≡ Some r = ap (λ (u : Under (List Route)). slice_get (arm_routes loc u) k) (sym (under_is a)) ∙ h in
+          let g = get-map (under_test (Is loc a.literal)) (routes_of a.under) k r h' in
           record { place = 0; arm = a; is_arm = refl; number = k; rest = g.0; is_rest = g.1; is_route = g.2 }
       | inr h ↦
           let f = find_arm loc arms h.0 r h.1 in
@@ -194,7 +194,7 @@ module _ (ws : List ℕ) (m : Memory) where
     by_else None j ds e = absurd cc
     by_else (Some t) j ds e =
         let lits = literals_of (map routes_under arms) in
-        let g = get-map (behind (IsNone loc lits)) (routes_of t) j route e in
+        let g = get-map (under_test (IsNone loc lits)) (routes_of t) j route e in
         let p = passes 0 (IsNone loc lits) (ap (λ (q : Route). slice_get q.tests 0) g.2) in
         record {
           n = p.0;

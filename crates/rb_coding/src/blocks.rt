@@ -6,7 +6,7 @@
 ghost use Rattle.std.specs.Prelude.{◌≡◌, ℕ, ◌+◌, ◌≤◌, Some, slice_get, slice_index};
 ghost use Rattle.rb_bytes.specs.Memory.{IsGood, most_region, size_at};
 ghost use Rattle.rb_layout.specs.A4.{IsBlockWidth};
-ghost use Rattle.rb_layout.specs.Words.{bytes_in};
+ghost use Rattle.rb_layout.specs.Words.{bytes_taken};
 ghost use Rattle.rb_layout.specs.declared.layout.FlatWord.{FlatWord as Flat};
 ghost use Rattle.rb_rel.proofs.Storing.{written};
 ghost use Rattle.rb_coding.specs.inner.Filling.{ArePlaceable, ArePlaced, IsMade};
@@ -34,8 +34,8 @@ fn store_words<M: ByteMemory>(
     addresses: &[u64],
 )
     requires good { IsGood (M.memory memory.old) }
-    requires placed { size_at (M.memory memory.old).blocks base ≡ Some (bytes_in words.now) }
-    requires room { base + bytes_in words.now ≤ most_region }
+    requires placed { size_at (M.memory memory.old).blocks base ≡ Some (bytes_taken words.now) }
+    requires room { base + bytes_taken words.now ≤ most_region }
     requires widths { (j : ℕ) (f : Flat) → slice_get words.now j ≡ Some f → IsBlockWidth f.width }
     ensures value { M.memory memory.new ≡ record (M.memory memory.old) {
       bytes = written (word_made (subs_of table.now nodes.now node) (slice_index addresses.now))

@@ -4,7 +4,7 @@ use Rattle.std.specs.Fmt.{decimal}
 use Rattle.std.specs.List.{All}
 use Rattle.std.proofs.lemmas.Fmt.{decimal_injective}
 use Rattle.std.proofs.lemmas.List.Elements.{All-head, All-tail}
-use Rattle.rb_command.specs.Command.{Limits, Command, Parsed, AreLimits, IsWordsOf, AreCommand, IsParsed, words_of, check, layout, compile, run, image, count, gen, genrun, exec, value, peek}
+use Rattle.rb_command.specs.Command.{Limits, Command, Parsed, AreLimits, IsWordsOf, AreCommand, IsParsed, command_words, check, layout, compile, run, image, count, gen, genrun, exec, value, peek}
 use Rattle.rb_command.specs.Path.{path_text}
 use Rattle.rb_command.specs.inner.Parsing.{command_of}
 use Rattle.rb_command.proofs.Paths.{one_path}
@@ -36,7 +36,7 @@ same_limits limits calls region fine good e f =
     ap (λ (n : ℕ). limits_of n limits.region) a ∙ ap (λ (n : ℕ). limits_of calls n) b
 
 -- another command with the words of this one
-one_command : (c d : Command) → IsWordsOf c (words_of c) → IsWordsOf d (words_of c) → c ≡ d
+one_command : (c d : Command) → IsWordsOf c (command_words c) → IsWordsOf d (command_words c) → c ≡ d
 one_command (check file) d h k = sym (of_check (file ∷ []) d k)
 one_command (layout file) d h k = sym (of_layout (file ∷ []) d k)
 one_command (compile file) d h k = sym (of_compile (file ∷ []) d k)

@@ -8,7 +8,7 @@ use Rattle.std.proofs.lemmas.Fmt.{decimal_injective}
 use Rattle.std.proofs.lemmas.List.Elements.{All-nil, All-cons, All-head, All-tail}
 use Rattle.std.proofs.lemmas.Slice.Eq.{slice_eq-Decides}
 use Rattle.rb_core.specs.Decimal.{number_in}
-use Rattle.rb_command.specs.Command.{Limits, Command, Parsed, IsBetween, AreLimits, IsWordsOf, IsParsed, words_of, check, layout, compile, run, image, count, gen, genrun, exec, value, peek}
+use Rattle.rb_command.specs.Command.{Limits, Command, Parsed, IsBetween, AreLimits, IsWordsOf, IsParsed, command_words, check, layout, compile, run, image, count, gen, genrun, exec, value, peek}
 use Rattle.rb_command.specs.Path.{AreSteps, path_text}
 use Rattle.rb_command.specs.View.{command_view, IsUsage}
 use Rattle.rb_command.specs.declared.command.Command as declared
@@ -358,7 +358,7 @@ to_peek (file ∷ second ∷ w ∷ v ∷ ws) c h = absurd h.3
 -- to its form
 
 -- the first word
-begun : (c : Command) (w : List ℕ) (ws : List (List ℕ)) → w ∷ ws ≡ words_of c → w ≡ key_of c
+begun : (c : Command) (w : List ℕ) (ws : List (List ℕ)) → w ∷ ws ≡ command_words c → w ≡ key_of c
 begun (check file) w ws e = cc
 begun (layout file) w ws e = cc
 begun (compile file) w ws e = cc
@@ -442,7 +442,7 @@ module _ (ws : List (List ℕ)) where
 
 -- Words as a whole --------------------------------------------------------------------------
 
-never_empty : (c : Command) → [] ≡ words_of c → ⊥
+never_empty : (c : Command) → [] ≡ command_words c → ⊥
 never_empty (check file) e = absurd (cc e)
 never_empty (layout file) e = absurd (cc e)
 never_empty (compile file) e = absurd (cc e)

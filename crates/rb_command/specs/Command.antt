@@ -64,23 +64,24 @@ abbrev pub with_limits : Limits → List (List ℕ) → List (List ℕ)
 with_limits limits behind = decimal limits.calls ∷ decimal limits.region ∷ behind
 
 -- the words of a command, as it is written on the command line
-abbrev pub words_of : Command → List (List ℕ)
-words_of (check file) = codes "check" ∷ file ∷ []
-words_of (layout file) = codes "layout" ∷ file ∷ []
-words_of (compile file) = codes "compile" ∷ file ∷ []
-words_of (run file limits values) = codes "run" ∷ file ∷ with_limits limits values
-words_of (image file limits values) = codes "image" ∷ file ∷ with_limits limits values
-words_of (count file limits values) = codes "count" ∷ file ∷ with_limits limits values
-words_of (gen functions) = codes "gen" ∷ decimal functions ∷ []
-words_of (genrun functions limits) = codes "genrun" ∷ decimal functions ∷ with_limits limits []
-words_of (exec code function limits words) = codes "exec" ∷ code ∷ function ∷ with_limits limits (map decimal words)
-words_of (value file second) = codes "value" ∷ file ∷ second ∷ []
-words_of (peek file second path) = codes "peek" ∷ file ∷ second ∷ path_text path ∷ []
+abbrev pub command_words : Command → List (List ℕ)
+command_words (check file) = codes "check" ∷ file ∷ []
+command_words (layout file) = codes "layout" ∷ file ∷ []
+command_words (compile file) = codes "compile" ∷ file ∷ []
+command_words (run file limits values) = codes "run" ∷ file ∷ with_limits limits values
+command_words (image file limits values) = codes "image" ∷ file ∷ with_limits limits values
+command_words (count file limits values) = codes "count" ∷ file ∷ with_limits limits values
+command_words (gen functions) = codes "gen" ∷ decimal functions ∷ []
+command_words (genrun functions limits) = codes "genrun" ∷ decimal functions ∷ with_limits limits []
+command_words (exec code function limits words) = codes "exec" ∷ code ∷ function
+    ∷ with_limits limits (map decimal words)
+command_words (value file second) = codes "value" ∷ file ∷ second ∷ []
+command_words (peek file second path) = codes "peek" ∷ file ∷ second ∷ path_text path ∷ []
 
 -- these words are how the command is written, and its numbers lie within their bounds
 pub record IsWordsOf (command : Command) (words : List (List ℕ)) : Type 0 where
   pub bounded : IsWithinBounds command
-  pub written : words ≡ words_of command
+  pub written : words ≡ command_words command
 
 -- Words that are no command -----------------------------------------------------------------
 

@@ -27,7 +27,7 @@ use Rattle.rb_layout.specs.Flattening.{flat_layouts}
 use Rattle.rb_layout.specs.Positions.{layout_of}
 use Rattle.rb_rel.specs.Relation.{shape_length, word_count}
 use Rattle.rb_rel.proofs.Declared.{decl_at, declared}
-use Rattle.rb_fragment.specs.Plan.{Plan, types_of, words_in, words_of}
+use Rattle.rb_fragment.specs.Plan.{Plan, types_of, words_needed_by, words_needed}
 use Rattle.rb_fetch.specs.Fetching.{PlanIsSound}
 use Rattle.rb_match.specs.Bounding.{bound_of}
 use Rattle.rb_compile.specs.Plans.{bound_at, match_bound, plan_of, site_at, sites_in}
@@ -61,7 +61,7 @@ module _ (p : Program) (typed : IsTyped p) (a1 : A1 p) where
   few_words (Int bits) = omega arith
   few_words (Named t) = few_at t (layout_of (flat_layouts p) t) refl
 
-words_few : (plan : Plan) → ((t : Ty) → words_of plan t ≤ 8) → (ts : List Ty) → words_in plan ts ≤ 8 * length ts
+words_few : (plan : Plan) → ((t : Ty) → words_needed plan t ≤ 8) → (ts : List Ty) → words_needed_by plan ts ≤ 8 * length ts
 words_few plan few [] = omega arith
 words_few plan few (t ∷ ts) = let h = words_few plan few ts in let f = few t in omega (arith, h, f)
 

@@ -32,7 +32,7 @@ use Rattle.rb_fragment.specs.Arms.{ArmsAre, ArmsIn, IsJoin, JoinedIs}
 use Rattle.rb_fragment.specs.Owing.{Does}
 use Rattle.rb_fragment.specs.Fragments.{Comes, Emits}
 use Rattle.rb_fragment.specs.Holding.{Holds, binder_in, scope_of}
-use Rattle.rb_fragment.specs.Pieces.{AtEnd, Piece}
+use Rattle.rb_fragment.specs.Pieces.{AtEnd, CodePiece}
 use Rattle.rb_fragment.specs.Slots.{IsOneOf}
 use Rattle.rb_fragment.proofs.Adding.{Adds-refl, Adds-trans}
 use Rattle.rb_fragment.proofs.Arms.{IsArm, arm_first, arm_later, local-below}
@@ -78,7 +78,7 @@ module _ (plan : Plan) (f : ℕ) (c : Clause) (wanted : Option Ty) (ls : List Lo
   abbrev less_own : ℕ
   less_own = binding_bound plan.program.types plan.layouts s q1
 
-  pub bound_runs : (i : Case) → Piece plan n a b Nowhere own (Before i) (AtEnd b (λ sl m. Holds plan i.0 sl m inner (env_of i)))
+  pub bound_runs : (i : Case) → CodePiece plan n a b Nowhere own (Before i) (AtEnd b (λ sl m. Holds plan i.0 sl m inner (env_of i)))
   bound_runs i =
       let clean = i.0 in
       let env = i.1 in

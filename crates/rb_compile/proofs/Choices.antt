@@ -42,7 +42,7 @@ use Rattle.rb_fragment.specs.declared.held.Local.{Local}
 use Rattle.rb_fragment.specs.Plan.{Plan, Rep}
 use Rattle.rb_fragment.specs.Owing.{Does}
 use Rattle.rb_fragment.specs.Adding.{Adds}
-use Rattle.rb_fragment.specs.Arms.{AreHoles, AreOfOneWay, Arm, ArmsAre, ArmsIn, CanClose, closed, whole_match}
+use Rattle.rb_fragment.specs.Arms.{AreHoles, AreOfOneWay, CodeArm, ArmsAre, ArmsIn, CanClose, closed, whole_match}
 use Rattle.rb_fragment.specs.Fragments.{Comes, Fragment}
 use Rattle.rb_fragment.specs.Holding.{AreGiven, Holds, scope_of}
 use Rattle.rb_fragment.specs.Pieces.{Branches}
@@ -58,7 +58,7 @@ use Rattle.rb_fetch.specs.Fetching.{PlanIsSound}
 use Rattle.rb_fetch.specs.Finding.{IsPlanOf}
 use Rattle.rb_match.specs.Bounding.{binding_bound, choosing_bound}
 use Rattle.rb_match.proofs.Sharing.{bound_shared}
-use Rattle.rb_match.specs.Choosing.{Chooses, IsChosen, PatternsAreTyped}
+use Rattle.rb_match.specs.Choosing.{ChoosesClause, WordsChoose, PatternsAreTyped}
 use Rattle.rb_compile.specs.inner.Ready.{SiteIsReady}
 use Rattle.rb_compile.specs.inner.Forms.{EmitsExpr, meant}
 use Rattle.rb_compile.specs.inner.Arms.{ArmsDone, ClausesAreReady, DoesNumber, EmitsArms, GroundIsReady, IsSubject}
@@ -146,7 +146,7 @@ arms_map count e q joins starts P Q g arms k lt =
 
 module _ (plan : Plan) (f at : ℕ) (cs : List Clause) (wanted : Option Ty) (ls : List Local) (b c q : Sheet) (held : Held) (holes joins : List Hole) (starts : List ℕ) (s t : Ty) (xs : List ℕ)
     (sound : PlanIsSound plan) (site : SiteIsReady plan f (record { at = at; scrutinee = s; patterns = map pat_of cs })) (given : AreGiven plan b.slots ls) (low : AllBelow b.slots xs)
-    (choice : Branches plan b.slots b c holes (choosing_bound plan.program.types plan.layouts s (map pat_of cs)) (λ k sl m. IsChosen plan s (map pat_of cs) k (slots_at sl xs) m) (λ k sl m. Unit {0}))
+    (choice : Branches plan b.slots b c holes (choosing_bound plan.program.types plan.layouts s (map pat_of cs)) (λ k sl m. WordsChoose plan s (map pat_of cs) k (slots_at sl xs) m) (λ k sl m. Unit {0}))
     (holes_are : AreHoles (length b.code) (length cs) c.code holes) (ways : AreOfOneWay holes) (are : ArmsAre (length cs) c q joins starts)
     (done : ArmsDone plan f (length cs) cs wanted ls s t xs b.slots c q (Some held) joins starts) where
   abbrev pats : List Pat
@@ -172,7 +172,7 @@ module _ (plan : Plan) (f at : ℕ) (cs : List Clause) (wanted : Option Ty) (ls 
       omega (arith, share, same, paid)
 
   abbrev Chosen : ℕ → List ℕ → Memory → Type 0
-  Chosen k sl m = IsChosen plan s pats k (slots_at sl xs) m
+  Chosen k sl m = WordsChoose plan s pats k (slots_at sl xs) m
 
   abbrev Any : ℕ → List ℕ → Memory → Type 0
   Any k sl m = Unit {0}
@@ -208,8 +208,8 @@ module _ (plan : Plan) (f at : ℕ) (cs : List Clause) (wanted : Option Ty) (ls 
     abbrev outcome : ℕ → ℕ → Outcome
     outcome k left = outcome_of (slice_get cs k) k left
 
-    arms_do : ArmsIn (length cs) c q joins starts (λ k a d join. Arm plan clean calls b.slots a d join (own k) (Taken k) (outcome k) t held.slots)
-    arms_do = arms_map (length cs) c q joins starts (DoesNumber plan f cs wanted ls s t xs b.slots held.slots) (λ k a d join. Arm plan clean calls b.slots a d join (own k) (Taken k) (outcome k) t held.slots)
+    arms_do : ArmsIn (length cs) c q joins starts (λ k a d join. CodeArm plan clean calls b.slots a d join (own k) (Taken k) (outcome k) t held.slots)
+    arms_do = arms_map (length cs) c q joins starts (DoesNumber plan f cs wanted ls s t xs b.slots held.slots) (λ k a d join. CodeArm plan clean calls b.slots a d join (own k) (Taken k) (outcome k) t held.slots)
         (λ k a d join lt does.
         let x = some_at cs k lt in
         let one = does x.0 x.1 in
@@ -246,7 +246,7 @@ module _ (agreed : LaidOut) (plan : Plan) (of_agreed : IsPlanOf agreed plan) (f 
   abbrev whole : Sheet
   whole = whole_match q holes starts joins
 
-  pub match_expr : EmitsExpr plan f e None ls a b subject → Chooses agreed subject.ty (map pat_of cs) subject.slots b c holes → AreHoles (length b.code) (length cs) c.code holes → AreOfOneWay holes
+  pub match_expr : EmitsExpr plan f e None ls a b subject → ChoosesClause agreed subject.ty (map pat_of cs) subject.slots b c holes → AreHoles (length b.code) (length cs) c.code holes → AreOfOneWay holes
       → EmitsArms plan f (length cs) cs wanted ls subject c q (Some held) joins starts → ArmsAre (length cs) c q joins starts → EmitsExpr plan f (X.Match at e cs) wanted ls a whole held
   match_expr first choose holes_are ways arms are = λ t ready.
       let types = plan.program.types in let funs = plan.program.funs in
@@ -259,7 +259,7 @@ module _ (agreed : LaidOut) (plan : Plan) (of_agreed : IsPlanOf agreed plan) (f 
       let A = first s (record { sound = ready.sound; typed = tm.1; within = ready.within; numbered = nm.0; given = ready.given; ready_sites = sites.1 }) in
       let sub : IsSubject plan b.slots subject s = (A.0, A.1.given, A.1.count) in
       let given1 = AreGiven-more plan a.slots b.slots ls A.1.adds.more ready.given in
-      let chooses = subst (λ u. Chooses agreed u (map pat_of cs) subject.slots b c holes) A.0 choose in
+      let chooses = subst (λ u. ChoosesClause agreed u (map pat_of cs) subject.slots b c holes) A.0 choose in
       let pats = map pat_of cs in
       let choice = chooses plan of_agreed (patterns_are types s cs patterns) sites.0.exhaustive A.1.given A.1.count in
       let each : ClausesAreReady plan f cs wanted ls s t = (λ k x there. record { sound = ready.sound; typed = tm.4 k x there; pattern = patterns k x there; within = _; numbered = nm.1 k x there; ready_sites = sites.2 k x there }) in

@@ -13,7 +13,7 @@ use Rattle.rb_fragment.specs.Adding.{CallsWell}
 use Rattle.rb_fragment.specs.Functions.{Compiles, HasShapes, empty_sheet, param_locals}
 use Rattle.rb_fragment.specs.Holding.{Holds, scope_of}
 use Rattle.rb_fragment.specs.Owing.{Does, GivesValue}
-use Rattle.rb_fragment.specs.Plan.{Plan, words_of}
+use Rattle.rb_fragment.specs.Plan.{Plan, words_needed}
 use Rattle.rb_fragment.specs.declared.held.Local.{Local}
 use Rattle.rb_fragment.proofs.Laying.{does_map}
 use Rattle.rb_fragment.proofs.Functions.{calls_fit, params_hold, params_scope}
@@ -30,7 +30,7 @@ module _ (plan : Plan) (g : ℕ) (f : Fun) (b : Sheet) (named : IsLower f.name)
       let w = e.tail.adds.written s (omega (arith, lo, e.tail.adds.params)) hi in
       (w.0, w.1, w.3, w.4)
 
-  module _ (results : ℕ) (q : CodeFun) (whole : q ≡ record { name = f.name; params = b.params; results = results; slots = b.slots; body = b.code }) (count : results ≡ words_of plan f.result)
+  module _ (results : ℕ) (q : CodeFun) (whole : q ≡ record { name = f.name; params = b.params; results = results; slots = b.slots; body = b.code }) (count : results ≡ words_needed plan f.result)
       (enough : q.slots ≤ q.params + dest_count q.body) (small : (q.slots < 2 ^ 64) × (length q.body ≤ most_instrs)) (room : results < 2 ^ 64) where
     body_is : q.body ≡ b.code
     body_is = ap (λ (c : CodeFun). c.body) whole

@@ -29,7 +29,7 @@ use Rattle.rb_target.proofs.Operating.{same_operator}
 use Rattle.rb_rel.specs.Relation.{number}
 use Rattle.rb_fragment.specs.declared.held.Held.{Held}
 use Rattle.rb_fragment.specs.declared.held.Local.{Local}
-use Rattle.rb_fragment.specs.Plan.{Plan, Rep, words_of}
+use Rattle.rb_fragment.specs.Plan.{Plan, Rep, words_needed}
 use Rattle.rb_fragment.specs.Adding.{Adds}
 use Rattle.rb_fragment.specs.Slots.{AllBelow}
 use Rattle.rb_fragment.specs.Holding.{AreGiven, Holds, scope_of}
@@ -116,7 +116,7 @@ module _ (plan : Plan) (ea eb : Calls → ℕ → List Binding → Outcome) (op 
       record {
         adds = Adds-trans plan a b after first.adds tail;
         given = (omega arith, tt);
-        count = ap (words_of plan) (sym ty);
+        count = ap (words_needed plan) (sym ty);
         origin = λ y h. elim h [ inl e ↦ inl (omega (arith, e, first.adds.more, second.adds.more)) | inr e ↦ absurd e ];
         does = λ calls clean env.
             seq plan clean calls a b after (Int bits) t xs (c.slots ∷ []) (λ s m. Holds plan clean s m ls env) (λ v s m. Rep plan m clean (Int bits) v (slots_at s xs) × Holds plan clean s m ls env)

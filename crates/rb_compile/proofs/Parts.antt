@@ -20,7 +20,7 @@ use Rattle.rb_target.specs.Sheet.{Sheet}
 use Rattle.rb_layout.specs.declared.agreed.LaidOut.{LaidOut}
 use Rattle.rb_fragment.specs.declared.held.Held.{Held}
 use Rattle.rb_fragment.specs.declared.held.Local.{Local}
-use Rattle.rb_fragment.specs.Plan.{Plan, types_of, words_of}
+use Rattle.rb_fragment.specs.Plan.{Plan, types_of, words_needed}
 use Rattle.rb_fragment.specs.Slots.{slots_from}
 use Rattle.rb_fragment.specs.Holding.{AreGiven, held_type, scope_of}
 use Rattle.rb_fragment.specs.Fragments.{AnyValues, Emits, EmitsAll, calling}
@@ -115,9 +115,9 @@ module _ (plan : Plan) (f at g : ℕ) (es : List Expr) (wanted : Option Ty) (ls 
   params_are = ap (λ o. map (λ p. p.ty) (params_of o)) is
 
   pub call_expr : (a b c : Sheet) (hs : List Held) (held : Held) → EmitsFirst plan f (length es) es (types_of fun) ls a b hs
-      → held ≡ record { ty = fun.result; slots = slots_from b.slots (words_of plan fun.result) } → c ≡ calling plan b g fun hs → EmitsExpr plan f (X.Call at g es) wanted ls a c held
+      → held ≡ record { ty = fun.result; slots = slots_from b.slots (words_needed plan fun.result) } → c ≡ calling plan b g fun hs → EmitsExpr plan f (X.Call at g es) wanted ls a c held
   call_expr a b c hs held first held_is code_is =
-      let ds = slots_from b.slots (words_of plan fun.result) in
+      let ds = slots_from b.slots (words_needed plan fun.result) in
       subst (λ (k : Sheet). EmitsExpr plan f (X.Call at g es) wanted ls a k held) (sym code_is)
       (subst (λ (h : Held). EmitsExpr plan f (X.Call at g es) wanted ls a (calling plan b g fun hs) h) (sym held_is) (λ t ready.
       let types = plan.program.types in let funs = plan.program.funs in

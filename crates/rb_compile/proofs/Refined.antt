@@ -10,7 +10,7 @@ use Rattle.rb_bytes.specs.Growth.{Grown}
 use Rattle.rb_target.specs.declared.code.CodeFun.{CodeFun}
 use Rattle.rb_target.specs.declared.outcome.End.TheVariants.{Returned}
 use Rattle.rb_target.specs.Laws.{IsLawful}
-use Rattle.rb_target.specs.Meaning.{Outcome as Run, run_of}
+use Rattle.rb_target.specs.Meaning.{CallEnd as Run, run_of}
 use Rattle.rb_rel.specs.Placing.{Fits, Laid, Over, lay, requests_of}
 use Rattle.rb_fragment.specs.Plan.{Plan, Rep, cost_of}
 use Rattle.rb_fragment.specs.Owing.{Does, Ends, GivesValue}

@@ -27,8 +27,8 @@ use Rattle.rb_fragment.specs.Arms.{closed}
 use Rattle.rb_fragment.specs.Fragments.{Comes, Emits, Fragment}
 use Rattle.rb_fragment.specs.Holding.{Holds}
 use Rattle.rb_fragment.specs.Owing.{Does, GivesValue}
-use Rattle.rb_fragment.specs.Pieces.{AtEnd, Piece}
-use Rattle.rb_fragment.specs.Plan.{Plan, Rep, words_of}
+use Rattle.rb_fragment.specs.Pieces.{AtEnd, CodePiece}
+use Rattle.rb_fragment.specs.Plan.{Plan, Rep, words_needed}
 use Rattle.rb_fragment.specs.Slots.{AllBelow}
 use Rattle.rb_fragment.proofs.Laying.{bind, does_later, does_map}
 use Rattle.rb_fragment.proofs.Moves.{below-all}
@@ -102,7 +102,7 @@ module _ (plan : Plan) (t : Ty) where
   }
 
   -- a return of a value's words
-  return_adds : (b : Sheet) (xs : List ℕ) → AllBelow b.slots xs → length xs ≡ words_of plan t → AddsTail plan t b (pushed b (Return xs))
+  return_adds : (b : Sheet) (xs : List ℕ) → AllBelow b.slots xs → length xs ≡ words_needed plan t → AddsTail plan t b (pushed b (Return xs))
   return_adds b xs below count = record {
     grows = Grows-append b.code (Return xs ∷ []);
     more = omega arith;
@@ -117,7 +117,7 @@ module _ (plan : Plan) (t : Ty) where
         subst (λ (k : Instr). FitsTail plan t b.slots (length code) pc k) is (record { bounded = tt; slots_fit = below-all b.slots xs below; targets = tt; calls = inr (xs, refl, count) });
   }
 
-  pub return_is : (b : Sheet) (xs : List ℕ) → AllBelow b.slots xs → length xs ≡ words_of plan t → IsTail plan t b (pushed b (Return xs))
+  pub return_is : (b : Sheet) (xs : List ℕ) → AllBelow b.slots xs → length xs ≡ words_needed plan t → IsTail plan t b (pushed b (Return xs))
   return_is b xs below count =
       let code = b.code ++ Return xs ∷ [] in
       let long : length code ≡ length b.code + 1 = length-append b.code (Return xs ∷ []) in
@@ -257,7 +257,7 @@ module _ (plan : Plan) (clean : Bool) (calls : Calls) (a b c : Sheet) (t u : Ty)
 
 -- an arm: its variables, with their switches, and its body
 module _ (plan : Plan) (clean : Bool) (calls : Calls) (n : ℕ) (t : Ty) (a b c : Sheet) (inner : List Local) (Pre : List ℕ → Memory → Type 0) (env : List Binding) (eb : Calls → ℕ → List Binding → Outcome) (extra : ℕ)
-    (bound : Piece plan n a b Nowhere extra Pre (AtEnd b (λ s m. Holds plan clean s m inner env))) (body : EmitsTail plan eb inner b c t) where
+    (bound : CodePiece plan n a b Nowhere extra Pre (AtEnd b (λ s m. Holds plan clean s m inner env))) (body : EmitsTail plan eb inner b c t) where
   pub bound_then_tail : Tail plan clean calls extra a c Pre (λ left. eb calls left env) t
   bound_then_tail = record {
     runs = λ final callee next law rel agrees s w room good pre.

@@ -14,7 +14,7 @@ use Rattle.rb_core.specs.Inference.{binders}
 use Rattle.rb_core.specs.Meaning.{value_or}
 use Rattle.rb_core.proofs.PatternLaws.{Each, fold-Con, fold-Wild, induction}
 use Rattle.rb_layout.specs.declared.layout.Layout.{Layout}
-use Rattle.rb_match.specs.Bounding.{Place, binding_look, looks_with, place_below, places_below, places_in, places_step}
+use Rattle.rb_match.specs.Bounding.{TypedPosition, binding_look, looks_with, place_below, places_below, places_in, places_step}
 use Rattle.rb_compile.specs.inner.Used.{IsPrunedFor, Serves, pruned}
 use Rattle.rb_compile.proofs.Agreeing.{bound-append, value-append}
 use Rattle.rb_compile.proofs.Pruning.{cut-Con, cut-Num, cut-Var, cut-Wild, cut_matches, cut_types, cut_values}
@@ -26,19 +26,19 @@ module _ (types : List DataDecl) (layouts : List Layout) where
   abbrev cost : Pat → Ty → ℕ
   cost p t = looks_with look (places_in types p t)
 
-  looks-behind : (xs ys : List Place) → looks_with look (xs ++ ys) ≡ looks_with look xs + looks_with look ys
+  looks-behind : (xs ys : List TypedPosition) → looks_with look (xs ++ ys) ≡ looks_with look xs + looks_with look ys
   looks-behind [] ys = omega arith
   looks-behind (x ∷ xs) ys = let r = looks-behind xs ys in omega (arith, r)
 
-  looks-under : (i : ℕ) (xs : List Place) → looks_with look (map (place_below i) xs) ≡ looks_with look xs
+  looks-under : (i : ℕ) (xs : List TypedPosition) → looks_with look (map (place_below i) xs) ≡ looks_with look xs
   looks-under i [] = refl
   looks-under i (x ∷ xs) = ap (λ n. look x.ty + n) (looks-under i xs)
 
   cost-Wild : (at : ℕ) (t : Ty) → cost (Wild at) t ≡ 0
-  cost-Wild at t = ap (λ (f : Ty → List Place). looks_with look (f t)) (fold-Wild (Ty → List Place) (places_step types) at)
+  cost-Wild at t = ap (λ (f : Ty → List TypedPosition). looks_with look (f t)) (fold-Wild (Ty → List TypedPosition) (places_step types) at)
 
   cost-Con : (at : ℕ) (c : ConRef) (ps : List Pat) (t : Ty) → cost (Con at c ps) t ≡ look t + looks_with look (places_below (map (places_in types) ps) (field_types types c) 0)
-  cost-Con at c ps t = ap (λ (f : Ty → List Place). looks_with look (f t)) (fold-Con (Ty → List Place) (places_step types) at c ps)
+  cost-Con at c ps t = ap (λ (f : Ty → List TypedPosition). looks_with look (f t)) (fold-Con (Ty → List TypedPosition) (places_step types) at c ps)
 
   module _ (keeps : ℕ → Bool) where
     abbrev cut : Pat → Pat

@@ -29,7 +29,7 @@ use Rattle.rb_core.proofs.PartForms.{all_of-append, all_of-none}
 use Rattle.rb_bytes.specs.Memory.{Memory}
 use Rattle.rb_bytes.proofs.GrowthLemmas.{Grown-extends, Grown-refl, Grown-trans}
 use Rattle.rb_target.specs.Growth.{Keeps, Nowhere}
-use Rattle.rb_target.specs.Meaning.{World, Outcome as Run, slots_at}
+use Rattle.rb_target.specs.Meaning.{World, CallEnd as Run, slots_at}
 use Rattle.rb_target.specs.Sheet.{Sheet}
 use Rattle.rb_target.proofs.Growing.{Agrees-part, Grows-refl, Keeps-refl, Keeps-trans}
 use Rattle.rb_rel.specs.Placing.{Fits, Laid, Over, lay, requests_of}

@@ -28,14 +28,14 @@ use Rattle.rb_target.specs.Growth.{AgreesBut, Grows, Keeps, Nowhere}
 use Rattle.rb_target.specs.Laws.{Law}
 use Rattle.rb_target.specs.Meaning.{World, Next, Callee, slots_at}
 use Rattle.rb_target.specs.Sheet.{Sheet}
-use Rattle.rb_target.specs.Targets.{IsIn}
+use Rattle.rb_target.specs.Targets.{IsHoleAmong}
 use Rattle.rb_target.specs.Validity.{EndsInReturn}
 use Rattle.rb_layout.specs.declared.agreed.LaidOut.{LaidOut}
 use Rattle.rb_fragment.specs.declared.held.Held.{Held}
 use Rattle.rb_fragment.specs.declared.held.Local.{Local}
 use Rattle.rb_fragment.specs.Arms.{AreHoles, AreOfOneWay, ArePatchable, closed}
 use Rattle.rb_fragment.specs.Holding.{AreGiven, Holds, scope_of}
-use Rattle.rb_fragment.specs.Owing.{Does, GivesValue, Related}
+use Rattle.rb_fragment.specs.Owing.{Does, GivesValue, CallsAgree}
 use Rattle.rb_fragment.specs.Pieces.{Branches, ReachesExit}
 use Rattle.rb_fragment.specs.Plan.{Plan, Rep}
 use Rattle.rb_fragment.specs.Slots.{AllBelow, AllFrom}
@@ -48,7 +48,7 @@ use Rattle.rb_fetch.specs.Fetching.{PlanIsSound}
 use Rattle.rb_fetch.specs.Finding.{IsPlanOf}
 use Rattle.rb_match.specs.Bounding.{binding_bound, choosing_bound}
 use Rattle.rb_match.proofs.Sharing.{bound_shared}
-use Rattle.rb_match.specs.Choosing.{Chooses, IsChosen}
+use Rattle.rb_match.specs.Choosing.{ChoosesClause, WordsChoose}
 use Rattle.rb_rel.proofs.Lists.{get-mapped}
 use Rattle.rb_compile.specs.inner.Ready.{SiteIsReady}
 use Rattle.rb_compile.specs.inner.Forms.{EmitsExpr, meant}
@@ -126,7 +126,7 @@ module _ (plan : Plan) (n most count : ℕ) (b e q : Sheet) (t : Ty) (holes : Li
         let same : r.target ≡ slice_index starts k = same_Some r.target (slice_index starts k) (sym r.is_target ∙ to ∙ ap (λ i. Some (slice_index starts i)) r.is_way) in
         (r.target, r.slots, r.world, r.runs, r.keeps, r.later, (same, r.exit))
       where
-        one_hole : (h : Hole) (hs : List Hole) → IsIn h hs → AreHoles (length b.code) count e.code hs → (length b.code ≤ h.pc) × (h.pc < length e.code)
+        one_hole : (h : Hole) (hs : List Hole) → IsHoleAmong h hs → AreHoles (length b.code) count e.code hs → (length b.code ≤ h.pc) × (h.pc < length e.code)
         one_hole h [] (k, at) a = cc at
         one_hole h (x ∷ hs) (zero, at) a =
             let is : x ≡ h = same_Some x h at in
@@ -135,7 +135,7 @@ module _ (plan : Plan) (n most count : ℕ) (b e q : Sheet) (t : Ty) (holes : Li
         one_hole h (x ∷ hs) (suc k, at) a = one_hole h hs (k, at) a.3
 
   module _ (clean : Bool) (calls : Calls) (o : ℕ → ℕ → Outcome) (extra : ℕ → ℕ) (stand : TailArmsIn count e q starts (λ k a d. Tail plan clean calls (extra k) a d (Mid k) (o k) t)) where
-    does : (final : List Instr) (callee : Callee) (next : Next) → Law final callee next → Related plan calls callee → AgreesBut final whole.code (length b.code) (length whole.code) Nowhere
+    does : (final : List Instr) (callee : Callee) (next : Next) → Law final callee next → CallsAgree plan calls callee → AgreesBut final whole.code (length b.code) (length whole.code) Nowhere
         → (s : List ℕ) (w : World) (k : ℕ) → k < count → whole.slots ≤ length s → IsGood w.memory → Pre k s w.memory
         → Does plan (w.switches + (most + extra k)) (next (length b.code) s w) w.memory (o k w.left) (GivesValue plan clean t (next (length b.code) s w))
     does final callee next law rel agrees s w k lt room good pre =
@@ -198,7 +198,7 @@ wanted_same (suc k) t = refl
 
 module _ (plan : Plan) (f at : ℕ) (cs : List Clause) (ls : List Local) (b c q : Sheet) (holes : List Hole) (starts : List ℕ) (s t : Ty) (xs : List ℕ)
     (sound : PlanIsSound plan) (site : SiteIsReady plan f (record { at = at; scrutinee = s; patterns = map pat_of cs })) (given : AreGiven plan b.slots ls) (low : AllBelow b.slots xs)
-    (choice : Branches plan b.slots b c holes (choosing_bound plan.program.types plan.layouts s (map pat_of cs)) (λ k sl m. IsChosen plan s (map pat_of cs) k (slots_at sl xs) m) (λ k sl m. Unit {0}))
+    (choice : Branches plan b.slots b c holes (choosing_bound plan.program.types plan.layouts s (map pat_of cs)) (λ k sl m. WordsChoose plan s (map pat_of cs) k (slots_at sl xs) m) (λ k sl m. Unit {0}))
     (holes_are : AreHoles (length b.code) (length cs) c.code holes) (ways : AreOfOneWay holes) (are : TailArmsAre (length cs) c q starts)
     (done : TailArmsDone plan f (length cs) cs ls s t xs c q starts) (some : 0 < length cs) where
   abbrev pats : List Pat
@@ -224,7 +224,7 @@ module _ (plan : Plan) (f at : ℕ) (cs : List Clause) (ls : List Local) (b c q 
       omega (arith, share, same, paid)
 
   abbrev Chosen : ℕ → List ℕ → Memory → Type 0
-  Chosen k sl m = IsChosen plan s pats k (slots_at sl xs) m
+  Chosen k sl m = WordsChoose plan s pats k (slots_at sl xs) m
 
   abbrev Any : ℕ → List ℕ → Memory → Type 0
   Any k sl m = Unit {0}
@@ -297,7 +297,7 @@ module _ (agreed : LaidOut) (plan : Plan) (of_agreed : IsPlanOf agreed plan) (f 
   abbrev returned : Sheet
   returned = closed q holes starts
 
-  pub match_return : EmitsExpr plan f e None ls a b subject → Chooses agreed subject.ty (map pat_of cs) subject.slots b c holes → AreHoles (length b.code) (length cs) c.code holes → AreOfOneWay holes
+  pub match_return : EmitsExpr plan f e None ls a b subject → ChoosesClause agreed subject.ty (map pat_of cs) subject.slots b c holes → AreHoles (length b.code) (length cs) c.code holes → AreOfOneWay holes
       → EmitsTailArms plan f (length cs) cs t ls subject c q starts → TailArmsAre (length cs) c q starts → EmitsReturn plan f (X.Match at e cs) t ls a returned
   match_return first choose holes_are ways arms are = λ ready.
       let types = plan.program.types in let funs = plan.program.funs in
@@ -311,7 +311,7 @@ module _ (agreed : LaidOut) (plan : Plan) (of_agreed : IsPlanOf agreed plan) (f 
       let A = first s (record { sound = ready.sound; typed = tm.1; within = ready.within; numbered = nm.0; given = ready.given; ready_sites = sites.1 }) in
       let sub : IsSubject plan b.slots subject s = (A.0, A.1.given, A.1.count) in
       let given1 = AreGiven-more plan a.slots b.slots ls A.1.adds.more ready.given in
-      let chooses = subst (λ u. Chooses agreed u (map pat_of cs) subject.slots b c holes) A.0 choose in
+      let chooses = subst (λ u. ChoosesClause agreed u (map pat_of cs) subject.slots b c holes) A.0 choose in
       let choice = chooses plan of_agreed (patterns_are types s cs patterns) sites.0.exhaustive A.1.given A.1.count in
       let each : TailsAreReady plan f cs ls s t = (λ k x there. record {
         sound = ready.sound;

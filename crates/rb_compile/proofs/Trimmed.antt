@@ -10,10 +10,10 @@ use Rattle.rb_core.specs.Meaning.{call_of}
 use Rattle.rb_bytes.specs.Memory.{Memory}
 use Rattle.rb_bytes.specs.Growth.{Grown}
 use Rattle.rb_target.specs.declared.code.CodeFun.{CodeFun}
-use Rattle.rb_target.specs.Meaning.{Outcome as Run, run_of}
+use Rattle.rb_target.specs.Meaning.{CallEnd as Run, run_of}
 use Rattle.rb_trim.specs.Trimming.{IsNoDearer, IsTrimOf}
 use Rattle.rb_rel.specs.Placing.{Fits, Laid, Over, lay, requests_of}
-use Rattle.rb_fragment.specs.Plan.{Plan, Rep, Reps, types_of, words_in, words_of}
+use Rattle.rb_fragment.specs.Plan.{Plan, Rep, Reps, types_of, words_needed_by, words_needed}
 use Rattle.rb_fragment.proofs.Represented.{Rep-count}
 use Rattle.rb_compile.specs.Refining.{EndsAs, HasHead, Refines}
 use Rattle.rb_compile.specs.Thrift.{IsThrifty}
@@ -30,14 +30,14 @@ module _ (plan : Plan) (clean : Bool) (t : Ty) (m : Memory) (new old : Run) (nea
   )
 
 -- values have as many words as their types
-reps_count : (plan : Plan) (m : Memory) (clean : Bool) (ts : List Ty) (vs : List Value) (ws : List ℕ) → Reps plan m clean ts vs ws → length ws ≡ words_in plan ts
+reps_count : (plan : Plan) (m : Memory) (clean : Bool) (ts : List Ty) (vs : List Value) (ws : List ℕ) → Reps plan m clean ts vs ws → length ws ≡ words_needed_by plan ts
 reps_count plan m clean [] [] ws r = ap length r
 reps_count plan m clean [] (v ∷ vs) ws r = absurd r
 reps_count plan m clean (t ∷ ts) [] ws r = absurd r
 reps_count plan m clean (t ∷ ts) (v ∷ vs) ws r =
-    let one : length r.0 ≡ words_of plan t = Rep-count plan clean m r.3 in
-    let more : length r.1 ≡ words_in plan ts = reps_count plan m clean ts vs r.1 r.4 in
-    ap length r.2 ∙ length-append r.0 r.1 ∙ ap (λ n. n + length r.1) one ∙ ap (λ n. words_of plan t + n) more
+    let one : length r.0 ≡ words_needed plan t = Rep-count plan clean m r.3 in
+    let more : length r.1 ≡ words_needed_by plan ts = reps_count plan m clean ts vs r.1 r.4 in
+    ap length r.2 ∙ length-append r.0 r.1 ∙ ap (λ n. n + length r.1) one ∙ ap (λ n. words_needed plan t + n) more
 
 module _ (plan : Plan) (old new : List CodeFun) (trim : IsTrimOf old new) (refines : Refines plan old) where
   near : (g : ℕ) (f : Fun) → slice_get plan.program.funs g ≡ Some f → (clean : Bool) (vs : List Value) (ws : List ℕ) (m : Memory) (n : ℕ) → Reps plan m clean (types_of f) vs ws

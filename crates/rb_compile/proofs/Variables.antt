@@ -18,7 +18,7 @@ use Rattle.rb_target.specs.Sheet.{Sheet, pushed, with_slot}
 use Rattle.rb_rel.specs.Relation.{number}
 use Rattle.rb_fragment.specs.declared.held.Held.{Held}
 use Rattle.rb_fragment.specs.declared.held.Local.{Local}
-use Rattle.rb_fragment.specs.Plan.{Plan, Rep, words_of}
+use Rattle.rb_fragment.specs.Plan.{Plan, Rep, words_needed}
 use Rattle.rb_fragment.specs.Slots.{AllBelow, IsOneOf}
 use Rattle.rb_fragment.specs.Holding.{AreGiven, Holds, IsOfLocal, binder_in, scope_of}
 use Rattle.rb_fragment.specs.Fragments.{Emits}
@@ -30,7 +30,7 @@ use Rattle.rb_compile.proofs.Forms.{number_emits, one_is, same_emits}
 module _ (plan : Plan) (x : ℕ) where
   abbrev Found : ℕ → List Local → Option Held → Ty → Type 0
   Found n all None t = t ≡ Int 64
-  Found n all (Some h) t = (h.ty ≡ t) × AllBelow n h.slots × (length h.slots ≡ words_of plan h.ty) × ((y : ℕ) → IsOneOf y h.slots → IsOfLocal y all)
+  Found n all (Some h) t = (h.ty ≡ t) × AllBelow n h.slots × (length h.slots ≡ words_needed plan h.ty) × ((y : ℕ) → IsOneOf y h.slots → IsOfLocal y all)
 
   abbrev here : Local → Held
   here l = record { ty = l.ty; slots = l.slots }
@@ -83,7 +83,7 @@ module _ (plan : Plan) (f : ℕ) (at x : ℕ) (wanted : Option Ty) (ls : List Lo
         same_emits plan (meant plan f (X.Var at x) wanted ls) valued ls a a t h.slots named (record {
           adds = Adds-refl plan a;
           given = st.1;
-          count = st.2 ∙ ap (words_of plan) ty;
+          count = st.2 ∙ ap (words_needed plan) ty;
           origin = λ y o. inr (st.3 y o);
           does = λ calls clean env. nothing plan clean calls a (λ s m. Holds plan clean s m ls env) (λ left. valued calls left env) t h.slots
               (λ s m left pre.

@@ -16,16 +16,16 @@ use Rattle.rb_bytes.specs.Memory.{Memory, IsGood}
 use Rattle.rb_bytes.specs.Growth.{Grown}
 use Rattle.rb_target.specs.declared.code.CodeFun.{CodeFun}
 use Rattle.rb_target.specs.declared.outcome.End.TheVariants as target
-use Rattle.rb_target.specs.Meaning.{Outcome as Run, run_of}
+use Rattle.rb_target.specs.Meaning.{CallEnd as Run, run_of}
 use Rattle.rb_rel.specs.Placing.{Laid, Fits, Over, lay, requests_of}
-use Rattle.rb_fragment.specs.Plan.{Plan, Rep, Reps, types_of, words_in, words_of}
+use Rattle.rb_fragment.specs.Plan.{Plan, Rep, Reps, types_of, words_needed_by, words_needed}
 
 -- function q of the code has the name of function f of the program, takes as many words as the types of f's
 -- parameters have together, and returns as many as the type of its result has
 pub record HasHead (plan : Plan) (f : Fun) (q : CodeFun) : Type 0 where
   pub name : q.name ≡ f.name
-  pub params : q.params ≡ words_in plan (types_of f)
-  pub results : q.results ≡ words_of plan f.result
+  pub params : q.params ≡ words_needed_by plan (types_of f)
+  pub results : q.results ≡ words_needed plan f.result
 
 -- How a run from memory m ends, where the blocks that the source asks for are laid like this and the source ends so.
 -- Where a block does not fit, the run ends with it. Where all fit and the source has spent its calls, so has the run.

@@ -3,7 +3,7 @@
 
 ghost use Rattle.std.specs.Prelude.{◌≡◌, ◌+◌, ◌<◌, ◌^◌, map, IfOk};
 ghost use Rattle.rb_fragment.specs.Functions.{Compiles, param_locals};
-ghost use Rattle.rb_fragment.specs.Plan.{words_in, words_of};
+ghost use Rattle.rb_fragment.specs.Plan.{words_needed_by, words_needed};
 ghost use Rattle.rb_fragment.specs.Slots.{slots_from};
 ghost use Rattle.rb_compile.specs.Plans.{plan_of};
 ghost use Rattle.rb_compile.specs.inner.Functions.{FunIsReady};
@@ -53,7 +53,7 @@ struct Params {
 // want of memory, also where a count would pass 64 bits.
 fn param_slots(alloc: Global, agreed: &Agreed, params: &[Param]) -> Result<Params, AllocError>
     ensures locals { IfOk result (λ p. p.locals ≡ param_locals (plan_of agreed.now) 0 params.now) }
-    ensures count { IfOk result (λ p. p.count ≡ words_in (plan_of agreed.now) (map (λ p. p.ty) params.now)) }
+    ensures count { IfOk result (λ p. p.count ≡ words_needed_by (plan_of agreed.now) (map (λ p. p.ty) params.now)) }
 {
     let mut locals = Seq::new(alloc);
     let mut count = 0usize;
@@ -87,7 +87,7 @@ fn row(alloc: Global, from: usize, count: usize) -> Result<Seq<usize>, AllocErro
 
 // How many words represent a value of a type: a count below 2^64.
 fn count_of(agreed: &Agreed, ty: Ty) -> usize
-    ensures value { result ≡ words_of (plan_of agreed.now) ty }
+    ensures value { result ≡ words_needed (plan_of agreed.now) ty }
     ensures small { result < 2 ^ 64 }
 {
     word_count(agreed.layouts(), ty)

@@ -30,7 +30,7 @@ use Rattle.rb_layout.specs.Flattening.{flat_layouts, type_at}
 use Rattle.rb_layout.specs.Pointers.{PointsTo}
 use Rattle.rb_layout.specs.Positions.{Open, layout_of, open_positions, leaf_of}
 use Rattle.rb_layout.specs.Words.{flat_at, size_of, words_of_block}
-use Rattle.rb_rel.specs.Placing.{Laid, Fits, Over, blocks_in, blocks_of, lay, leaf_in, leaf_numbered, request_of}
+use Rattle.rb_rel.specs.Placing.{Laid, Fits, Over, leaf_requests, blocks_of, lay, leaf_in, leaf_numbered, request_of}
 use Rattle.rb_rel.specs.Relation.{shape_length}
 use Rattle.rb_rel.proofs.Fitting.{KindFits, WordFits}
 use Rattle.rb_rel.proofs.Lists.{both}
@@ -144,7 +144,7 @@ module _ (p : Program) (typed : IsTyped p) (agrees : Agrees p) (bound : ℕ → 
 
     asked : blocks_of (flat_layouts p) t v ≡ map request_of leaf.blocks
     asked =
-        ap (λ o. blocks_in (leaf_in o v)) is_layout ∙ ap (λ o. blocks_in (leaf_numbered layout.leaves o)) is_leaf ∙ ap blocks_in is_number
+        ap (λ o. leaf_requests (leaf_in o v)) is_layout ∙ ap (λ o. leaf_requests (leaf_numbered layout.leaves o)) is_leaf ∙ ap leaf_requests is_number
 
     module _ (final : List Instr) (callee : Callee) (next : Next) (law : Law final callee next) where
       abbrev reading : List ℕ → ℕ → ℕ

@@ -15,7 +15,7 @@ use Rattle.rb_layout.specs.declared.layout.Kind.TheVariants.{Const, Bits, Word, 
 use Rattle.rb_layout.specs.declared.layout.Leaf.{Leaf}
 use Rattle.rb_layout.specs.declared.layout.Part.{Part}
 use Rattle.rb_layout.specs.A4.{IsBlockWidth}
-use Rattle.rb_layout.specs.Words.{bytes_in, size_of}
+use Rattle.rb_layout.specs.Words.{bytes_taken, size_of}
 use Rattle.rb_compose.specs.declared.subvalue.Subvalue.{Subvalue}
 use Rattle.rb_fragment.specs.Plan.{Plan}
 use Rattle.rb_fragment.specs.Adding.{Adds}
@@ -234,7 +234,7 @@ module _ (hs : List Subvalue) where
     capped_width w (inr (inr (inl e))) = inr (inr (inl (omega (arith, e))))
     capped_width w (inr (inr (inr e))) = inr (inr (inr (omega (arith, e))))
 
-    stores_adds : (a : ℕ) (fs : List FlatWord) (at : ℕ) (b : Sheet) → a < b.slots → n ≤ b.slots → SlotsBelow blocks b.slots → at + bytes_in fs ≤ 512
+    stores_adds : (a : ℕ) (fs : List FlatWord) (at : ℕ) (b : Sheet) → a < b.slots → n ≤ b.slots → SlotsBelow blocks b.slots → at + bytes_taken fs ≤ 512
         → ((k : ℕ) (f : FlatWord) → slice_get fs k ≡ Some f → IsBlockWidth f.width) → WordsOk n (length blocks) fs → Adds plan b (stores_code hs blocks a fs at b)
     stores_adds a [] at b lt le low room wide ok = Adds-refl plan b
     stores_adds a (f ∷ fs) at b lt le low room wide ok =

@@ -20,7 +20,7 @@ use Rattle.rb_layout.specs.Agreement.{Agrees}
 use Rattle.rb_layout.specs.A4.{IsBlockWidth}
 use Rattle.rb_layout.specs.Flattening.{flat_layouts, shape_in, shape_of, type_at}
 use Rattle.rb_layout.specs.Positions.{Open, layout_of, open_positions}
-use Rattle.rb_layout.specs.Words.{bytes_in, flat_at, words_of_block}
+use Rattle.rb_layout.specs.Words.{bytes_taken, flat_at, words_of_block}
 use Rattle.rb_rel.specs.Relation.{shape_length}
 use Rattle.rb_rel.proofs.Declared.{declared}
 use Rattle.rb_rel.proofs.Existence.{has_layout}
@@ -29,7 +29,7 @@ use Rattle.rb_rel.proofs.Layers.{Sound, sound, open_of}
 use Rattle.rb_rel.proofs.Agreeing.{lawful}
 use Rattle.rb_rel.proofs.Widths.{int_small, positions_typed}
 use Rattle.rb_fragment.specs.declared.held.Held.{Held}
-use Rattle.rb_fragment.specs.Plan.{Plan, words_of}
+use Rattle.rb_fragment.specs.Plan.{Plan, words_needed}
 use Rattle.rb_fragment.specs.Slots.{AllBelow}
 use Rattle.rb_compose.proofs.Shapes.{root_short}
 use Rattle.rb_compose.specs.declared.subvalue.Subvalue.{Subvalue}
@@ -53,7 +53,7 @@ width_low w (inr (inl e)) = omega (arith, e)
 width_low w (inr (inr (inl e))) = omega (arith, e)
 width_low w (inr (inr (inr e))) = omega (arith, e)
 
-bytes_few : (fs : List FlatWord) → ((j : ℕ) (f : FlatWord) → slice_get fs j ≡ Some f → IsBlockWidth f.width) → bytes_in fs ≤ 8 * length fs
+bytes_few : (fs : List FlatWord) → ((j : ℕ) (f : FlatWord) → slice_get fs j ≡ Some f → IsBlockWidth f.width) → bytes_taken fs ≤ 8 * length fs
 bytes_few [] wide = omega arith
 bytes_few (f ∷ fs) wide = let w = width_low f.width (wide 0 f refl) in let r = bytes_few fs (λ j g e. wide (suc j) g e) in omega (arith, w, r)
 
@@ -65,7 +65,7 @@ module _ (p : Program) (typed : IsTyped p) (agrees : Agrees p) (bound : ℕ → 
   plan = record { program = p; layouts = flat_layouts p; bound = bound }
 
   -- as many words as the shape that is declared
-  shape_is : (s : ℕ) → s < length p.types → words_of plan (Named s) ≡ length (shape_of p.layouts s)
+  shape_is : (s : ℕ) → s < length p.types → words_needed plan (Named s) ≡ length (shape_of p.layouts s)
   shape_is s lt =
       let l = has_layout p typed agrees s lt in
       let d = declared p agrees.a1 s l.0 l.1 in
@@ -87,7 +87,7 @@ module _ (p : Program) (typed : IsTyped p) (agrees : Agrees p) (bound : ℕ → 
       pub declared : is_type p.types ty ≡ true
       pub slots : field_slots hs path ≡ held.slots
       pub below : AllBelow n held.slots
-      pub count : length held.slots ≡ words_of plan ty
+      pub count : length held.slots ≡ words_needed plan ty
 
     pub open_field : (k : ℕ) (o : Open) → slice_get opens k ≡ Some o → FieldAt o.path o.ty
     open_field k o at =

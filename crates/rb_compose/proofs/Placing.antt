@@ -18,7 +18,7 @@ use Rattle.rb_layout.specs.declared.layout.Kind.TheVariants.{Const, Bits, Word, 
 use Rattle.rb_layout.specs.declared.layout.Leaf.{Leaf}
 use Rattle.rb_layout.specs.Words.{size_of}
 use Rattle.rb_compose.specs.declared.subvalue.Subvalue.{Subvalue}
-use Rattle.rb_rel.specs.Placing.{Laid, Fits, Over, request_of, behind, lay}
+use Rattle.rb_rel.specs.Placing.{Laid, Fits, Over, request_of, block_before, lay}
 use Rattle.rb_rel.proofs.Storing.{with_block, with_blocks, filled_good}
 use Rattle.rb_compose.specs.inner.Code.{field_slots, block_code, blocks_code, leaf_code, leaf_slots}
 use Rattle.rb_compose.proofs.Fits.{Uses, WordsOk, BlocksOk, LeafOk, SlotsBelow, at_left, at_end, slots_below_more, one_more_below, first_block, blocks_more, fresh_block, blocks_count}
@@ -37,7 +37,7 @@ module _ (final : List Instr) (callee : Callee) (next : Next) (law : Law final c
   Ran (Over full) n b c s w m Post = (w' : World) × (next (length b.code) s w ≡ over (Filled full) w') × (w'.switches ≤ w.switches)
 
   ran_behind : (block : ℕ × ℕ) (l : Laid) (n j k : ℕ) (b c d : Sheet) (s : List ℕ) (w : World) (m m' : Memory) (P Q : List ℕ → Type 0) → n ≤ j → n ≤ k → (r : Runs final callee next law j b c s w m P)
-      → Ran l k c d r.slots r.world m' Q → Ran (behind block l) n b d s w m' Q
+      → Ran l k c d r.slots r.world m' Q → Ran (block_before block l) n b d s w m' Q
   ran_behind block (Fits bs p) n j k b c d s w m m' P Q lj le r q = record {
     slots = q.slots;
     world = q.world;
@@ -116,7 +116,7 @@ module _ (final : List Instr) (callee : Callee) (next : Next) (law : Law final c
         let rest = lay m.limit (a + size) (map request_of xs) in
         let here = first_block hs n blocks x xs ok in
         let first_stands = stands_first final b c e.0 lx ly stands in
-        let Goal : Bool → Type 0 = λ t. Ran (if t then behind (a, size) rest else Over (record { next = m.next; size = size; align = x.align; limit = m.limit })) n b e.0 s w (with_blocks made m (x ∷ xs)) (λ s'. Known s' e.1 e.0.slots) in
+        let Goal : Bool → Type 0 = λ t. Ran (if t then block_before (a, size) rest else Over (record { next = m.next; size = size; align = x.align; limit = m.limit })) n b e.0 s w (with_blocks made m (x ∷ xs)) (λ s'. Known s' e.1 e.0.slots) in
         elim (leb_tells (a + size) m.limit) [
           | inl h ↦
               let m1 = with_block made m x in

@@ -14,7 +14,7 @@ use Rattle.rb_target.specs.declared.instr.Instr.TheVariants as I
 use Rattle.rb_target.specs.declared.outcome.End.TheVariants.{Full as Filled}
 use Rattle.rb_target.specs.Growth.{AgreesBut, Keeps, Nowhere}
 use Rattle.rb_target.specs.Laws.{Law}
-use Rattle.rb_target.specs.Meaning.{World, Outcome as Run, Next, Callee, act, taken, over, slots_at, with_memory, after_store, after_place}
+use Rattle.rb_target.specs.Meaning.{World, CallEnd as Run, Next, Callee, act, taken, over, slots_at, with_memory, after_store, after_place}
 use Rattle.rb_target.specs.Sheet.{Sheet, pushed, with_slot}
 use Rattle.rb_target.proofs.Growing.{Agrees-part, Grows-refl, Keeps-refl, Keeps-set, Keeps-trans, get-seam}
 use Rattle.rb_layout.specs.declared.layout.Block.{Block}
@@ -23,7 +23,7 @@ use Rattle.rb_layout.specs.declared.layout.Kind.{Kind}
 use Rattle.rb_layout.specs.declared.layout.Kind.TheVariants.{Const, Bits, Word, Pointer}
 use Rattle.rb_layout.specs.declared.layout.Part.{Part}
 use Rattle.rb_layout.specs.A4.{IsBlockWidth}
-use Rattle.rb_layout.specs.Words.{bytes_in, size_of}
+use Rattle.rb_layout.specs.Words.{bytes_taken, size_of}
 use Rattle.rb_compose.specs.declared.subvalue.Subvalue.{Subvalue}
 use Rattle.rb_fragment.proofs.Steps.{set_same}
 use Rattle.rb_rel.proofs.Storing.{IsBlock, written, with_block, above}
@@ -398,7 +398,7 @@ module _ (final : List Instr) (callee : Callee) (next : Next) (law : Law final c
           })
 
       stores_run : (n a base size : ℕ) (fs : List FlatWord) (at : ℕ) (b : Sheet) (s : List ℕ) (w : World) (m : Memory) → Stands final b (stores_code hs blocks a fs at b) → w.memory ≡ m
-          → (stores_code hs blocks a fs at b).slots ≤ length s → n ≤ b.slots → a < n → slice_index s a ≡ base → size_at m.blocks base ≡ Some size → at + bytes_in fs ≤ size
+          → (stores_code hs blocks a fs at b).slots ≤ length s → n ≤ b.slots → a < n → slice_index s a ≡ base → size_at m.blocks base ≡ Some size → at + bytes_taken fs ≤ size
           → ((k : ℕ) (f : FlatWord) → slice_get fs k ≡ Some f → IsBlockWidth f.width) → WordsBelow blocks n fs → WordsTell blocks s fs
           → Runs n b (stores_code hs blocks a fs at b) s w (record m { bytes = written number fs (base + at) m.bytes }) (λ s'. Unit {0})
       stores_run n a base size [] at b s w m stands is long le lt there sized room wide below tells = runs_none n b s w m (λ s'. Unit {0}) is tt

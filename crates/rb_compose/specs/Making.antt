@@ -19,7 +19,7 @@ use Rattle.rb_layout.specs.declared.layout.Leaf.{Leaf}
 use Rattle.rb_layout.specs.Agreement.{AreAgreed}
 use Rattle.rb_layout.specs.Positions.{Open, leaf_of, layout_of, open_positions}
 use Rattle.rb_rel.specs.Placing.{blocks_of, lay}
-use Rattle.rb_fragment.specs.Plan.{Plan, words_of}
+use Rattle.rb_fragment.specs.Plan.{Plan, words_needed}
 use Rattle.rb_fragment.specs.Owing.{Ends}
 use Rattle.rb_fragment.specs.Adding.{Adds}
 use Rattle.rb_fragment.specs.Fragments.{Comes}
@@ -48,7 +48,7 @@ pub record LeafIsMade (plan : Plan) (t n : ℕ) (layout : Layout) (leaf : Leaf) 
     (slots : List ℕ) : Type 0 where
   pub adds : Adds plan old new
   pub given : AllBelow new.slots slots
-  pub count : length slots ≡ words_of plan (Named t)
+  pub count : length slots ≡ words_needed plan (Named t)
   pub fresh : AllFrom old.slots slots
   pub distinct : IsDistinct slots
   pub does : (clean : Bool) (v : Value) → leaf_of layout v ≡ Some n

@@ -10,7 +10,7 @@ use Rattle.rb_target.specs.Meaning.{slots_at}
 use Rattle.rb_layout.specs.Flattening.{same_path}
 use Rattle.rb_layout.specs.Positions.{Open}
 use Rattle.rb_fragment.specs.declared.held.Held.{Held}
-use Rattle.rb_fragment.specs.Plan.{Plan, Rep, words_of}
+use Rattle.rb_fragment.specs.Plan.{Plan, Rep, words_needed}
 use Rattle.rb_fragment.specs.Slots.{AllBelow}
 use Rattle.rb_compose.specs.declared.subvalue.Subvalue.{Subvalue}
 
@@ -26,7 +26,7 @@ pub record IsGivenAt (plan : Plan) (n : ℕ) (xs : List Subvalue) (o : Open) : T
   pub is_there : subvalue_at xs o.path ≡ Some held
   pub kind : held.ty ≡ o.ty
   pub below : AllBelow n held.slots
-  pub count : length held.slots ≡ words_of plan o.ty
+  pub count : length held.slots ≡ words_needed plan o.ty
 
 -- at each of the open positions there is a subvalue among xs of its type, in as many slots as this has words, all
 -- below n

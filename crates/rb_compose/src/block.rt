@@ -3,7 +3,7 @@
 //! addresses of those blocks that are placed already, by their numbers.
 
 ghost use Rattle.std.specs.Prelude.{◌≡◌, ◌+◌, ◌/◌, IfOk, OnOk};
-ghost use Rattle.rb_layout.specs.Words.{bytes_in};
+ghost use Rattle.rb_layout.specs.Words.{bytes_taken};
 ghost use Rattle.rb_compose.specs.inner.Code.{block_code, blocks_code, stores_code};
 
 use crate::count::bits;
@@ -77,7 +77,7 @@ fn emit_stores(
 // The size of words in bytes, one behind the other; 0 without words. Want of memory is the answer
 // where it were past all numbers.
 fn bytes_of(words: &[FlatWord]) -> Result<u64, AllocError>
-    ensures { IfOk result (λ size. size ≡ bytes_in words.now) }
+    ensures { IfOk result (λ size. size ≡ bytes_taken words.now) }
 {
     let mut size = 0;
     for word in words {

@@ -28,7 +28,7 @@ use Rattle.rb_decide.specs.declared.clause_matrix.Column.{Column}
 use Rattle.rb_decide.specs.declared.clause_matrix.Row.{Row}
 use Rattle.rb_decide.specs.declared.decision_tree.Tree.{Tree, Clause}
 use Rattle.rb_decide.specs.ClauseMatrices.{match_rows, match_column, first_test, next_column, to_front, row_to_front, without, with_first, column_heads, is_complete, keep_row, special_rows, default_rows, field_types, field_columns}
-use Rattle.rb_decide.specs.Trees.{Taking, take_other, take_arm, take_at, taken, Subtree, arms_of, other_of, test_of, tree_at, tree_step, tree_within, heads_in, match_tree}
+use Rattle.rb_decide.specs.Trees.{Taking, take_other, take_arm, take_at, clause_taken, Subtree, arms_of, other_of, test_of, tree_at, tree_step, tree_within, heads_in, match_tree}
 use Rattle.rb_decide.specs.Decisions.{TakesChosen}
 use Rattle.rb_decide.specs.inner.Building.{column_ty}
 use Rattle.rb_decide.proofs.Covering.{covered}
@@ -343,7 +343,7 @@ abbrev under : List DataDecl → Subtree → Column → List Column → List Row
 under types sub c cs rows h = sub (field_columns c.position 0 (field_types types c.ty h) ++ cs) (special_rows h (length (field_types types c.ty h)) rows)
 
 take-arms : (types : List DataDecl) (sub : Subtree) (c : Column) (cs : List Column) (rows : List Row) (d : Option Taking) (l : Value-F Value) (v : Value) (k : ℕ)
-    → ((h : Head) → layer_begins h l ≡ true → taken (under types sub c cs rows h) v ≡ Some k)
+    → ((h : Head) → layer_begins h l ≡ true → clause_taken (under types sub c cs rows h) v ≡ Some k)
     → (hs : List Head) → (any_begins hs l ≡ false → take_other d v ≡ Some k)
     → take_arm (map taken_arm (arms_of types sub c cs rows hs)) d l v ≡ Some k
 take-arms types sub c cs rows d l v k arm [] other = other refl
@@ -353,7 +353,7 @@ take-arms types sub c cs rows d l v k arm (h ∷ hs) other =
     ∙ by (layer_begins h l) refl (λ e. take-arms types sub c cs rows d l v k arm hs (λ g. other (or-none (layer_begins h l) (any_begins hs l) e g)))
   where
     by : (b : Bool) → layer_begins h l ≡ b → (layer_begins h l ≡ false → take_arm (map taken_arm (arms_of types sub c cs rows hs)) d l v ≡ Some k)
-        → (if b then taken (under types sub c cs rows h) v else take_arm (map taken_arm (arms_of types sub c cs rows hs)) d l v) ≡ Some k
+        → (if b then clause_taken (under types sub c cs rows h) v else take_arm (map taken_arm (arms_of types sub c cs rows hs)) d l v) ≡ Some k
     by true e rest = arm h e
     by false e rest = rest e
 
@@ -391,21 +391,21 @@ module _ (types : List DataDecl) (v : Value) where
       zero_plus : (i : ℕ) → i ≡ 0 + i
       zero_plus i = omega arith
 
-  module _ (sub : Subtree) (most : ℕ) (takes : (cols : List Column) (rows : List Row) (vs : List Value) (k : ℕ) → heads_in rows < most → Ready cols rows vs k → taken (sub cols rows) v ≡ Some k) where
-    test-takes : (cols : List Column) (rows : List Row) (vs : List Value) (k : ℕ) → heads_in rows ≤ most → is_some (column_head rows) ≡ true → Ready cols rows vs k → taken (test_of types sub cols rows) v ≡ Some k
+  module _ (sub : Subtree) (most : ℕ) (takes : (cols : List Column) (rows : List Row) (vs : List Value) (k : ℕ) → heads_in rows < most → Ready cols rows vs k → clause_taken (sub cols rows) v ≡ Some k) where
+    test-takes : (cols : List Column) (rows : List Row) (vs : List Value) (k : ℕ) → heads_in rows ≤ most → is_some (column_head rows) ≡ true → Ready cols rows vs k → clause_taken (test_of types sub cols rows) v ≡ Some k
     test-takes [] rows [] k le some r = absurd (no-column rows some r.wide)
     test-takes [] rows (w ∷ ws) k le some r = absurd r.tracks
     test-takes (c ∷ cs) rows [] k le some r = absurd r.tracks
     test-takes (c ∷ cs) rows (w ∷ ws) k le some r =
         taken-Test c.position (arms_of types sub c cs rows (column_heads rows)) (other_of types sub c cs rows) v
-        ∙ ap (λ o. take_at (map taken_arm (arms_of types sub c cs rows (column_heads rows))) (option_map taken (other_of types sub c cs rows)) o v) r.tracks.0
-        ∙ take-arms types sub c cs rows (option_map taken (other_of types sub c cs rows)) (out-Value w) v k
+        ∙ ap (λ o. take_at (map taken_arm (arms_of types sub c cs rows (column_heads rows))) (option_map clause_taken (other_of types sub c cs rows)) o v) r.tracks.0
+        ∙ take-arms types sub c cs rows (option_map clause_taken (other_of types sub c cs rows)) (out-Value w) v k
         (λ h e. let a = arm c cs rows w ws k r h e in takes _ _ (subs w ++ ws) k (let l = special-less h (length (field_types types c.ty h)) rows some in omega (arith, l, le)) a)
         (column_heads rows)
         (λ e. other (is_complete types c.ty (column_heads rows)) refl e)
       where
         other : (b : Bool) → is_complete types c.ty (column_heads rows) ≡ b → any_begins (column_heads rows) (out-Value w) ≡ false
-            → take_other (option_map taken (if b then None else Some (sub cs (default_rows rows)))) v ≡ Some k
+            → take_other (option_map clause_taken (if b then None else Some (sub cs (default_rows rows)))) v ≡ Some k
         other true f e = absurd (false≢true (sym e ∙ covered types c.ty (column_heads rows) w (out-Value w) refl f (and-left (is_of_type types w c.ty) (vector_of types (map column_ty cs) ws) r.typed)))
         other false f e = takes cs (default_rows rows) ws k (let a = default-less rows some in omega (arith, a, le)) (record {
           wide = wide-default (length ws) rows r.wide;
@@ -414,11 +414,11 @@ module _ (types : List DataDecl) (v : Value) where
           first = sym (first-default (w ∷ ws) ws (λ ps. option_begins (row_head ps) (out-Value w)) (default-row w ws) rows (nowhere rows (out-Value w) e)) ∙ r.first;
         })
 
-    step-takes : (cols : List Column) (rows : List Row) (vs : List Value) (k : ℕ) → heads_in rows ≤ most → Ready cols rows vs k → taken (tree_step types sub cols rows) v ≡ Some k
+    step-takes : (cols : List Column) (rows : List Row) (vs : List Value) (k : ℕ) → heads_in rows ≤ most → Ready cols rows vs k → clause_taken (tree_step types sub cols rows) v ≡ Some k
     step-takes cols [] vs k le d = let none : None ≡ Some k = d.first in cc
     step-takes cols (r ∷ rs) vs k le d = at (first_test r.pats) refl
       where
-        at : (o : Option ℕ) → first_test r.pats ≡ o → taken (tree_at types sub cols (r ∷ rs) r.clause o) v ≡ Some k
+        at : (o : Option ℕ) → first_test r.pats ≡ o → clause_taken (tree_at types sub cols (r ∷ rs) r.clause o) v ≡ Some k
         at None e = taken-Clause r.clause v ∙ sym (ap (λ b. if b then Some r.clause else first_row rs vs) (wild-row r.pats vs e d.wide.0)) ∙ d.first
         at (Some i) e =
             let within : i < length vs = let t = tested r.pats i e in let a = t.within in let b = d.wide.0 in omega (arith, a, b) in
@@ -434,7 +434,7 @@ module _ (types : List DataDecl) (v : Value) where
               first = ap (λ l. first_row l (moved i vs)) rows-are ∙ first-moved i (r ∷ rs) vs ∙ d.first;
             })
 
-  within-takes : (n : ℕ) (cols : List Column) (rows : List Row) (vs : List Value) (k : ℕ) → heads_in rows ≤ n → Ready cols rows vs k → taken (tree_within types n cols rows) v ≡ Some k
+  within-takes : (n : ℕ) (cols : List Column) (rows : List Row) (vs : List Value) (k : ℕ) → heads_in rows ≤ n → Ready cols rows vs k → clause_taken (tree_within types n cols rows) v ≡ Some k
   within-takes zero cols rows vs k le d = step-takes (λ cs rs. Clause 0) 0 (λ cs rs ws j lt e. absurd (omega (arith, lt))) cols rows vs k le d
   within-takes (suc n) cols rows vs k le d = step-takes (tree_within types n) (suc n) (λ cs rs ws j lt e. within-takes n cs rs ws j (omega (arith, lt)) e) cols rows vs k le d
 
@@ -467,7 +467,7 @@ from_zero k = omega arith
 pub match-takes : (types : List DataDecl) (ty : Ty) (ps : List Pat) → IsExhaustive types ty ps → TakesChosen types ty ps (match_tree types ty ps)
 match-takes types ty ps all v of = by (chosen_clause ps v) refl (all v of)
   where
-    by : (o : Option ℕ) → chosen_clause ps v ≡ o → IsSome o → taken (match_tree types ty ps) v ≡ chosen_clause ps v
+    by : (o : Option ℕ) → chosen_clause ps v ≡ o → IsSome o → clause_taken (match_tree types ty ps) v ≡ chosen_clause ps v
     by None e h = absurd (false≢true h)
     by (Some k) e h = within-takes types v (heads_in (match_rows 0 ps)) (match_column ty ∷ []) (match_rows 0 ps) (v ∷ []) k (omega arith) (record {
       wide = match-wide 0 ps;

@@ -13,7 +13,7 @@ use Rattle.rb_decide.specs.declared.decision_tree.Tree.TheOpen.{Tree-F}
 use Rattle.rb_decide.specs.declared.decision_tree.Tree.TheFolds.{fold_out-Tree, fold_out-TreeArm, fold-TreeArm}
 use Rattle.rb_decide.specs.declared.decision_tree.Tree.TheVariants as TV
 use Rattle.rb_decide.specs.declared.decision_tree.TreeArm.{TreeArm}
-use Rattle.rb_decide.specs.Trees.{Taking, take_at, taken_step, taken_arm_step, taken, size_step, arm_size_step, size, Way, ways_step, arm_ways_step, ways}
+use Rattle.rb_decide.specs.Trees.{Taking, take_at, taken_step, taken_arm_step, clause_taken, size_step, arm_size_step, size, Way, ways_step, arm_ways_step, ways}
 use Rattle.rb_decide.specs.inner.Building.{arm_tree, arms_size}
 
 -- what is taken -------------------------------------------------------------------------------------
@@ -21,17 +21,17 @@ use Rattle.rb_decide.specs.inner.Building.{arm_tree, arms_size}
 abbrev pub taken_arm : TreeArm → Head × Taking
 taken_arm = fold-TreeArm Taking (Head × Taking) taken_step taken_arm_step
 
-pub taken-Test : (q : List ℕ) (arms : List TreeArm) (d : Option Tree) (v : Value) → taken (Test q arms d) v ≡ take_at (map taken_arm arms) (option_map taken d) (part_at v q) v
+pub taken-Test : (q : List ℕ) (arms : List TreeArm) (d : Option Tree) (v : Value) → clause_taken (Test q arms d) v ≡ take_at (map taken_arm arms) (option_map clause_taken d) (part_at v q) v
 taken-Test q arms None v = ap (λ (f : Taking). f v) (fold_out-Tree Taking (Head × Taking) taken_step taken_arm_step (Test q arms None))
-    ∙ ap (λ l. taken_step (map-Tree Tree TreeArm Taking (Head × Taking) taken taken_arm l) v) (TV.outs-Test q arms None)
+    ∙ ap (λ l. taken_step (map-Tree Tree TreeArm Taking (Head × Taking) clause_taken taken_arm l) v) (TV.outs-Test q arms None)
 taken-Test q arms (Some t) v = ap (λ (f : Taking). f v) (fold_out-Tree Taking (Head × Taking) taken_step taken_arm_step (Test q arms (Some t)))
-    ∙ ap (λ l. taken_step (map-Tree Tree TreeArm Taking (Head × Taking) taken taken_arm l) v) (TV.outs-Test q arms (Some t))
+    ∙ ap (λ l. taken_step (map-Tree Tree TreeArm Taking (Head × Taking) clause_taken taken_arm l) v) (TV.outs-Test q arms (Some t))
 
-pub taken-Clause : (k : ℕ) (v : Value) → taken (Clause k) v ≡ Some k
+pub taken-Clause : (k : ℕ) (v : Value) → clause_taken (Clause k) v ≡ Some k
 unfolding TreeM.out-Tree denote.Hole.Carrier.out
 taken-Clause k v = ap (λ (f : Taking). f v) (fold_out-Tree Taking (Head × Taking) taken_step taken_arm_step (Clause k))
 
-pub taken-arm : (h : Head) (t : Tree) → taken_arm (record { head = h; under = t }) ≡ (h, taken t)
+pub taken-arm : (h : Head) (t : Tree) → taken_arm (record { head = h; under = t }) ≡ (h, clause_taken t)
 taken-arm h t = fold_out-TreeArm Taking (Head × Taking) taken_step taken_arm_step (record { head = h; under = t })
 
 -- sizes ---------------------------------------------------------------------------------------------

@@ -16,7 +16,7 @@ use Rattle.rb_decide.specs.declared.decision_tree.Tried.{Tried}
 use Rattle.rb_decide.specs.declared.decision_tree.Tried.TheVariants.{Built, Over}
 use Rattle.rb_decide.specs.declared.decision_graph.Graph.{Graph}
 use Rattle.rb_decide.specs.Graphs.{unfolding_of}
-use Rattle.rb_decide.specs.Trees.{taken, size, Way, ways, match_tree}
+use Rattle.rb_decide.specs.Trees.{clause_taken, size, Way, ways, match_tree}
 
 -- Heads at positions --------------------------------------------------------------------------------
 
@@ -52,7 +52,7 @@ any_head_at (p ∷ ps) position = is_head (pattern_from (Some p) position) || an
 -- what tree t takes of each value of type ty is the clause chosen among those with patterns ps, the first that
 -- matches
 abbrev pub TakesChosen : List DataDecl → Ty → List Pat → Tree → Type 0
-TakesChosen types ty ps t = (v : Value) → is_of_type types v ty ≡ true → taken t v ≡ chosen_clause ps v
+TakesChosen types ty ps t = (v : Value) → is_of_type types v ty ≡ true → clause_taken t v ≡ chosen_clause ps v
 
 -- no position stands twice on a way
 abbrev pub AreDistinct : Way → Type 0

@@ -53,8 +53,8 @@ abbrev pub taken_arm_step : TreeArm-F Taking (Head × Taking) → Head × Taking
 taken_arm_step a = (a.head, a.under)
 
 -- the clause that a tree takes of a value
-abbrev pub taken : Tree → Taking
-taken = fold-Tree Taking (Head × Taking) taken_step taken_arm_step
+abbrev pub clause_taken : Tree → Taking
+clause_taken = fold-Tree Taking (Head × Taking) taken_step taken_arm_step
 
 -- Size ----------------------------------------------------------------------------------------------
 

@@ -26,7 +26,7 @@ use Rattle.rb_layout.specs.declared.layout.Leaf.{Leaf}
 use Rattle.rb_layout.specs.declared.layout.Layout.{Layout}
 use Rattle.rb_layout.specs.Flattening.{flat_layouts}
 use Rattle.rb_layout.specs.Positions.{Open, root_type, below, opens_below, opens_of, open_positions, types_or_none, leaf_from, leaf_of, layout_of}
-use Rattle.rb_rel.specs.Switches.{Head, begins_with, choose_of, inner_heads, is_leaf_for, head_below, heads_below, heads_of, heads_step}
+use Rattle.rb_rel.specs.Switches.{HeadAt, begins_with, choose_of, inner_heads, is_leaf_for, head_below, heads_below, heads_of, heads_step}
 use Rattle.rb_rel.proofs.Agreeing.{lawful}
 use Rattle.rb_rel.proofs.Lawful.{fits_type, is_named}
 use Rattle.rb_rel.proofs.Lists.{both, and_true, get-append, get-map}
@@ -42,7 +42,7 @@ use Rattle.rb_rel.specs.Placing.{blocks_of, lay}
 use Rattle.rb_fragment.specs.declared.held.Held.{Held}
 use Rattle.rb_fragment.specs.Fragments.{Comes}
 use Rattle.rb_fragment.specs.Holding.{AllGiven, AreHeld, held_type}
-use Rattle.rb_fragment.specs.Plan.{Plan, Rep, words_of}
+use Rattle.rb_fragment.specs.Plan.{Plan, Rep, words_needed}
 use Rattle.rb_fragment.specs.Slots.{AllBelow}
 use Rattle.rb_compose.specs.Making.{MakesLeaf}
 use Rattle.rb_compose.specs.Subvalues.{AreGivenAt, ArePartsHeld, subvalue_at}
@@ -61,7 +61,7 @@ map_none f [] e = refl
 map_none f (x ∷ xs) e = absurd cc
 
 root_con : (k at : ℕ) (c : ConRef) (ps : List Pat) → begins_with k (heads_of (ConPat at c ps)) ≡ (c.con == k)
-root_con k at c ps = ap (begins_with k) (PL.fold-Con (List Head) heads_step at c ps)
+root_con k at c ps = ap (begins_with k) (PL.fold-Con (List HeadAt) heads_step at c ps)
 
 module _ (types : List DataDecl) where
   -- Provenances ----------------------------------------------------------------------------------
@@ -79,7 +79,7 @@ module _ (types : List DataDecl) where
     wild = λ at b h. record { matches = λ v. matches-Wild v at; opens = λ ty. opens-Wild types at ty };
     var = λ at x b h. record { matches = λ v. matches-Var v at x; opens = λ ty. opens-Var types at x ty };
     num = λ at n b h. absurd (let e = sym (ap may_be_below (PL.fold-Num Below below_step at n)) ∙ b in cc);
-    con = λ at c ps each b h. absurd (let e = sym (PL.fold-Con (List Head) heads_step at c ps) ∙ h in cc);
+    con = λ at c ps each b h. absurd (let e = sym (PL.fold-Con (List HeadAt) heads_step at c ps) ∙ h in cc);
   })
 
   abbrev AllFree : List Pat → Type 0
@@ -143,7 +143,7 @@ module _ (types : List DataDecl) where
     con_serves at c ps root prov none fits =
         let con : c.con ≡ k = same_nat c.con k (sym (root_con k at c ps) ∙ root) in
         let shaped : list_all may_be_below (map (fold-Pat Below below_step) ps) ≡ true = sym (ap (λ (b : Below). b.provenance) (PL.fold-Con Below below_step at c ps)) ∙ prov in
-        let heads : heads_below (map heads_of ps) 0 ≡ [] = sym (ap (λ hs. drop 1 hs) (PL.fold-Con (List Head) heads_step at c ps)) ∙ none in
+        let heads : heads_below (map heads_of ps) 0 ≡ [] = sym (ap (λ hs. drop 1 hs) (PL.fold-Con (List HeadAt) heads_step at c ps)) ∙ none in
         let free = all_free ps 0 shaped heads in
         let f = both (is_named c.ty (Named t)) (are_of (map (fits_type types) ps) (fields_of types c)) (sym (fits-Con types at c ps (Named t)) ∙ fits) in
         let ty : t ≡ c.ty = same_nat t c.ty f.0 in
@@ -160,9 +160,9 @@ module _ (types : List DataDecl) where
 
     serves : (q : Pat) → Serves q
     serves = PL.induction Serves (record {
-      wild = λ at root prov none fits. absurd (let e = sym (ap (begins_with k) (PL.fold-Wild (List Head) heads_step at)) ∙ root in cc);
-      var = λ at x root prov none fits. absurd (let e = sym (ap (begins_with k) (PL.fold-Var (List Head) heads_step at x)) ∙ root in cc);
-      num = λ at n root prov none fits. absurd (let e = sym (ap (begins_with k) (PL.fold-Num (List Head) heads_step at n)) ∙ root in cc);
+      wild = λ at root prov none fits. absurd (let e = sym (ap (begins_with k) (PL.fold-Wild (List HeadAt) heads_step at)) ∙ root in cc);
+      var = λ at x root prov none fits. absurd (let e = sym (ap (begins_with k) (PL.fold-Var (List HeadAt) heads_step at x)) ∙ root in cc);
+      num = λ at n root prov none fits. absurd (let e = sym (ap (begins_with k) (PL.fold-Num (List HeadAt) heads_step at n)) ∙ root in cc);
       con = λ at c ps each. con_serves at c ps;
     })
 
@@ -199,9 +199,9 @@ leaf_is (x ∷ leaves) v (suc n) leaf is m before at =
 
 -- Values that are held -----------------------------------------------------------------------------
 
-pub given_at : (plan : Plan) (n : ℕ) (hs : List Held) → AllGiven plan n hs → (j : ℕ) (h : Held) → slice_get hs j ≡ Some h → AllBelow n h.slots × (length h.slots ≡ words_of plan h.ty)
+pub given_at : (plan : Plan) (n : ℕ) (hs : List Held) → AllGiven plan n hs → (j : ℕ) (h : Held) → slice_get hs j ≡ Some h → AllBelow n h.slots × (length h.slots ≡ words_needed plan h.ty)
 given_at plan n [] given j h e = absurd cc
-given_at plan n (x ∷ hs) given zero h e = subst (λ (y : Held). AllBelow n y.slots × (length y.slots ≡ words_of plan y.ty)) (same_Some x h e) (given.0, given.1)
+given_at plan n (x ∷ hs) given zero h e = subst (λ (y : Held). AllBelow n y.slots × (length y.slots ≡ words_needed plan y.ty)) (same_Some x h e) (given.0, given.1)
 given_at plan n (x ∷ hs) given (suc j) h e = given_at plan n hs given.2 j h e
 
 pub held_at : (plan : Plan) (clean : Bool) (s : List ℕ) (m : Memory) (hs : List Held) (vs : List Value) → AreHeld plan clean s m hs vs → (j : ℕ) (h : Held) → slice_get hs j ≡ Some h
@@ -268,7 +268,7 @@ module _ (plan : Plan) (typed : IsTyped plan.program) (agreed : AreAgreed plan.p
   given_fields n given i o e =
       let f = field_of_open i o e in
       let g = given_at plan n hs given f.0 f.1 f.3 in
-      record { held = f.1; is_there = f.5; kind = f.4; below = g.0; count = g.1 ∙ ap (words_of plan) f.4 }
+      record { held = f.1; is_there = f.5; kind = f.4; below = g.0; count = g.1 ∙ ap (words_needed plan) f.4 }
 
   held_fields : (clean : Bool) (s : List ℕ) (m : Memory) (vs : List Value) → AreHeld plan clean s m hs vs → ArePartsHeld plan clean s m (open_positions types leaf.prov) (parts_from 0 hs) (Con k vs)
   held_fields clean s m vs held i o e =

@@ -21,8 +21,8 @@ use Rattle.rb_rel.specs.Switches.{depth_of, inner_heads, mend_of}
 use Rattle.rb_rel.proofs.Agreeing.{lawful}
 use Rattle.rb_fragment.specs.Adding.{Adds}
 use Rattle.rb_fragment.specs.Arms.{AreHoles, AreOfOneWay, ArePatchable, closed}
-use Rattle.rb_fragment.specs.Pieces.{Branches, Piece}
-use Rattle.rb_fragment.specs.Plan.{Plan, Rep, words_of}
+use Rattle.rb_fragment.specs.Pieces.{Branches, CodePiece}
+use Rattle.rb_fragment.specs.Plan.{Plan, Rep, words_needed}
 use Rattle.rb_fragment.specs.Slots.{AllBelow}
 use Rattle.rb_fragment.proofs.Holds.{AllBelow-more}
 use Rattle.rb_fragment.proofs.Patching.{closed_slots, holes_patchable}
@@ -47,8 +47,8 @@ module _ (agreed : LaidOut) (plan : Plan) (t k : ℕ) (layout : Layout) (leaves 
   part_below : AllBelow n words
   part_below = subst (AllBelow n) part.5 (ready.given part.0 part.1 part.2).0
 
-  part_long : length words ≡ words_of plan (Named s)
-  part_long = ap length (sym part.5) ∙ (ready.given part.0 part.1 part.2).1 ∙ ap (words_of plan) part.4
+  part_long : length words ≡ words_needed plan (Named s)
+  part_long = ap length (sym part.5) ∙ (ready.given part.0 part.1 part.2).1 ∙ ap (words_needed plan) part.4
 
   part_rep : (v u : Value) → part_at v path ≡ Some u → (clean : Bool) (s1 : List ℕ) (m : Memory) → PartsHold plan clean v s1 m xs → Rep plan m clean (Named s) u (slots_at s1 words)
   part_rep v u at clean s1 m hold =
@@ -101,7 +101,7 @@ module _ (agreed : LaidOut) (flat : agreed.layouts ≡ flat_layouts agreed.cover
     below : AllBelow old.slots words
     below = part_below agreed plan t k layout leaves xs path s words old.slots part ready
 
-    long : length words ≡ words_of plan (Named s)
+    long : length words ≡ words_needed plan (Named s)
     long = part_long agreed plan t k layout leaves xs path s words old.slots part ready
 
     abbrev most : ℕ
@@ -146,7 +146,7 @@ module _ (agreed : LaidOut) (flat : agreed.layouts ≡ flat_layouts agreed.cover
               does = λ clean. go clean;
             }
           where
-            go : (clean : Bool) → Piece plan old.slots old whole (IsWayAt ways) (left_of plan.layouts t k seen.looked) (λ s1 m. IsGood m × PartsHold plan clean v s1 m xs) (λ pc s1 m. (pc ≡ tk.way.pc) × PartsHold plan clean v s1 m tk.way.fields)
+            go : (clean : Bool) → CodePiece plan old.slots old whole (IsWayAt ways) (left_of plan.layouts t k seen.looked) (λ s1 m. IsGood m × PartsHold plan clean v s1 m xs) (λ pc s1 m. (pc ≡ tk.way.pc) × PartsHold plan clean v s1 m tk.way.fields)
             go clean =
                 let j = mend_of plan.layouts s + left_of plan.layouts t k (seen.looked ++ path ∷ []) in
                 let P : List ℕ → Memory → Type 0 = λ s1 m. IsGood m × PartsHold plan clean v s1 m xs in

@@ -19,9 +19,9 @@ use Rattle.rb_layout.specs.declared.layout.Layout.{Layout}
 use Rattle.rb_layout.specs.declared.layout.Leaf.{Leaf}
 use Rattle.rb_layout.specs.Flattening.{flat_layouts, same_path}
 use Rattle.rb_layout.specs.Positions.{leaf_of, layout_of}
-use Rattle.rb_rel.specs.Switches.{Head, choose_of, inner_heads, is_leaf_for, mend_leaf, mend_of}
+use Rattle.rb_rel.specs.Switches.{HeadAt, choose_of, inner_heads, is_leaf_for, mend_leaf, mend_of}
 use Rattle.rb_rel.proofs.Lists.{get-append, get-left, get-right}
-use Rattle.rb_fragment.specs.Pieces.{AtEnd, Piece}
+use Rattle.rb_fragment.specs.Pieces.{AtEnd, CodePiece}
 use Rattle.rb_fragment.specs.Plan.{Plan, Rep}
 use Rattle.rb_fragment.specs.Slots.{AllBelow, AllFrom}
 use Rattle.rb_fragment.proofs.Adding.{Adds-refl, Adds-trans}
@@ -56,11 +56,11 @@ module _ (agreed : LaidOut) (flat : agreed.layouts ≡ flat_layouts agreed.cover
       (a b c : Sheet) (ys : List Subvalue) (ways : List Way) (fetches : FetchesFields agreed path con.ty l words a b xs ys)
       (chooses : ChoosesFrom agreed t (leaves_beside agreed.layouts t (shown_heads ps) (leaves_that_can_be agreed.layouts t path con.con leaves)) (seen_more agreed.covered.program.types seen path ps) ys b c ways)
       (opened : AreOpen (length b.code) c.code ways) where
-    abbrev here : Head
+    abbrev here : HeadAt
     here = record { path = path; con = con }
 
     -- the constructors of the inner leaf's provenance, where they stand in the whole
-    abbrev heads : List Head
+    abbrev heads : List HeadAt
     heads = here ∷ shown_heads ps
 
     abbrev kept : List ℕ
@@ -110,7 +110,7 @@ module _ (agreed : LaidOut) (flat : agreed.layouts ≡ flat_layouts agreed.cover
               (has-under v u path at (inner_heads root.0) (λ j h e. inner_shows root.0 u (matched_leaf inner u l root.0 is is_inner_leaf) j h e))
 
           has_heads : HasAll heads v
-          has_heads zero h e = subst (λ (x : Head). HasCon v x.path x.con.con) (same_Some here h e) has_con
+          has_heads zero h e = subst (λ (x : HeadAt). HasCon v x.path x.con.con) (same_Some here h e) has_con
           has_heads (suc j) h e = has_below j h e
 
           follows1 : Follows layout v kept seen1
@@ -156,21 +156,21 @@ module _ (agreed : LaidOut) (flat : agreed.layouts ≡ flat_layouts agreed.cover
             abbrev k2 : ℕ
             k2 = left_of plan.layouts t k seen1.looked
 
-            first : Piece plan a.slots a b Nowhere k1 Pre (λ pc s m. F s m × AtEnd b Got pc s m)
+            first : CodePiece plan a.slots a b Nowhere k1 Pre (λ pc s m. F s m × AtEnd b Got pc s m)
             first =
                 let framed = piece_frame plan a.slots a b Nowhere k1 F Here (AtEnd b Got) (λ s s' m keeps x. (x.0, hold-kept plan clean v m a.slots s s' xs ready.given keeps x.1)) (f.does v u at of is clean) in
                 piece_weaken plan a.slots a.slots a b Nowhere k1 k1 (λ s m. F s m × Here s m) Pre (λ pc s m. F s m × AtEnd b Got pc s m) (λ pc s m. F s m × AtEnd b Got pc s m) (omega arith) (omega arith)
                 (λ s m x. ((x.0, x.1), (x.0, x.2))) (λ pc s m x. x) framed
 
-            second : Piece plan a.slots b c (IsWayAt ways) k2 Mid Exit
+            second : CodePiece plan a.slots b c (IsWayAt ways) k2 Mid Exit
             second = piece_weaken plan b.slots a.slots b c (IsWayAt ways) k2 k2 Mid Mid Exit Exit f.adds.more (omega arith) (λ s m x. x) (λ pc s m x. x) (tk.does clean)
 
-            both_pieces : Piece plan a.slots a c (λ pc. Nowhere pc ⊎ IsWayAt ways pc) (k1 + k2) Pre Exit
+            both_pieces : CodePiece plan a.slots a c (λ pc. Nowhere pc ⊎ IsWayAt ways pc) (k1 + k2) Pre Exit
             both_pieces = piece_seq plan a.slots a b c Nowhere (IsWayAt ways) k1 k2 Pre Mid (λ pc s m. F s m × AtEnd b Got pc s m) Exit first second (λ pc x. absurd x)
                 (λ pc x. (way_within (length b.code) c.code ways pc opened x).0)
                 (λ pc s m x. inl (x.1.0, (x.0.0, subst (PartsHold plan clean v s m) (sym f.more) (hold-append plan clean v m s xs f.fresh x.0.1 x.1.1))))
 
-            one_piece : Piece plan a.slots a c (IsWayAt ways) (k1 + k2) Pre Exit
+            one_piece : CodePiece plan a.slots a c (IsWayAt ways) (k1 + k2) Pre Exit
             one_piece = record {
               adds = both_pieces.adds;
               low = both_pieces.low;
@@ -178,7 +178,7 @@ module _ (agreed : LaidOut) (flat : agreed.layouts ≡ flat_layouts agreed.cover
                   both_pieces.runs final callee next law (record { same = λ pc lo hi out. agrees1.same pc lo hi (λ x. out (inr x)) }) s w long pre;
             }
 
-            goes_under : Piece plan a.slots a c (IsWayAt ways) (mend_of plan.layouts con.ty + left_of plan.layouts t k (seen.looked ++ path ∷ [])) Pre Exit
+            goes_under : CodePiece plan a.slots a c (IsWayAt ways) (mend_of plan.layouts con.ty + left_of plan.layouts t k (seen.looked ++ path ∷ [])) Pre Exit
             goes_under =
                 let le = mended in
                 let few = left_fewer plan.layouts t k (seen.looked ++ path ∷ []) seen1.looked

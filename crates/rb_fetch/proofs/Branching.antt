@@ -7,11 +7,11 @@ use Rattle.rb_target.specs.declared.instr.Instr.{Instr}
 use Rattle.rb_target.specs.declared.body.Hole.{Hole}
 use Rattle.rb_target.specs.Growth.{AgreesBut, Grows, Keeps, Nowhere}
 use Rattle.rb_target.specs.Sheet.{Sheet}
-use Rattle.rb_target.specs.Targets.{IsIn}
+use Rattle.rb_target.specs.Targets.{IsHoleAmong}
 use Rattle.rb_target.proofs.Growing.{Keeps-trans}
 use Rattle.rb_fragment.specs.Adding.{Adds}
 use Rattle.rb_fragment.specs.Arms.{AreHoles, AreOfOneWay, closed}
-use Rattle.rb_fragment.specs.Pieces.{Branches, Piece}
+use Rattle.rb_fragment.specs.Pieces.{Branches, CodePiece}
 use Rattle.rb_fragment.specs.Plan.{Plan}
 use Rattle.rb_fragment.specs.Slots.{AllBelow, AllFrom}
 use Rattle.rb_fragment.proofs.Adding.{Adds-trans}
@@ -19,7 +19,7 @@ use Rattle.rb_fragment.proofs.Closing.{closed_is}
 use Rattle.rb_fragment.proofs.Matches.{holes_closable}
 use Rattle.rb_fragment.proofs.Patching.{adds_closed, all_holes_grow, all_holes_of, at_closed, closed_length, closed_slots, hole_from, hole_within, retarget_all, retarget_none}
 
-one_hole : (from count : ℕ) (code : List Instr) (h : Hole) (hs : List Hole) → IsIn h hs → AreHoles from count code hs → (from ≤ h.pc) × (h.pc < length code)
+one_hole : (from count : ℕ) (code : List Instr) (h : Hole) (hs : List Hole) → IsHoleAmong h hs → AreHoles from count code hs → (from ≤ h.pc) × (h.pc < length code)
 one_hole from count code h [] (k, at) a = cc at
 one_hole from count code h (x ∷ hs) (zero, at) a =
     let is : x ≡ h = same_Some x h at in
@@ -60,9 +60,9 @@ module _ (b e q : Sheet) (count : ℕ) (holes : List Hole) (starts : List ℕ) (
     -- A way that is taken: its code begins at its start. Of the open places only its own lie in it.
     module _ (k : ℕ) (first last : Sheet) (start : slice_index starts k ≡ length first.code) (behind : length e.code ≤ length first.code) (more : Grows last.code q.code) (slots : last.slots ≤ q.slots)
         (Open Own : ℕ → Type 0) (opens : (pc : ℕ) → Open pc → length e.code ≤ pc) (alone : (pc : ℕ) → Open pc → length first.code ≤ pc → pc < length last.code → Own pc)
-        (j : ℕ) (P Mid1 : List ℕ → Memory → Type 0) (Exit : ℕ → List ℕ → Memory → Type 0) (arm : Piece plan n first last Own j Mid1 Exit)
+        (j : ℕ) (P Mid1 : List ℕ → Memory → Type 0) (Exit : ℕ → List ℕ → Memory → Type 0) (arm : CodePiece plan n first last Own j Mid1 Exit)
         (enters : (s : List ℕ) (m : Memory) → P s m → IsGood m × Pre k s m) (goes : (s s' : List ℕ) (m : Memory) → P s m → Keeps n s s' → Mid k s' m → Mid1 s' m) where
-      pub way_piece : Piece plan n b whole Open (most + j) P Exit
+      pub way_piece : CodePiece plan n b whole Open (most + j) P Exit
       way_piece = record {
         adds = whole_adds;
         low = choice.low;

@@ -18,7 +18,7 @@ use Rattle.rb_target.specs.declared.body.Hole.{Hole}
 use Rattle.rb_target.specs.Growth.{AgreesBut}
 use Rattle.rb_target.specs.Meaning.{slots_at, taken}
 use Rattle.rb_target.specs.Sheet.{Sheet}
-use Rattle.rb_target.specs.Targets.{shape_in, target_in}
+use Rattle.rb_target.specs.Targets.{without_targets_in, target_in}
 use Rattle.rb_target.proofs.Shapes.{jump_shape}
 use Rattle.rb_layout.specs.declared.agreed.LaidOut.{LaidOut}
 use Rattle.rb_layout.specs.declared.layout.Layout.{Layout}
@@ -26,13 +26,13 @@ use Rattle.rb_layout.specs.declared.layout.Leaf.{Leaf}
 use Rattle.rb_layout.specs.Agreement.{Agrees, AreAgreed}
 use Rattle.rb_layout.specs.Flattening.{flat_layouts}
 use Rattle.rb_layout.specs.Positions.{layout_of, leaves_of_layout, open_positions}
-use Rattle.rb_rel.specs.Switches.{Head, choose_of, heads_below, heads_of}
+use Rattle.rb_rel.specs.Switches.{HeadAt, choose_of, heads_below, heads_of}
 use Rattle.rb_rel.proofs.Agreeing.{lawful}
 use Rattle.rb_rel.proofs.Lists.{both}
 use Rattle.rb_fragment.specs.declared.held.Held.{Held}
 use Rattle.rb_fragment.specs.Holding.{AllGiven, AreHeld, held_type}
 use Rattle.rb_fragment.specs.Pieces.{Branches}
-use Rattle.rb_fragment.specs.Plan.{Plan, Rep, words_of}
+use Rattle.rb_fragment.specs.Plan.{Plan, Rep, words_needed}
 use Rattle.rb_fragment.specs.Slots.{AllBelow}
 use Rattle.rb_compose.specs.declared.subvalue.Subvalue.{Subvalue}
 use Rattle.rb_compose.specs.Subvalues.{AreGivenAt, ArePartsHeld}
@@ -71,9 +71,9 @@ argument i (h ∷ hs) (suc k) x e =
     let z : i + 1 + r.number ≡ i + suc r.number = omega arith in
     record { number = suc r.number; held = r.held; is_held = r.is_held; is_part = r.is_part ∙ ap (λ n. let q : Subvalue = record { path = n ∷ []; held = r.held } in q) z }
 
-pub given_each : (plan : Plan) (n : ℕ) (hs : List Held) (k : ℕ) (h : Held) → AllGiven plan n hs → slice_get hs k ≡ Some h → AllBelow n h.slots × (length h.slots ≡ words_of plan h.ty)
+pub given_each : (plan : Plan) (n : ℕ) (hs : List Held) (k : ℕ) (h : Held) → AllGiven plan n hs → slice_get hs k ≡ Some h → AllBelow n h.slots × (length h.slots ≡ words_needed plan h.ty)
 given_each plan n [] k h g e = absurd cc
-given_each plan n (x ∷ hs) zero h g e = subst (λ (y : Held). AllBelow n y.slots × (length y.slots ≡ words_of plan y.ty)) (same_Some x h e) (g.0, g.1)
+given_each plan n (x ∷ hs) zero h g e = subst (λ (y : Held). AllBelow n y.slots × (length y.slots ≡ words_needed plan y.ty)) (same_Some x h e) (g.0, g.1)
 given_each plan n (x ∷ hs) (suc k) h g e = given_each plan n hs k h g.2 e
 
 tail : List Ty → List Ty
@@ -118,7 +118,7 @@ module _ (agreed : LaidOut) (typed : IsTyped agreed.covered.program) (flat : agr
   abbrev choices : Choices
   choices = record { holes = holes_from 0 ways; ways = ways }
 
-  abbrev heads : List Head
+  abbrev heads : List HeadAt
   heads = heads_below (map heads_of shown) 0
 
   abbrev of_con : List ℕ
@@ -152,7 +152,7 @@ module _ (agreed : LaidOut) (typed : IsTyped agreed.covered.program) (flat : agr
     parts_given k x e =
         let a = argument 0 hs k x e in
         let g = given_each plan old.slots hs a.number a.held given a.is_held in
-        subst (λ (y : Subvalue). AllBelow old.slots y.held.slots × (length y.held.slots ≡ words_of plan y.held.ty)) (sym a.is_part) g
+        subst (λ (y : Subvalue). AllBelow old.slots y.held.slots × (length y.held.slots ≡ words_needed plan y.held.ty)) (sym a.is_part) g
 
     ready : ChoiceIsReady agreed plan con.ty con.con layout leaves xs old.slots
     ready = record { of = of; is_layout = is_layout; are_leaves = are_leaves; given = parts_given }
@@ -238,7 +238,7 @@ module _ (agreed : LaidOut) (typed : IsTyped agreed.covered.program) (flat : agr
                     } in
                     let r = p.runs final callee next law agrees1 s w0 long (good, holds clean s w0.memory pre.1) in
                     let a = finishes tk.way.pc w.0 w.1 in
-                    let j = jump_shape (slice_get final tk.way.pc) w.2.0 (a.shapes ∙ ap shape_in w.2.1) in
+                    let j = jump_shape (slice_get final tk.way.pc) w.2.0 (a.shapes ∙ ap without_targets_in w.2.1) in
                     let to = law.step tk.way.pc (Jump j.0) r.1 r.2 j.1 in
                     let some = z_of tk.number in
                     record {

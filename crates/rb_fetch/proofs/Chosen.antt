@@ -24,7 +24,7 @@ use Rattle.rb_layout.specs.declared.layout.Leaf.{Leaf}
 use Rattle.rb_layout.specs.Agreement.{Agrees, AreAgreed}
 use Rattle.rb_layout.specs.Flattening.{flat_layouts}
 use Rattle.rb_layout.specs.Positions.{leaf_from, leaf_of, layout_of, open_positions, opens_of, root_type}
-use Rattle.rb_rel.specs.Switches.{Head, begins_with, heads_of, heads_step, inner_heads, is_leaf_for}
+use Rattle.rb_rel.specs.Switches.{HeadAt, begins_with, heads_of, heads_step, inner_heads, is_leaf_for}
 use Rattle.rb_rel.proofs.Agreeing.{lawful}
 use Rattle.rb_rel.proofs.Leaves.{leaf_matches}
 use Rattle.rb_rel.proofs.Reading.{same_nat}
@@ -59,13 +59,13 @@ pub record IsRooted (p : Pat) (k : ℕ) : Type 0 where
 
 pub rooted : (k : ℕ) (p : Pat) → begins_with k (heads_of p) ≡ true → IsRooted p k
 rooted k = PL.induction (λ p. begins_with k (heads_of p) ≡ true → IsRooted p k) (record {
-  wild = λ at e. absurd (let z = ap (begins_with k) (sym (PL.fold-Wild (List Head) heads_step at)) ∙ e in cc);
-  var = λ at x e. absurd (let z = ap (begins_with k) (sym (PL.fold-Var (List Head) heads_step at x)) ∙ e in cc);
-  num = λ at n e. absurd (let z = ap (begins_with k) (sym (PL.fold-Num (List Head) heads_step at n)) ∙ e in cc);
+  wild = λ at e. absurd (let z = ap (begins_with k) (sym (PL.fold-Wild (List HeadAt) heads_step at)) ∙ e in cc);
+  var = λ at x e. absurd (let z = ap (begins_with k) (sym (PL.fold-Var (List HeadAt) heads_step at x)) ∙ e in cc);
+  num = λ at n e. absurd (let z = ap (begins_with k) (sym (PL.fold-Num (List HeadAt) heads_step at n)) ∙ e in cc);
   con = λ at c ps each e.
       record {
         con = c;
-        is_root = ap (λ (hs : List Head). slice_get hs 0) (heads-Con at c ps);
+        is_root = ap (λ (hs : List HeadAt). slice_get hs 0) (heads-Con at c ps);
         is_con = same_nat c.con k (ap (begins_with k) (sym (heads-Con at c ps)) ∙ e);
       };
 })
@@ -77,7 +77,7 @@ begins k p v t = PL.induction (λ q. root_type (out-Pat q) ≡ Named t → match
   var = λ at x r m e. absurd (let z = ap root_type (sym (outs-Var at x)) ∙ r in cc);
   num = λ at n r m e. absurd (let z = ap root_type (sym (outs-Num at n)) ∙ r in cc);
   con = λ at c ps each r m e.
-      let h = shows (ConPat at c ps) v m 0 (record { path = []; con = c }) (ap (λ (hs : List Head). slice_get hs 0) (heads-Con at c ps)) in
+      let h = shows (ConPat at c ps) v m 0 (record { path = []; con = c }) (ap (λ (hs : List HeadAt). slice_get hs 0) (heads-Con at c ps)) in
       let same : v ≡ h.0 = same_Some v h.0 h.1 in
       let con : c.con ≡ k = same_Some c.con k (sym h.2 ∙ ap (λ u. root_con (out-Value u)) (sym same) ∙ e) in
       ap (begins_with k) (heads-Con at c ps) ∙ ap (λ n. n == k) con ∙ self k;
@@ -92,7 +92,7 @@ con_same v path a b x y =
     let same : x.0 ≡ y.0 = same_Some x.0 y.0 (sym x.1 ∙ y.1) in
     same_Some a b (sym x.2 ∙ ap (λ u. root_con (out-Value u)) same ∙ y.2)
 
-drop-one : (hs : List Head) (j : ℕ) → slice_get (drop 1 hs) j ≡ slice_get hs (suc j)
+drop-one : (hs : List HeadAt) (j : ℕ) → slice_get (drop 1 hs) j ≡ slice_get hs (suc j)
 drop-one [] j = refl
 drop-one (h ∷ hs) j = refl
 
@@ -151,7 +151,7 @@ pub matched_leaf : (layout : Layout) (v : Value) (n : ℕ) (leaf : Leaf) → lea
 matched_leaf layout v n leaf e is = let z : 0 + n ≡ n = omega arith in leaf_matches layout.leaves v 0 n leaf e n z is
 
 -- a head below the root
-pub inner_shows : (leaf : Leaf) (v : Value) → matches_of leaf.prov v ≡ true → (j : ℕ) (h : Head) → slice_get (inner_heads leaf) j ≡ Some h → HasCon v h.path h.con.con
+pub inner_shows : (leaf : Leaf) (v : Value) → matches_of leaf.prov v ≡ true → (j : ℕ) (h : HeadAt) → slice_get (inner_heads leaf) j ≡ Some h → HasCon v h.path h.con.con
 inner_shows leaf v m j h e = shows leaf.prov v m (suc j) h (sym (drop-one (heads_of leaf.prov) j) ∙ e)
 
 -- No leaf, and the end of a way -------------------------------------------------------------------
@@ -165,7 +165,7 @@ none_chooses agreed t seen xs old plan k layout ready = record {
 
 module _ (agreed : LaidOut) (typed : IsTyped agreed.covered.program) (flat : agreed.layouts ≡ flat_layouts agreed.covered.program) (agrees : Agrees agreed.covered.program) (t : ℕ) where
   module _ (plan : Plan) (k : ℕ) (layout : Layout) (n : ℕ) (rest : List ℕ) (seen : Seen) (xs : List Subvalue) (old : Sheet) (ready : ChoiceIsReady agreed plan t k layout (n ∷ rest) xs old.slots)
-      (leaf : Leaf) (is_leaf : slice_get layout.leaves n ≡ Some leaf) (all : (j : ℕ) (h : Head) → slice_get (inner_heads leaf) j ≡ Some h → is_among seen.looked h.path ≡ true) where
+      (leaf : Leaf) (is_leaf : slice_get layout.leaves n ≡ Some leaf) (all : (j : ℕ) (h : HeadAt) → slice_get (inner_heads leaf) j ≡ Some h → is_among seen.looked h.path ≡ true) where
     abbrev sound : IsTyped plan.program × AreAgreed plan.program plan.layouts
     sound = of_plan agreed typed flat agrees t plan ready.of
 
@@ -198,7 +198,7 @@ module _ (agreed : LaidOut) (typed : IsTyped agreed.covered.program) (flat : agr
         all_heads : (r : IsRooted leaf.prov k) → HasCon v [] r.con.con → HasAll (heads_of leaf.prov) v
         all_heads r root zero h e =
             let same : record { path = []; con = r.con } ≡ h = same_Some _ h (sym r.is_root ∙ e) in
-            subst (λ (x : Head). HasCon v x.path x.con.con) same root
+            subst (λ (x : HeadAt). HasCon v x.path x.con.con) same root
         all_heads r root (suc j) h e =
             let inner : slice_get (inner_heads leaf) j ≡ Some h = drop-one (heads_of leaf.prov) j ∙ e in
             follows.1 0 n leaf j h refl is_leaf inner (all j h inner)
@@ -244,10 +244,10 @@ module _ (agreed : LaidOut) (typed : IsTyped agreed.covered.program) (flat : agr
         one_way given (suc i) way e = absurd cc
 
   shown_all : (looked : List (List ℕ)) (ps : List Place) (leaf : Leaf) → shown_heads ps ≡ inner_heads leaf → are_looked_at looked ps
-      → (j : ℕ) (h : Head) → slice_get (inner_heads leaf) j ≡ Some h → is_among looked h.path ≡ true
+      → (j : ℕ) (h : HeadAt) → slice_get (inner_heads leaf) j ≡ Some h → is_among looked h.path ≡ true
   shown_all looked ps leaf shown all j h e =
-      let g = get-map shown_head ps j h (ap (λ (hs : List Head). slice_get hs j) shown ∙ e) in
-      ap (λ (x : Head). is_among looked x.path) g.2 ∙ all j g.0 g.1
+      let g = get-map shown_head ps j h (ap (λ (hs : List HeadAt). slice_get hs j) shown ∙ e) in
+      ap (λ (x : HeadAt). is_among looked x.path) g.2 ∙ all j g.0 g.1
 
   abbrev leaf_of_plan : (plan : Plan) → IsPlanOf agreed plan → (layout : Layout) → layout_of plan.layouts t ≡ Some layout → (n : ℕ) (leaf : Leaf) → leaf_at agreed.layouts t n ≡ Some leaf → slice_get layout.leaves n ≡ Some leaf
   leaf_of_plan plan of layout is n leaf at = ap (λ o. leaf_within o n) (sym (ap (λ ls. layout_of ls t) (sym of.layouts) ∙ is)) ∙ at
@@ -275,7 +275,7 @@ module _ (agreed : LaidOut) (typed : IsTyped agreed.covered.program) (flat : agr
         head = shown_head p;
         is_number = refl;
         is_leaf = is_leaf;
-        is_head = ap (λ (hs : List Head). slice_get hs next.0) (sym shown) ∙ get-mapped shown_head ps next.0 p next.1;
+        is_head = ap (λ (hs : List HeadAt). slice_get hs next.0) (sym shown) ∙ get-mapped shown_head ps next.0 p next.1;
         is_path = refl;
         is_type = refl;
         is_new = next.2;

@@ -20,7 +20,7 @@ use Rattle.rb_core.specs.WellNumbered.{Below, below_step, may_be_below}
 use Rattle.rb_core.proofs.PatternLaws as PL
 use Rattle.rb_core.proofs.MatchingForms.{matches-Wild, matches-Var, matches-Con}
 use Rattle.rb_core.proofs.ValueLaws.{is_of_type-Con}
-use Rattle.rb_rel.specs.Switches.{Head, head_below, heads_below, heads_of, heads_step}
+use Rattle.rb_rel.specs.Switches.{HeadAt, head_below, heads_below, heads_of, heads_step}
 use Rattle.rb_rel.proofs.Lawful.{fits_type, is_named}
 use Rattle.rb_rel.proofs.Lists.{both, and_true, get-append, get-map, get-left, get-right, get-mapped}
 use Rattle.rb_rel.proofs.Opens.{fits-Con}
@@ -28,7 +28,7 @@ use Rattle.rb_rel.proofs.Reading.{same_nat}
 use Rattle.rb_fetch.specs.inner.Choosing.{HasAll, HasCon, root_con}
 
 pub heads-Con : (at : ℕ) (c : ConRef) (ps : List Pat) → heads_of (Con at c ps) ≡ record { path = []; con = c } ∷ heads_below (map heads_of ps) 0
-heads-Con at c ps = PL.fold-Con (List Head) heads_step at c ps
+heads-Con at c ps = PL.fold-Con (List HeadAt) heads_step at c ps
 
 pub part-append : (o : Option Value) (p q : List ℕ) → part_from o (p ++ q) ≡ part_from (part_from o p) q
 part-append o [] q = refl
@@ -52,7 +52,7 @@ abbrev Shows : Pat → Type 0
 Shows p = (v : Value) → matches_of p v ≡ true → HasAll (heads_of p) v
 
 -- a head below the fields from i on is one of some field's
-record InField (vs : List Value) (i : ℕ) (h : Head) : Type 0 where
+record InField (vs : List Value) (i : ℕ) (h : HeadAt) : Type 0 where
   number : ℕ
   value : Value
   rest : List ℕ
@@ -60,7 +60,7 @@ record InField (vs : List Value) (i : ℕ) (h : Head) : Type 0 where
   is_value : slice_get vs number ≡ Some value
   has : HasCon value rest h.con.con
 
-in_fields : (ps : List Pat) → PL.Each Shows ps → (vs : List Value) → all_pass (map matches_of ps) vs ≡ true → (i k : ℕ) (h : Head) → slice_get (heads_below (map heads_of ps) i) k ≡ Some h → InField vs i h
+in_fields : (ps : List Pat) → PL.Each Shows ps → (vs : List Value) → all_pass (map matches_of ps) vs ≡ true → (i k : ℕ) (h : HeadAt) → slice_get (heads_below (map heads_of ps) i) k ≡ Some h → InField vs i h
 in_fields [] each vs pass i k h e = absurd cc
 in_fields (p ∷ ps) each [] pass i k h e = absurd cc
 in_fields (p ∷ ps) each (v ∷ vs) pass i k h e =
@@ -74,9 +74,9 @@ in_fields (p ∷ ps) each (v ∷ vs) pass i k h e =
             number = 0;
             value = v;
             rest = g.0.path;
-            is_path = ap (λ (x : Head). x.path) g.2 ∙ ap (λ n. n ∷ g.0.path) z;
+            is_path = ap (λ (x : HeadAt). x.path) g.2 ∙ ap (λ n. n ∷ g.0.path) z;
             is_value = refl;
-            has = subst (λ (x : Head). HasCon v g.0.path x.con.con) (sym g.2) c;
+            has = subst (λ (x : HeadAt). HasCon v g.0.path x.con.con) (sym g.2) c;
           }
       | inr a ↦
           let r = in_fields ps each.1 vs b.1 (i + 1) a.0 h a.1 in
@@ -91,7 +91,7 @@ con_shows at c ps each v (V.Con j vs) e m zero h is =
     let b = both (c.con == j) (all_pass (map matches_of ps) vs) m in
     let same : c.con ≡ j = same_nat c.con j b.0 in
     let here : record { path = []; con = c } ≡ h = same_Some _ h is in
-    subst (λ (x : Head). HasCon v x.path x.con.con) here (v, refl, ap root_con e ∙ ap Some (sym same))
+    subst (λ (x : HeadAt). HasCon v x.path x.con.con) here (v, refl, ap root_con e ∙ ap Some (sym same))
 con_shows at c ps each v (V.Con j vs) e m (suc k) h is =
     let b = both (c.con == j) (all_pass (map matches_of ps) vs) m in
     let f = in_fields ps each vs b.1 0 k h is in
@@ -102,11 +102,11 @@ con_shows at c ps each v (V.Con j vs) e m (suc k) h is =
 
 pub shows : (p : Pat) → Shows p
 shows = PL.induction Shows (record {
-  wild = λ at v m k h e. absurd (let z = ap (λ (hs : List Head). slice_get hs k) (sym (PL.fold-Wild (List Head) heads_step at)) ∙ e in cc);
-  var = λ at x v m k h e. absurd (let z = ap (λ (hs : List Head). slice_get hs k) (sym (PL.fold-Var (List Head) heads_step at x)) ∙ e in cc);
-  num = λ at n v m k h e. absurd (let z = ap (λ (hs : List Head). slice_get hs k) (sym (PL.fold-Num (List Head) heads_step at n)) ∙ e in cc);
+  wild = λ at v m k h e. absurd (let z = ap (λ (hs : List HeadAt). slice_get hs k) (sym (PL.fold-Wild (List HeadAt) heads_step at)) ∙ e in cc);
+  var = λ at x v m k h e. absurd (let z = ap (λ (hs : List HeadAt). slice_get hs k) (sym (PL.fold-Var (List HeadAt) heads_step at x)) ∙ e in cc);
+  num = λ at n v m k h e. absurd (let z = ap (λ (hs : List HeadAt). slice_get hs k) (sym (PL.fold-Num (List HeadAt) heads_step at n)) ∙ e in cc);
   con = λ at c ps each v m.
-      subst (λ (hs : List Head). HasAll hs v) (sym (heads-Con at c ps)) (con_shows at c ps each v (out-Value v) refl (sym (matches-Con v at c ps) ∙ m));
+      subst (λ (hs : List HeadAt). HasAll hs v) (sym (heads-Con at c ps)) (con_shows at c ps each v (out-Value v) refl (sym (matches-Con v at c ps) ∙ m));
 })
 
 -- To matching -------------------------------------------------------------------------------------
@@ -180,5 +180,5 @@ module _ (types : List DataDecl) where
     con = λ at c ps each v ty b f t h.
         matches-Con v at c ps
         ∙ con_is at c ps each v (out-Value v) refl ty (sym (ap may_be_below (PL.fold-Con Below below_step at c ps)) ∙ b) (sym (fits-Con types at c ps ty) ∙ f) t
-        (subst (λ (hs : List Head). HasAll hs v) (heads-Con at c ps) h);
+        (subst (λ (hs : List HeadAt). HasAll hs v) (heads-Con at c ps) h);
   })

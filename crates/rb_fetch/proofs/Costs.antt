@@ -10,7 +10,7 @@ use Rattle.rb_layout.specs.declared.layout.Leaf.{Leaf}
 use Rattle.rb_layout.specs.declared.layout.Layout.{Layout}
 use Rattle.rb_layout.specs.Flattening.{flat_layouts, same_path}
 use Rattle.rb_layout.specs.Positions.{layout_of, leaves_of_layout}
-use Rattle.rb_rel.specs.Switches.{Head, choose_of, distinct_places, greatest, inner_heads, is_leaf_for, mend_leaf, mend_of, places_of, same_place}
+use Rattle.rb_rel.specs.Switches.{HeadAt, choose_of, distinct_places, greatest, inner_heads, is_leaf_for, mend_leaf, mend_of, places_of, same_place}
 use Rattle.rb_rel.proofs.Lists.{both, and_true, get-left, get-right}
 use Rattle.rb_rel.proofs.Mending.{mending_recurs}
 use Rattle.rb_rel.proofs.Reading.{same_nat}
@@ -116,23 +116,23 @@ filter_all f (x ∷ xs) all = ap (λ b. if b then x ∷ filter f xs else filter 
 -- Places
 
 -- a place of a list with one of its distinct places
-record IsPlaced (hs : List Head) (h : Head) : Type 0 where
+record IsPlaced (hs : List HeadAt) (h : HeadAt) : Type 0 where
   number : ℕ
-  head : Head
+  head : HeadAt
   is_head : slice_get (distinct_places hs) number ≡ Some head
   path : head.path ≡ h.path
   kind : head.con.ty ≡ h.con.ty
 
-same_place_is : (a b : Head) → same_place a b ≡ true → (a.path ≡ b.path) × (a.con.ty ≡ b.con.ty)
+same_place_is : (a b : HeadAt) → same_place a b ≡ true → (a.path ≡ b.path) × (a.con.ty ≡ b.con.ty)
 same_place_is a b e =
     let p = both (same_path a.path b.path) (a.con.ty == b.con.ty) e in
     (path_same a.path b.path p.0, same_nat a.con.ty b.con.ty p.1)
 
-placed : (hs : List Head) (k : ℕ) (h : Head) → slice_get hs k ≡ Some h → IsPlaced hs h
+placed : (hs : List HeadAt) (k : ℕ) (h : HeadAt) → slice_get hs k ≡ Some h → IsPlaced hs h
 placed [] k h e = absurd cc
 placed (x ∷ hs) zero h e =
     let same : x ≡ h = same_Some x h e in
-    record { number = 0; head = x; is_head = refl; path = ap (λ (y : Head). y.path) same; kind = ap (λ (y : Head). y.con.ty) same }
+    record { number = 0; head = x; is_head = refl; path = ap (λ (y : HeadAt). y.path) same; kind = ap (λ (y : HeadAt). y.con.ty) same }
 placed (x ∷ hs) (suc k) h e =
     let r = placed hs k h e in go r (same_place x r.head) refl
   where
@@ -145,7 +145,7 @@ placed (x ∷ hs) (suc k) h e =
         record { number = suc f.0; head = r.head; is_head = f.1; path = r.path; kind = r.kind }
 
 -- where more is among the looks, less is left
-fewer : (a b : List (List ℕ)) → ((p : List ℕ) → is_among a p ≡ true → is_among b p ≡ true) → (x : Head) → is_left b x ≡ true → is_left a x ≡ true
+fewer : (a b : List (List ℕ)) → ((p : List ℕ) → is_among a p ≡ true → is_among b p ≡ true) → (x : HeadAt) → is_left b x ≡ true → is_left a x ≡ true
 fewer a b more x y = go (is_among a x.path) refl
   where
     go : (c : Bool) → is_among a x.path ≡ c → not (is_among a x.path) ≡ true
@@ -169,7 +169,7 @@ module _ (layouts : List Layout) (t k : ℕ) where
 
   -- a look at a constructor of one of the leaves is one of those that are left
   pub left_less : (layout : Layout) → layout_of layouts t ≡ Some layout → (n : ℕ) (leaf : Leaf) → slice_get layout.leaves n ≡ Some leaf → is_leaf_for k leaf ≡ true
-      → (i : ℕ) (h : Head) → slice_get (inner_heads leaf) i ≡ Some h → (looked : List (List ℕ)) → is_among looked h.path ≡ false
+      → (i : ℕ) (h : HeadAt) → slice_get (inner_heads leaf) i ≡ Some h → (looked : List (List ℕ)) → is_among looked h.path ≡ false
       → look_cost layouts h + left_of layouts t k (looked ++ h.path ∷ []) ≤ left_of layouts t k looked
   left_less layout is n leaf at root i h e looked new =
       let leaves = leaves_of_layout (layout_of layouts t) in

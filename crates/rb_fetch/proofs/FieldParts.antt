@@ -34,8 +34,8 @@ use Rattle.rb_rel.proofs.Lists.{both}
 use Rattle.rb_rel.proofs.Reading.{same_nat}
 use Rattle.rb_fragment.specs.declared.held.Held.{Held}
 use Rattle.rb_fragment.specs.Holding.{AreHeld, held_type}
-use Rattle.rb_fragment.specs.Pieces.{AtEnd, Piece}
-use Rattle.rb_fragment.specs.Plan.{Plan, Rep, words_of}
+use Rattle.rb_fragment.specs.Pieces.{AtEnd, CodePiece}
+use Rattle.rb_fragment.specs.Plan.{Plan, Rep, words_needed}
 use Rattle.rb_fragment.specs.Slots.{AllBelow}
 use Rattle.rb_fragment.proofs.Pieces.{piece_none, piece_weaken}
 use Rattle.rb_fragment.proofs.Adding.{Adds-refl}
@@ -188,7 +188,7 @@ module _ (agreed : LaidOut) (typed : IsTyped agreed.covered.program) (flat : agr
           let rep = held_each plan clean s m hs (subs u) a.number a.held t.0 held a.is_held t.1 in
           subst (λ (y : Subvalue). Rep plan m clean y.held.ty w (slots_at s y.held.slots)) (sym a.is_part) (subst (λ y. Rep plan m clean a.held.ty y (slots_at s a.held.slots)) same rep)
 
-      goes : (clean : Bool) → Piece plan old.slots old new Nowhere (mend_leaf (choose_of plan.layouts) leaf) (λ s1 m. IsGood m × Rep plan m clean (Named ty) u (slots_at s1 words))
+      goes : (clean : Bool) → CodePiece plan old.slots old new Nowhere (mend_leaf (choose_of plan.layouts) leaf) (λ s1 m. IsGood m × Rep plan m clean (Named ty) u (slots_at s1 words))
           (AtEnd new (λ s1 m. PartsHold plan clean v s1 m (parts_under path 0 hs)))
       goes clean =
           let many : length hs ≤ length (subs u) = let a = got.0 in let b = u_made.many in omega (arith, a, b) in
@@ -205,7 +205,7 @@ module _ (agreed : LaidOut) (typed : IsTyped agreed.covered.program) (flat : agr
     given_parts k x e =
         let a = field_part path 0 hs k x e in
         let g = given_each plan new.slots hs a.number a.held got.1.given a.is_held in
-        subst (λ (y : Subvalue). AllBelow new.slots y.held.slots × (length y.held.slots ≡ words_of plan y.held.ty)) (sym a.is_part) g
+        subst (λ (y : Subvalue). AllBelow new.slots y.held.slots × (length y.held.slots ≡ words_needed plan y.held.ty)) (sym a.is_part) g
 
   pub fetches_fields : FetchesFields agreed path ty l words old new xs ys
   fetches_fields plan inner leaf of read is_leaf = record {

@@ -27,7 +27,7 @@ use Rattle.rb_rel.proofs.Lists.{both, get-append-at}
 use Rattle.rb_rel.proofs.Represented.{Represents-int, Represents-count, opened_at}
 use Rattle.rb_rel.proofs.Widths.{positions_typed}
 use Rattle.rb_fragment.specs.declared.reads.Read.{Read, Slot}
-use Rattle.rb_fragment.specs.Plan.{Plan, Rep, words_of}
+use Rattle.rb_fragment.specs.Plan.{Plan, Rep, words_needed}
 use Rattle.rb_fragment.specs.Slots.{IsOneOf}
 use Rattle.rb_fragment.specs.Reads.{mean, fits}
 use Rattle.rb_fragment.specs.WordReads.{AreMeant, AllFit, IsSlotOf, MakesAll, AreNewOr}
@@ -78,7 +78,7 @@ slot_at (r ∷ reads) x (inr h) = let g = slot_at reads x h in (suc g.0, g.1)
 -- Fields
 
 module _ (plan : Plan) (typed : IsTyped plan.program) (agreed : AreAgreed plan.program plan.layouts) (t n : ℕ) (path : List ℕ) (ty : Ty) (f : FieldAt plan t n path ty) (words : List Read)
-    (count : length words ≡ words_of plan (Named t)) where
+    (count : length words ≡ words_needed plan (Named t)) where
   is_layout : layout_of (flat_layouts plan.program) t ≡ Some f.layout
   is_layout = ap (λ ls. layout_of ls t) (sym agreed.0) ∙ f.is_layout
 
@@ -99,7 +99,7 @@ module _ (plan : Plan) (typed : IsTyped plan.program) (agreed : AreAgreed plan.p
       let narrow : width ≤ 64 = grind (arith, nat_tests, low) in
       let ra = reads narrow held in
       record {
-        count = ap (λ u. words_of plan u) (sym is);
+        count = ap (λ u. words_needed plan u) (sym is);
         fit = λ k all. (ra.fit k all roots, tt);
         origin = λ x h. elim h [ inl e ↦ ra.origin x e | inr z ↦ absurd z ];
         means = λ clean v ws s m good meant rep is_leaf.
@@ -128,7 +128,7 @@ module _ (plan : Plan) (typed : IsTyped plan.program) (agreed : AreAgreed plan.p
       let few : j < word_count (flat_layouts plan.program) (Named u) = subst (λ ls. j < word_count ls (Named u)) agreed.0 (subst (λ k. j < k) rw1.count_is lt) in
       rw1.each j r e (unit_there f.leaf (Named u) path j (law.all_held t f.layout n f.leaf is_layout f.is_leaf f.number o1 j open1 few))) in
       record {
-        count = rw1.count_is ∙ ap (λ z. words_of plan z) (sym is);
+        count = rw1.count_is ∙ ap (λ z. words_needed plan z) (sym is);
         fit = λ k all. each_fit k reads (λ j r e. (ra j r e).fit k all roots);
         origin = λ x h. let g = slot_at reads x h in (ra g.0 (Slot x) g.1).origin x refl;
         means = λ clean v ws s m good meant rep is_leaf.

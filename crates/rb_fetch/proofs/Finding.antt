@@ -14,7 +14,7 @@ use Rattle.rb_core.specs.Layouts.{leaves}
 use Rattle.rb_core.specs.TypedPrograms.{IsTyped}
 use Rattle.rb_target.specs.declared.body.Hole.{Hole}
 use Rattle.rb_target.specs.declared.instr.Instr.{Instr}
-use Rattle.rb_target.specs.Targets.{IsIn}
+use Rattle.rb_target.specs.Targets.{IsHoleAmong}
 use Rattle.rb_target.specs.Meaning.{slots_at}
 use Rattle.rb_target.specs.Sheet.{Sheet}
 use Rattle.rb_layout.specs.declared.agreed.LaidOut.{LaidOut}
@@ -40,7 +40,7 @@ use Rattle.rb_rel.proofs.Represented.{opened}
 use Rattle.rb_fragment.specs.declared.reads.Read.{Read, Slot}
 use Rattle.rb_fragment.specs.Plan.{Plan}
 use Rattle.rb_fragment.specs.Arms.{AreHoles, AreOfOneWay}
-use Rattle.rb_fragment.specs.Pieces.{Leaves, Branches}
+use Rattle.rb_fragment.specs.Pieces.{GoesOutBy, Branches}
 use Rattle.rb_fragment.specs.WordReads.{AllFit}
 use Rattle.rb_fragment.proofs.MakingAll.{slots_fit, slots_meant}
 use Rattle.rb_fragment.proofs.Adding.{Adds-refl}
@@ -52,11 +52,11 @@ use Rattle.rb_fetch.proofs.Fitting.{readable_leaf, resolved_fits, root_widths}
 use Rattle.rb_fetch.proofs.Numbers.{loc_of, counted, stands}
 
 -- no hole is one of none
-pub nothing : (h : Hole) → IsIn h [] → ⊥
+pub nothing : (h : Hole) → IsHoleAmong h [] → ⊥
 nothing h i = absurd (let e = i.1 in cc)
 
 -- hole by hole
-pub are_holes : (from count : ℕ) (code : List Instr) (hs : List Hole) → ((h : Hole) → IsIn h hs → (from ≤ h.pc) × IsLeafHole count code h) → AreHoles from count code hs
+pub are_holes : (from count : ℕ) (code : List Instr) (hs : List Hole) → ((h : Hole) → IsHoleAmong h hs → (from ≤ h.pc) × IsLeafHole count code h) → AreHoles from count code hs
 are_holes from count code [] f = tt
 are_holes from count code (h ∷ hs) f = let x = f h (0, refl) in (x.0, x.1.0, x.1.1, are_holes from count code hs (λ k i. f k (suc i.0, i.1)))
 
@@ -148,7 +148,7 @@ module _ (plan : Plan) (typed : IsTyped plan.program) (agreed : AreAgreed plan.p
             let l : has.layout ≡ layout = same_Some has.layout layout (sym has.is_layout ∙ is) in
             let leaf : led.0 ≡ k = same_Some led.0 k (sym led.1 ∙ ap (λ (y : Layout). leaf_of y has.value) (sym l) ∙ has.is_leaf) in
             let goes : walk layout.tree ws w.memory ≡ Some k = led.2 ∙ ap Some leaf in
-            subst (λ most. Leaves final next holes old.slots most (length old.code) s w k (λ s' m. Unit {0})) deep
+            subst (λ most. GoesOutBy final next holes old.slots most (length old.code) s w k (λ s' m. Unit {0})) deep
             (looks.runs plan final callee next old.slots new.slots steps all (omega arith) (omega arith) fits (λ h i. absurd (nothing h i)) finishes s w k ws long good meant.are_meant (words_small plan.program typed agreed.1 t layout is1 w.memory has.clean has.value ws rep) goes);
       }
 

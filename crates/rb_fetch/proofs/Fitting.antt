@@ -24,9 +24,9 @@ use Rattle.rb_layout.specs.A2.{widths_of}
 use Rattle.rb_layout.specs.A4.{IsBlockWidth, HasBlocks}
 use Rattle.rb_layout.specs.Agreement.{Agrees}
 use Rattle.rb_layout.specs.Flattening.{decl_of, flat_layouts}
-use Rattle.rb_layout.specs.Locations.{Reached, block_in, block_at, word_beginning, ref_in, next_ref, range_in, resolve_from, reached_at}
+use Rattle.rb_layout.specs.Locations.{Reached, block_in, pointer_block, word_beginning, ref_in, next_ref, range_in, resolve_from, reached_at}
 use Rattle.rb_layout.specs.Positions.{layout_of}
-use Rattle.rb_layout.specs.Words.{words_in, words_of_block, flat_at, begins_at, bytes_in}
+use Rattle.rb_layout.specs.Words.{words_in, words_of_block, flat_at, begins_at, bytes_taken}
 use Rattle.rb_rel.specs.Relation.{IsFound}
 use Rattle.rb_rel.proofs.Declared.{declared, decl_at}
 use Rattle.rb_rel.proofs.Provenances.{all_at}
@@ -59,7 +59,7 @@ width_bytes w (inr (inr (inl e))) = omega (arith, e)
 width_bytes w (inr (inr (inr e))) = omega (arith, e)
 
 -- word j of short words begins at 8 * j at most
-begins_low : (fs : List FlatWord) (j : ℕ) → ((k : ℕ) (f : FlatWord) → slice_get fs k ≡ Some f → IsBlockWidth f.width) → bytes_in (take j fs) ≤ 8 * j
+begins_low : (fs : List FlatWord) (j : ℕ) → ((k : ℕ) (f : FlatWord) → slice_get fs k ≡ Some f → IsBlockWidth f.width) → bytes_taken (take j fs) ≤ 8 * j
 begins_low fs zero wide = omega arith
 begins_low [] (suc j) wide = omega arith
 begins_low (f ∷ fs) (suc j) wide =
@@ -123,7 +123,7 @@ module _ (leaf : Leaf) (ok : IsReadable leaf) where
       at_block f is None block h = absurd cc
       at_block f is (Some b) block h = at_word f is b block (word_beginning (words_in leaf (Some b)) 0 t.byte t.width 0) refl h
 
-      at_flat : (y : Option FlatWord) → flat_at leaf r ≡ y → resolve_from leaf (next_ref leaf (block_at y o l t.align) t) t.o t.l steps ≡ Some x → StepsFit o l (t ∷ steps)
+      at_flat : (y : Option FlatWord) → flat_at leaf r ≡ y → resolve_from leaf (next_ref leaf (pointer_block y o l t.align) t) t.o t.l steps ≡ Some x → StepsFit o l (t ∷ steps)
       at_flat None is h = absurd cc
       at_flat (Some f) is h = at_block f is (block_in f.parts o l t.align) refl h
 
@@ -137,7 +137,7 @@ module _ (leaf : Leaf) (ok : IsReadable leaf) where
     where
       at_root : (y : Option FlatWord) → slice_get leaf.root loc.word ≡ y → (steps : List Step) → resolve_from leaf (Some (record { block = None; word = loc.word })) loc.o loc.l steps ≡ Some x → loc.word < length leaf.root
       at_root None is [] h = absurd (let z = ap (λ y. range_in y (record { block = None; word = loc.word }) loc.o loc.l) (sym is) ∙ h in cc)
-      at_root None is (t ∷ steps) h = absurd (let z = ap (λ y. resolve_from leaf (next_ref leaf (block_at y loc.o loc.l t.align) t) t.o t.l steps) (sym is) ∙ h in cc)
+      at_root None is (t ∷ steps) h = absurd (let z = ap (λ y. resolve_from leaf (next_ref leaf (pointer_block y loc.o loc.l t.align) t) t.o t.l steps) (sym is) ∙ h in cc)
       at_root (Some f) is steps h = slice_get_within leaf.root loc.word f is
 
 -- a word of a shape has at most 64 bits

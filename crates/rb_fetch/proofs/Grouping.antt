@@ -29,7 +29,7 @@ use Rattle.rb_fragment.proofs.Adding.{Adds-refl}
 use Rattle.rb_fragment.proofs.Pieces.{branches_weaken}
 use Rattle.rb_fetch.specs.inner.Fetching.{AreSmall}
 use Rattle.rb_fetch.specs.Finding.{HasGroupMeant, FindsGroup, FindsGroupOf, group_depth, group_depth_in}
-use Rattle.rb_fetch.specs.Pruning.{AreBelow, pruned_of, walk_in, nesting_in}
+use Rattle.rb_fetch.specs.Pruning.{GroupsBelow, pruned_of, walk_in, nesting_in}
 use Rattle.rb_fetch.specs.inner.Looking.{TreeFits, Looks}
 use Rattle.rb_fetch.proofs.Finding.{are_holes, nothing, of_plan, tree_fits, words_small}
 use Rattle.rb_fetch.proofs.Pruning.{pruned_prunes, pruned_fits, pruned_below}
@@ -126,7 +126,7 @@ module _ (agreed : LaidOut) (typed : IsTyped agreed.covered.program) (flat : agr
           let p = of_plan agreed typed flat agrees t plan of in
           group_branches plan p.0 p.1 t words groups layout (ap (λ ls. layout_of ls t) of.layouts ∙ is) tree left old new holes looks all count
 
-      pub group_holes : (count : ℕ) → AreBelow count groups → AreHoles (length old.code) count new.code holes
+      pub group_holes : (count : ℕ) → GroupsBelow count groups → AreHoles (length old.code) count new.code holes
       group_holes count below = are_holes (length old.code) count new.code holes (λ h i. (
         elim (looks.more.new h i) [ inl j ↦ absurd (nothing h j) | inr r ↦ r.0 ],
         elim (looks.leaves count (pruned_below groups layout.tree tree left count below) h i) [ inl j ↦ absurd (nothing h j) | inr r ↦ r ],

@@ -7,7 +7,7 @@ use Rattle.rb_core.specs.declared.layout_decl.Loc.{Loc}
 use Rattle.rb_layout.specs.declared.layout.FlatTree.{FlatTree, Split, Leaf}
 use Rattle.rb_layout.specs.declared.layout.FlatTree.TheFolds.{fold_out-FlatArm}
 use Rattle.rb_layout.specs.declared.layout.FlatArm.{FlatArm}
-use Rattle.rb_layout.specs.Splits.{Test, Is, IsNone, Route, behind, Under, arm_routes, literals_of, routes_step, routes_arm, routes_of, routes_under}
+use Rattle.rb_layout.specs.Splits.{Test, Is, IsNone, Route, under_test, Under, arm_routes, literals_of, routes_step, routes_arm, routes_of, routes_under}
 use Rattle.rb_layout.proofs.FlatForms as F
 use Rattle.rb_rel.proofs.Lists.{get-append, get-left, get-right, get-map, get-mapped}
 use Rattle.rb_fetch.specs.inner.Looking.{LeavesBelow, under_arm, under_at}
@@ -24,8 +24,8 @@ left_below count rs ss h k r e = h k r (get-left rs ss k r e)
 right_below : (count : ℕ) (rs ss : List Route) → AllBelow count (rs ++ ss) → AllBelow count ss
 right_below count rs ss h k r e = let g = get-right rs ss k r e in h g.0 r g.1
 
-behind_below : (count : ℕ) (t : Test) (rs : List Route) → AllBelow count (map (behind t) rs) → AllBelow count rs
-behind_below count t rs h k r e = h k (behind t r) (get-mapped (behind t) rs k r e)
+behind_below : (count : ℕ) (t : Test) (rs : List Route) → AllBelow count (map (under_test t) rs) → AllBelow count rs
+behind_below count t rs h k r e = h k (under_test t r) (get-mapped (under_test t) rs k r e)
 
 routes-arm : (a : FlatArm) → routes_under a ≡ record { literal = a.literal; of = routes_of a.under }
 routes-arm a = fold_out-FlatArm (List Route) (Under (List Route)) routes_step routes_arm a
@@ -48,14 +48,14 @@ under_below count loc arms (Some u) None t e h =
     let is : u ≡ t = same_Some u t e in
     let all = subst (λ rs. AllBelow count rs) (F.fold-Split-else (List Route) (Under (List Route)) routes_step routes_arm loc arms u) h in
     let test = IsNone loc (literals_of (map routes_under arms)) in
-    subst (λ (v : FlatTree). LeavesBelow count v) is (behind_below count test (routes_of u) (right_below count (below_arms loc arms) (map (behind test) (routes_of u)) all))
+    subst (λ (v : FlatTree). LeavesBelow count v) is (behind_below count test (routes_of u) (right_below count (below_arms loc arms) (map (under_test test) (routes_of u)) all))
 under_below count loc arms None (Some k) t e h =
     let all = subst (λ rs. AllBelow count rs) (F.fold-Split (List Route) (Under (List Route)) routes_step routes_arm loc arms) h in
     arm_below count loc arms k t e (left_below count (below_arms loc arms) [] all)
 under_below count loc arms (Some u) (Some k) t e h =
     let all = subst (λ rs. AllBelow count rs) (F.fold-Split-else (List Route) (Under (List Route)) routes_step routes_arm loc arms u) h in
     let test = IsNone loc (literals_of (map routes_under arms)) in
-    arm_below count loc arms k t e (left_below count (below_arms loc arms) (map (behind test) (routes_of u)) all)
+    arm_below count loc arms k t e (left_below count (below_arms loc arms) (map (under_test test) (routes_of u)) all)
 
 -- And so is a split where all that stands below it is.
 
@@ -69,8 +69,8 @@ leaf_is_below count n lt k r e = go k (sym (ap (λ rs. slice_get rs k) (F.fold-L
 both_below : (count : ℕ) (rs ss : List Route) → AllBelow count rs → AllBelow count ss → AllBelow count (rs ++ ss)
 both_below count rs ss a b k r e = elim (get-append rs ss k r e) [ inl h ↦ a k r h | inr h ↦ b h.0 r h.1 ]
 
-below_behind : (count : ℕ) (t : Test) (rs : List Route) → AllBelow count rs → AllBelow count (map (behind t) rs)
-below_behind count t rs h k r e = let g = get-map (behind t) rs k r e in subst (λ (x : Route). x.leaf < count) (sym g.2) (h k g.0 g.1)
+below_behind : (count : ℕ) (t : Test) (rs : List Route) → AllBelow count rs → AllBelow count (map (under_test t) rs)
+below_behind count t rs h k r e = let g = get-map (under_test t) rs k r e in subst (λ (x : Route). x.leaf < count) (sym g.2) (h k g.0 g.1)
 
 none_below : (count : ℕ) → AllBelow count []
 none_below count k r e = absurd cc
@@ -89,4 +89,4 @@ split_below count loc arms None h =
 split_below count loc arms (Some u) h =
     let test = IsNone loc (literals_of (map routes_under arms)) in
     subst (λ rs. AllBelow count rs) (sym (F.fold-Split-else (List Route) (Under (List Route)) routes_step routes_arm loc arms u))
-    (both_below count (below_arms loc arms) (map (behind test) (routes_of u)) (arms_below count loc arms (λ k t e. h (Some k) t e)) (below_behind count test (routes_of u) (h None u refl)))
+    (both_below count (below_arms loc arms) (map (under_test test) (routes_of u)) (arms_below count loc arms (λ k t e. h (Some k) t e)) (below_behind count test (routes_of u) (h None u refl)))

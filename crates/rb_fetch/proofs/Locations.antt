@@ -17,7 +17,7 @@ use Rattle.rb_bytes.proofs.GrowthLemmas.{address_small}
 use Rattle.rb_bytes.proofs.MemoryLemmas.{load_ok}
 use Rattle.rb_target.specs.Meaning.{slots_at}
 use Rattle.rb_target.specs.Sheet.{Sheet}
-use Rattle.rb_rel.specs.Reading.{after, read_from, read_first, read_loc}
+use Rattle.rb_rel.specs.Reading.{on_loaded, read_from, read_first, read_loc}
 use Rattle.rb_fragment.specs.declared.reads.Read.{Read, Slot, Bits, Address, Loaded}
 use Rattle.rb_fragment.specs.Reads.{where_some, loaded, mean, is_range, is_width, fits, MakesRead}
 use Rattle.rb_fragment.specs.WordReads.{AreMeant, AllFit}
@@ -156,7 +156,7 @@ load_small m base byte width r good e =
 -- Meaning
 
 -- a read that comes to something has loaded something
-after_some : (r : Result ℕ Trap) (go : ℕ → Rattle.std.specs.Prelude.Option ℕ) (x : ℕ) → after r go ≡ Some x → (w : ℕ) × (r ≡ Ok w) × (go w ≡ Some x)
+after_some : (r : Result ℕ Trap) (go : ℕ → Rattle.std.specs.Prelude.Option ℕ) (x : ℕ) → on_loaded r go ≡ Some x → (w : ℕ) × (r ≡ Ok w) × (go w ≡ Some x)
 after_some (Ok w) go x e = (w, refl, e)
 after_some (Err t) go x e = absurd cc
 
@@ -190,7 +190,7 @@ module _ (s : List ℕ) (m : Memory) (good : IsGood m) (x : ℕ) where
   -- what is read behind a range is told by its bits
   from_bits : (steps : List Step) (w o l w' o' l' : ℕ) → take_of w o l ≡ take_of w' o' l' → read_from m w o l steps ≡ read_from m w' o' l' steps
   from_bits [] w o l w' o' l' e = ap Some e
-  from_bits (t ∷ steps) w o l w' o' l' e = ap (λ k. after (load_of m (k * t.align) t.byte t.width) (λ y. read_from m y t.o t.l steps)) e
+  from_bits (t ∷ steps) w o l w' o' l' e = ap (λ k. on_loaded (load_of m (k * t.align) t.byte t.width) (λ y. read_from m y t.o t.l steps)) e
 
   -- what is read at a location is the range of the read there
   pub loc_means : (words : List Read) (ws : List ℕ) (width : Option ℕ) (loc : Loc) (span : Span) → SpansLoc words width loc span → LocFits loc → AreMeant words s m ws

@@ -13,7 +13,7 @@ use Rattle.rb_target.specs.declared.body.Hole.{Hole}
 use Rattle.rb_target.specs.Growth.{AgreesBut, Nowhere, Grows, Keeps}
 use Rattle.rb_target.specs.Meaning.{Next, taken, switched, target_of, after_switch}
 use Rattle.rb_target.specs.Sheet.{Sheet, pushed, IsHoleIn, IsHole, patched}
-use Rattle.rb_target.specs.Targets.{shape, shape_in, target_at, target_in, IsIn, IsOpen}
+use Rattle.rb_target.specs.Targets.{without_targets, without_targets_in, target_at, target_in, IsHoleAmong, IsOpenTarget}
 use Rattle.rb_target.specs.Validity.{IsTarget}
 use Rattle.rb_target.proofs.Finishing.{agrees-sub}
 use Rattle.rb_target.proofs.Growing.{Keeps-refl, Keeps-trans, get-append, get-seam}
@@ -34,22 +34,22 @@ use Rattle.rb_fetch.proofs.Trees.{AllSmall, literals, walk-Leaf, walked, nested,
 
 -- Lists of holes
 
-pub in-more : (h x : Hole) (hs : List Hole) → IsIn h hs → IsIn h (hs ++ x ∷ [])
+pub in-more : (h x : Hole) (hs : List Hole) → IsHoleAmong h hs → IsHoleAmong h (hs ++ x ∷ [])
 in-more h x hs i = let lt = slice_get_within hs i.0 h i.1 in (i.0, get-append hs (x ∷ []) i.0 lt ∙ i.1)
 
-pub in-last : (h : Hole) (hs : List Hole) → IsIn h (hs ++ h ∷ [])
+pub in-last : (h : Hole) (hs : List Hole) → IsHoleAmong h (hs ++ h ∷ [])
 in-last h hs = (length hs, get-seam hs h [])
 
-pub in-split : (h x : Hole) (hs : List Hole) → IsIn h (hs ++ x ∷ []) → IsIn h hs ⊎ (x ≡ h)
+pub in-split : (h x : Hole) (hs : List Hole) → IsHoleAmong h (hs ++ x ∷ []) → IsHoleAmong h hs ⊎ (x ≡ h)
 in-split h x [] (zero, e) = inr (same_Some x h e)
 in-split h x [] (suc k, e) = absurd cc
 in-split h x (y ∷ hs) (zero, e) = inl (0, e)
 in-split h x (y ∷ hs) (suc k, e) = elim (in-split h x hs (k, e)) [ inl i ↦ inl (suc i.0, i.1) | inr s ↦ inr s ]
 
-open-sub : (hs hs' : List Hole) (q : ℕ) (arm : Option ℕ) → ((h : Hole) → IsIn h hs' → h.pc ≡ q → h.arm ≡ arm → IsIn h hs) → IsOpen hs' q arm → IsOpen hs q arm
+open-sub : (hs hs' : List Hole) (q : ℕ) (arm : Option ℕ) → ((h : Hole) → IsHoleAmong h hs' → h.pc ≡ q → h.arm ≡ arm → IsHoleAmong h hs) → IsOpenTarget hs' q arm → IsOpenTarget hs q arm
 open-sub hs hs' q arm f o = (o.0, f o.0 o.1 o.2 o.3, o.2, o.3)
 
-widen : (final : List Instr) (next : Next) (words : List Read) (widths : List ℕ) (tree : FlatTree) (hs hs' : List Hole) (n0 top start : ℕ) → ((h : Hole) → IsIn h hs → IsIn h hs') → Does final next words widths tree hs n0 top start → Does final next words widths tree hs' n0 top start
+widen : (final : List Instr) (next : Next) (words : List Read) (widths : List ℕ) (tree : FlatTree) (hs hs' : List Hole) (n0 top start : ℕ) → ((h : Hole) → IsHoleAmong h hs → IsHoleAmong h hs') → Does final next words widths tree hs n0 top start → Does final next words widths tree hs' n0 top start
 widen final next words widths tree hs hs' n0 top start f d = λ s w n ws long good meant small walks.
     let r = d s w n ws long good meant small walks in
     record { hole = r.hole; is_hole = f r.hole r.is_hole; is_way = r.is_way; target = r.target; is_target = r.is_target; slots = r.slots; world = r.world; runs = r.runs; keeps = r.keeps; later = r.later; exit = r.exit }
@@ -89,7 +89,7 @@ looks_leaf words widths n old hs0 =
       adds = λ plan m le all fits. push_adds plan old (Jump (pc + 1)) (record { bounded = tt; slots_fit = tt; targets = (omega arith, omega arith); calls = tt });
       runs = λ plan final callee next n0 top law all le le' fits below fin s w k ws long good meant small walks.
           let a = fin pc (omega arith) (omega (arith, len)) in
-          let j = jump_shape (slice_get final pc) (pc + 1) (a.shapes ∙ ap shape_in (get-seam old.code (Jump (pc + 1)) [])) in
+          let j = jump_shape (slice_get final pc) (pc + 1) (a.shapes ∙ ap without_targets_in (get-seam old.code (Jump (pc + 1)) [])) in
           record {
             hole = h;
             is_hole = in-last h hs0;
@@ -133,11 +133,11 @@ module _ (words : List Read) (widths : List ℕ) (loc : Loc) (arms : List FlatAr
   arm_within (a ∷ ys) (suc k) t e = let h = arm_within ys k t e in omega (arith, h)
 
   -- each arm and the else are holes of the switch
-  pub hole_at : (o : Option Instr) (x : Option ℕ) (t : FlatTree) → under_at arms other x ≡ Some t → shape_in o ≡ Some (shape switch) → IsHoleIn o x
+  pub hole_at : (o : Option Instr) (x : Option ℕ) (t : FlatTree) → under_at arms other x ≡ Some t → without_targets_in o ≡ Some (without_targets switch) → IsHoleIn o x
   hole_at o (Some k) t e is = arm_hole o slot (then_some (is_some other) (pc + 1)) (open_arms_of (pc + 1) arms) k is (let h = arm_within arms k t e in let n = open_length (pc + 1) arms in omega (arith, h, n))
   hole_at o None t e is =
       else_hole o slot (pc + 1) (open_arms_of (pc + 1) arms)
-      (is ∙ ap (λ (y : Option FlatTree). Some (shape (Switch slot (then_some (is_some y) (pc + 1)) (open_arms_of (pc + 1) arms)))) e)
+      (is ∙ ap (λ (y : Option FlatTree). Some (without_targets (Switch slot (then_some (is_some y) (pc + 1)) (open_arms_of (pc + 1) arms)))) e)
 
   arms_small : (t : ℕ) (ys : List FlatArm) → AllSmall (literals ys) → All (λ (x : SwitchArm). x.number < 18446744073709551616) (open_arms_of t ys)
   arms_small t [] h = All-nil (λ (x : SwitchArm). x.number < 18446744073709551616)
@@ -157,7 +157,7 @@ module _ (words : List Read) (widths : List ℕ) (loc : Loc) (arms : List FlatAr
       let len : length (c.code ++ switch ∷ []) ≡ pc + 1 = length-append c.code (switch ∷ []) in
       record {
         fetched = λ q lt. get-append c.code (switch ∷ []) q lt;
-        shaped = ap shape_in (get-seam c.code switch []);
+        shaped = ap without_targets_in (get-seam c.code switch []);
         long = omega (arith, len);
         more = record { old = λ x i. i; new = λ x i. inl i };
         done = λ h i e. inl i;
@@ -207,7 +207,7 @@ module _ (words : List Read) (widths : List ℕ) (loc : Loc) (arms : List FlatAr
             | inr s ↦ inr (subst (λ (z : Hole). IsLeafHole count b.code z) s (leaf_below count n (under_below count loc arms other x (Leaf n) at below), hole_at (slice_get b.code pc) x (Leaf n) at d.shaped))
           ];
           ways = λ below one y z i j same arm.
-              let apart : (k : Hole) → IsIn k hs → k.pc ≡ pc → k.arm ≡ x → ⊥ =
+              let apart : (k : Hole) → IsHoleAmong k hs → k.pc ≡ pc → k.arm ≡ x → ⊥ =
               (λ k a e e'. elim (d.done k a e) [ inl c0 ↦ (let lt = below k c0 in absurd (omega (arith, lt, e))) | inr q ↦ new (subst D e' q) ]) in
               elim (in-split y h hs i) [
                 | inl a ↦ elim (in-split z h hs j) [
@@ -264,7 +264,7 @@ module _ (words : List Read) (widths : List ℕ) (loc : Loc) (arms : List FlatAr
       stays q lt = grows.same q (omega (arith, p.long, lt))
 
       -- the new holes are behind the old code
-      behind : (h : Hole) → IsIn h hs' → h.pc < length b.code → IsIn h hs
+      behind : (h : Hole) → IsHoleAmong h hs' → h.pc < length b.code → IsHoleAmong h hs
       behind h i lt = elim (look.more.new h i) [ inl j ↦ j | inr r ↦ absurd (omega (arith, p.long, r.0, lt)) ]
 
       -- slots are added
@@ -277,7 +277,7 @@ module _ (words : List Read) (widths : List ℕ) (loc : Loc) (arms : List FlatAr
       pub split_look : Done D' b' hs'
       split_look = record {
         fetched = λ q lt. let ne : q ≢ pc = omega (arith, lt) in stays q (omega (arith, lt, d.long)) ∙ p.elsewhere q ne ∙ d.fetched q lt;
-        shaped = ap shape_in (stays pc d.long) ∙ p.shapes ∙ d.shaped;
+        shaped = ap without_targets_in (stays pc d.long) ∙ p.shapes ∙ d.shaped;
         long = omega (arith, d.long, p.long, grows.longer);
         more = record {
           old = λ h i. look.more.old h (d.more.old h i);
@@ -301,8 +301,8 @@ module _ (words : List Read) (widths : List ℕ) (loc : Loc) (arms : List FlatAr
             let g1 = patch_adds plan c b (here x 0) (length b.code) g p (omega arith) d.long (omega arith) in
             Adds-trans plan c e b' g1 (look.adds plan m (omega (arith, le, g.more)) all (fit-under (length words) loc arms other x tree at fits));
         runs = λ plan final callee next n0 top law all le lts le' fits below shaped targets fin arm u y is.
-            let shut : (z : Option ℕ) → IsOpen hs' pc z → IsOpen hs pc z = λ z o. open-sub hs hs' pc z (λ k i e1 e2. behind k i (omega (arith, e1, d.long))) o in
-            let done_before : IsOpen hs pc x → ⊥ = λ o. elim (d.done o.0 o.1 o.2) [ inl j ↦ (let lt = below o.0 j in absurd (omega (arith, lt, o.2))) | inr j ↦ new (subst D o.3 j) ] in
+            let shut : (z : Option ℕ) → IsOpenTarget hs' pc z → IsOpenTarget hs pc z = λ z o. open-sub hs hs' pc z (λ k i e1 e2. behind k i (omega (arith, e1, d.long))) o in
+            let done_before : IsOpenTarget hs pc x → ⊥ = λ o. elim (d.done o.0 o.1 o.2) [ inl j ↦ (let lt = below o.0 j in absurd (omega (arith, lt, o.2))) | inr j ↦ new (subst D o.3 j) ] in
             elim y [
               | inl dy ↦
                   let mid = mids plan n0 all le lts fits in

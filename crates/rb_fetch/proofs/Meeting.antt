@@ -19,7 +19,7 @@ use Rattle.rb_target.specs.declared.instr.Instr.TheVariants.{Jump}
 use Rattle.rb_target.specs.declared.body.Hole.{Hole}
 use Rattle.rb_target.specs.Growth.{AgreesBut, Grows, Nowhere}
 use Rattle.rb_target.specs.Laws.{Law}
-use Rattle.rb_target.specs.Meaning.{World, Outcome as Run, Next, Callee, slots_at, taken}
+use Rattle.rb_target.specs.Meaning.{World, CallEnd as Run, Next, Callee, slots_at, taken}
 use Rattle.rb_target.specs.Sheet.{Sheet, pushed}
 use Rattle.rb_target.proofs.Growing.{Agrees-part, Grows-append, Keeps-trans, get-seam}
 use Rattle.rb_layout.specs.declared.layout.Layout.{Layout}
@@ -39,7 +39,7 @@ use Rattle.rb_fragment.specs.Fragments.{Comes}
 use Rattle.rb_fragment.specs.Holding.{AreHeld, held_type}
 use Rattle.rb_fragment.specs.Owing.{Ends}
 use Rattle.rb_fragment.specs.Pieces.{Branches}
-use Rattle.rb_fragment.specs.Plan.{Plan, Rep, words_of}
+use Rattle.rb_fragment.specs.Plan.{Plan, Rep, words_needed}
 use Rattle.rb_fragment.specs.Slots.{AllBelow, AllFrom, SlotsAreApart, CodeStands, copied, copies, joining}
 use Rattle.rb_fragment.proofs.Adding.{Adds-refl, Adds-trans}
 use Rattle.rb_fragment.proofs.Holds.{AllBelow-more}
@@ -166,7 +166,7 @@ module _ (plan : Plan) (t : ℕ) (layout : Layout) (way : Way) (leaf : Leaf) (is
       let m = arm_makes plan t layout way leaf is_leaf n a c slots slots [] [] low made refl tt tt tt (λ s long. refl) in
       record {
         adds = subst (λ (x : Sheet). Adds plan a x) (sym j.code) (arm_adds plan t layout way leaf is_leaf n a c slots slots [] [] low made refl tt tt tt (λ s long. refl));
-        shared = subst (λ xs. AreShared n d.slots (words_of plan (Named t)) xs) (sym j.shared) (record {
+        shared = subst (λ xs. AreShared n d.slots (words_needed plan (Named t)) xs) (sym j.shared) (record {
           from = from-low n slots low made.fresh;
           below = subst (λ (x : Sheet). AllBelow x.slots slots) (sym j.code) made.given;
           distinct = made.distinct;
@@ -185,7 +185,7 @@ module _ (plan : Plan) (t : ℕ) (layout : Layout) (way : Way) (leaf : Leaf) (is
       let m = arm_makes plan t layout way leaf is_leaf n a c slots xs xs slots low made same shared.from below made.given moves in
       record {
         adds = subst (λ (x : Sheet). Adds plan a x) (sym j.code) (arm_adds plan t layout way leaf is_leaf n a c slots xs xs slots low made same shared.from below made.given moves);
-        shared = subst (λ ys. AreShared n d.slots (words_of plan (Named t)) ys) (sym j.shared) (record {
+        shared = subst (λ ys. AreShared n d.slots (words_needed plan (Named t)) ys) (sym j.shared) (record {
           from = shared.from;
           below = subst (λ (x : Sheet). AllBelow x.slots xs) (sym j.code) below;
           distinct = shared.distinct;

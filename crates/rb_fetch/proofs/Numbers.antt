@@ -15,8 +15,8 @@ use Rattle.rb_layout.specs.declared.layout.FlatTree as X
 use Rattle.rb_layout.specs.declared.layout.FlatTree.TheFolds.{fold_out-FlatArm}
 use Rattle.rb_layout.specs.declared.layout.FlatArm.{FlatArm}
 use Rattle.rb_layout.specs.A8.{HasArm}
-use Rattle.rb_layout.specs.Flattening.{Numbering, arms_count, arms_from, tree_step, arm_step, numbering, arm_numbering}
-use Rattle.rb_layout.specs.Splits.{Test, Is, IsNone, Route, behind, Under, arm_routes, literals_of, routes_step, routes_arm, routes_of, routes_under, SplitAt, splits_step, splits_arm, splits_of, splits_under}
+use Rattle.rb_layout.specs.Flattening.{LeafNumbering, arms_count, arms_from, tree_step, arm_step, numbering, arm_numbering}
+use Rattle.rb_layout.specs.Splits.{Test, Is, IsNone, Route, under_test, Under, arm_routes, literals_of, routes_step, routes_arm, routes_of, routes_under, SplitAt, splits_step, splits_arm, splits_of, splits_under}
 use Rattle.rb_layout.proofs.FlatForms.{Each}
 use Rattle.rb_layout.proofs.FlatForms as F
 use Rattle.rb_layout.proofs.WrittenForms as D
@@ -37,9 +37,9 @@ Within rs lo hi = (k : ℕ) (r : Route) → slice_get rs k ≡ Some r → (lo �
 within-append : (rs ss : List Route) (lo hi : ℕ) → Within rs lo hi → Within ss lo hi → Within (rs ++ ss) lo hi
 within-append rs ss lo hi f g k r e = elim (get-append rs ss k r e) [ inl h ↦ f k r h | inr h ↦ g h.0 r h.1 ]
 
-within-behind : (t : Test) (rs : List Route) (lo hi : ℕ) → Within rs lo hi → Within (map (behind t) rs) lo hi
+within-behind : (t : Test) (rs : List Route) (lo hi : ℕ) → Within rs lo hi → Within (map (under_test t) rs) lo hi
 within-behind t rs lo hi f k r e =
-    let g = get-map (behind t) rs k r e in
+    let g = get-map (under_test t) rs k r e in
     let h = f k g.0 g.1 in
     let same : r.leaf ≡ g.0.leaf = ap (λ (q : Route). q.leaf) g.2 in
     (omega (arith, h.0, same), omega (arith, h.1, same))
@@ -51,7 +51,7 @@ abbrev Counted : LayTree → Type 0
 Counted tree = (n : ℕ) → Within (routes_of ((numbering tree).from n)) n (n + (numbering tree).count)
 
 numbered-arm : (a : Arm) → arm_numbering a ≡ record { literal = a.literal; of = numbering a.under }
-numbered-arm a = fold_out-Arm Numbering (Under Numbering) tree_step arm_step a
+numbered-arm a = fold_out-Arm LeafNumbering (Under LeafNumbering) tree_step arm_step a
 
 abbrev arms_routes : Loc → List FlatArm → List Route
 arms_routes loc arms = flat_map (arm_routes loc) (map routes_under arms)
@@ -63,9 +63,9 @@ arms_within loc (a ∷ arms) each n =
     let u = arm_numbering a in
     let us = map arm_numbering arms in
     let x : FlatArm = record { literal = u.literal; under = u.of.from n } in
-    let more : arms_count (u ∷ us) ≡ u.of.count + arms_count us = sum_by-cons (λ (arm : Under Numbering). arm.of.count) u us in
-    let e : (routes_under x).of ≡ routes_of ((numbering a.under).from n) = ap (λ (q : Under (List Route)). q.of) (routes-arm x) ∙ ap (λ (q : Under Numbering). routes_of (q.of.from n)) (numbered-arm a) in
-    let c : (numbering a.under).count ≡ u.of.count = ap (λ (q : Under Numbering). q.of.count) (sym (numbered-arm a)) in
+    let more : arms_count (u ∷ us) ≡ u.of.count + arms_count us = sum_by-cons (λ (arm : Under LeafNumbering). arm.of.count) u us in
+    let e : (routes_under x).of ≡ routes_of ((numbering a.under).from n) = ap (λ (q : Under (List Route)). q.of) (routes-arm x) ∙ ap (λ (q : Under LeafNumbering). routes_of (q.of.from n)) (numbered-arm a) in
+    let c : (numbering a.under).count ≡ u.of.count = ap (λ (q : Under LeafNumbering). q.of.count) (sym (numbered-arm a)) in
     let h : Within (routes_under x).of n (n + u.of.count) = subst (λ rs. Within rs n (n + u.of.count)) (sym e) (subst (λ i. Within (routes_of ((numbering a.under).from n)) n (n + i)) c (each.0 n)) in
     let rest = arms_within loc arms each.1 (n + u.of.count) in
     within-append (arm_routes loc (routes_under x)) (arms_routes loc (arms_from us (n + u.of.count))) n (n + arms_count (u ∷ us))
@@ -74,9 +74,9 @@ arms_within loc (a ∷ arms) each n =
 
 leaf_counted : (at : ℕ) (prov : Pat) (items : List LayItem) → Counted (Leaf at prov items)
 leaf_counted at prov items n =
-    let e = D.fold-Leaf Numbering (Under Numbering) tree_step arm_step at prov items in
-    let r : routes_of ((numbering (Leaf at prov items)).from n) ≡ record { leaf = n; tests = [] } ∷ [] = ap (λ (q : Numbering). routes_of (q.from n)) e ∙ F.fold-Leaf (List Route) (Under (List Route)) routes_step routes_arm n in
-    let c : 1 ≡ (numbering (Leaf at prov items)).count = ap (λ (q : Numbering). q.count) (sym e) in
+    let e = D.fold-Leaf LeafNumbering (Under LeafNumbering) tree_step arm_step at prov items in
+    let r : routes_of ((numbering (Leaf at prov items)).from n) ≡ record { leaf = n; tests = [] } ∷ [] = ap (λ (q : LeafNumbering). routes_of (q.from n)) e ∙ F.fold-Leaf (List Route) (Under (List Route)) routes_step routes_arm n in
+    let c : 1 ≡ (numbering (Leaf at prov items)).count = ap (λ (q : LeafNumbering). q.count) (sym e) in
     subst (λ i. Within (routes_of ((numbering (Leaf at prov items)).from n)) n (n + i)) c (subst (λ rs. Within rs n (n + 1)) (sym r) one)
   where
     one : Within (record { leaf = n; tests = [] } ∷ []) n (n + 1)
@@ -85,30 +85,30 @@ leaf_counted at prov items n =
 
 split_counted : (loc : Loc) (arms : List Arm) → Each (λ (a : Arm). Counted a.under) arms → Counted (Split loc arms None)
 split_counted loc arms each n =
-    let e = D.fold-Split Numbering (Under Numbering) tree_step arm_step loc arms in
+    let e = D.fold-Split LeafNumbering (Under LeafNumbering) tree_step arm_step loc arms in
     let us = map arm_numbering arms in
     let fs = arms_from us n in
-    let r : routes_of ((numbering (Split loc arms None)).from n) ≡ arms_routes loc fs ++ [] = ap (λ (q : Numbering). routes_of (q.from n)) e ∙ F.fold-Split (List Route) (Under (List Route)) routes_step routes_arm loc fs in
-    let c : arms_count us + 0 ≡ (numbering (Split loc arms None)).count = ap (λ (q : Numbering). q.count) (sym e) in
+    let r : routes_of ((numbering (Split loc arms None)).from n) ≡ arms_routes loc fs ++ [] = ap (λ (q : LeafNumbering). routes_of (q.from n)) e ∙ F.fold-Split (List Route) (Under (List Route)) routes_step routes_arm loc fs in
+    let c : arms_count us + 0 ≡ (numbering (Split loc arms None)).count = ap (λ (q : LeafNumbering). q.count) (sym e) in
     subst (λ i. Within (routes_of ((numbering (Split loc arms None)).from n)) n (n + i)) c (subst (λ rs. Within rs n (n + (arms_count us + 0))) (sym r)
     (within-append (arms_routes loc fs) [] n (n + (arms_count us + 0)) (within-more (arms_routes loc fs) n (n + arms_count us) n (n + (arms_count us + 0)) (omega arith) (omega arith) (arms_within loc arms each n)) (λ k q h. absurd cc)))
 
 else_counted : (loc : Loc) (arms : List Arm) (other : LayTree) → Each (λ (a : Arm). Counted a.under) arms → Counted other → Counted (Split loc arms (Some other))
 else_counted loc arms other each o n =
-    let e = D.fold-Split-else Numbering (Under Numbering) tree_step arm_step loc arms other in
+    let e = D.fold-Split-else LeafNumbering (Under LeafNumbering) tree_step arm_step loc arms other in
     let us = map arm_numbering arms in
     let fs = arms_from us n in
     let m = n + arms_count us in
     let below = (numbering other).from m in
     let t = IsNone loc (literals_of (map routes_under fs)) in
     let total = arms_count us + (numbering other).count in
-    let r : routes_of ((numbering (Split loc arms (Some other))).from n) ≡ arms_routes loc fs ++ map (behind t) (routes_of below)
-    = ap (λ (q : Numbering). routes_of (q.from n)) e ∙ F.fold-Split-else (List Route) (Under (List Route)) routes_step routes_arm loc fs below in
-    let c : total ≡ (numbering (Split loc arms (Some other))).count = ap (λ (q : Numbering). q.count) (sym e) in
+    let r : routes_of ((numbering (Split loc arms (Some other))).from n) ≡ arms_routes loc fs ++ map (under_test t) (routes_of below)
+    = ap (λ (q : LeafNumbering). routes_of (q.from n)) e ∙ F.fold-Split-else (List Route) (Under (List Route)) routes_step routes_arm loc fs below in
+    let c : total ≡ (numbering (Split loc arms (Some other))).count = ap (λ (q : LeafNumbering). q.count) (sym e) in
     subst (λ i. Within (routes_of ((numbering (Split loc arms (Some other))).from n)) n (n + i)) c (subst (λ rs. Within rs n (n + total)) (sym r)
-    (within-append (arms_routes loc fs) (map (behind t) (routes_of below)) n (n + total)
+    (within-append (arms_routes loc fs) (map (under_test t) (routes_of below)) n (n + total)
     (within-more (arms_routes loc fs) n (n + arms_count us) n (n + total) (omega arith) (omega arith) (arms_within loc arms each n))
-    (within-more (map (behind t) (routes_of below)) m (m + (numbering other).count) n (n + total) (omega arith) (omega arith) (within-behind t (routes_of below) m (m + (numbering other).count) (o m)))))
+    (within-more (map (under_test t) (routes_of below)) m (m + (numbering other).count) n (n + total) (omega arith) (omega arith) (within-behind t (routes_of below) m (m + (numbering other).count) (o m)))))
 
 -- leaves are numbered from n on, as many as there are
 pub counted : (tree : LayTree) → Counted tree
@@ -136,11 +136,11 @@ tested-left rs ss loc t = record { number = t.number; route = t.route; is_route 
 tested-right : (rs ss : List Route) (loc : Loc) → Tested ss loc → Tested (rs ++ ss) loc
 tested-right rs ss loc t = let g = get-right rs ss t.number t.route t.is_route in record { number = g.0; route = t.route; is_route = g.1; at = t.at; test = t.test; is_test = t.is_test; is_loc = t.is_loc }
 
-tested-behind : (u : Test) (rs : List Route) (loc : Loc) → Tested rs loc → Tested (map (behind u) rs) loc
+tested-behind : (u : Test) (rs : List Route) (loc : Loc) → Tested rs loc → Tested (map (under_test u) rs) loc
 tested-behind u rs loc t = record {
   number = t.number;
-  route = behind u t.route;
-  is_route = get-mapped (behind u) rs t.number t.route t.is_route;
+  route = under_test u t.route;
+  is_route = get-mapped (under_test u) rs t.number t.route t.is_route;
   at = suc t.at;
   test = t.test;
   is_test = t.is_test;
@@ -150,8 +150,8 @@ tested-behind u rs loc t = record {
 abbrev IsSome : List Route → Type 0
 IsSome rs = (k : ℕ) × (r : Route) × (slice_get rs k ≡ Some r)
 
-tested-first : (u : Test) (rs : List Route) → IsSome rs → Tested (map (behind u) rs) (loc_of u)
-tested-first u rs h = record { number = h.0; route = behind u h.1; is_route = get-mapped (behind u) rs h.0 h.1 h.2; at = 0; test = u; is_test = refl; is_loc = refl }
+tested-first : (u : Test) (rs : List Route) → IsSome rs → Tested (map (under_test u) rs) (loc_of u)
+tested-first u rs h = record { number = h.0; route = under_test u h.1; is_route = get-mapped (under_test u) rs h.0 h.1 h.2; at = 0; test = u; is_test = refl; is_loc = refl }
 
 abbrev AllArmed : List SplitAt → Type 0
 AllArmed ss = (k : ℕ) (s : SplitAt) → slice_get ss k ≡ Some s → HasArm s
@@ -233,7 +233,7 @@ module _ (loc : Loc) where
       let armed3 : AllArmed (splits_of other) = (λ k s e. let q = get-right (below_arms arms) (splits_of other) k s e in armed1 (suc q.0) s q.1) in
       let u = IsNone loc (literals_of (map routes_under arms)) in
       let ot = o armed3 in
-      let es1 = map (behind u) (routes_of other) in
+      let es1 = map (under_test u) (routes_of other) in
       let rs = the_routes arms ++ es1 in
       let first = tested-right (the_routes arms) es1 loc (tested-first u (routes_of other) ot.0) in
       let rest : AllTested below rs = (λ k s e. elim (get-append (below_arms arms) (splits_of other) k s e) [

@@ -12,7 +12,7 @@ use Rattle.rb_layout.specs.declared.layout.Kind.TheVariants.{Const, Bits, Word, 
 use Rattle.rb_layout.specs.Flat.{IsFlat, IsAbove}
 use Rattle.rb_layout.specs.Pointers.{PointsTo}
 use Rattle.rb_layout.specs.Readable.{AreShort}
-use Rattle.rb_layout.specs.Words.{words_in, words_of_block, bytes_in, begins_at}
+use Rattle.rb_layout.specs.Words.{words_in, words_of_block, bytes_taken, begins_at}
 use Rattle.rb_rel.specs.Reading.{LeadsTo, through}
 use Rattle.rb_rel.proofs.Agreeing.{lawful}
 use Rattle.rb_rel.proofs.Parts.{IsTidyLeaf}
@@ -23,13 +23,13 @@ use Rattle.rb_fetch.specs.declared.place.Wanted.TheVariants.{WayTo}
 use Rattle.rb_fetch.specs.inner.Placing.{IsAgreedLeaf, points_to, NoSpot, IsSpot, IsWantedSpot, step_of, outer_count}
 use Rattle.rb_fetch.proofs.Fitting.{width_low}
 
-pub bytes_more : (fs : List FlatWord) (j : ℕ) (f : FlatWord) → slice_get fs j ≡ Some f → bytes_in (take (j + 1) fs) ≡ bytes_in (take j fs) + f.width / 8
+pub bytes_more : (fs : List FlatWord) (j : ℕ) (f : FlatWord) → slice_get fs j ≡ Some f → bytes_taken (take (j + 1) fs) ≡ bytes_taken (take j fs) + f.width / 8
 bytes_more [] j f e = absurd cc
 bytes_more (g ∷ fs) zero f e = let same = ap (λ (x : FlatWord). x.width) (same_Some g f e) in omega (arith, same)
 bytes_more (g ∷ fs) (suc j) f e =
     let step : suc j + 1 ≡ suc (j + 1) = omega arith in
     let more = bytes_more fs j f e in
-    ap (λ n. bytes_in (take n (g ∷ fs))) step ∙ omega (arith, more)
+    ap (λ n. bytes_taken (take n (g ∷ fs))) step ∙ omega (arith, more)
 
 -- Leaves of layouts that agree
 

@@ -32,7 +32,7 @@ use Rattle.rb_layout.specs.Positions.{Open, leaf_from, leaf_of, layout_of, leave
 use Rattle.rb_layout.specs.inner.Walking.{open_type, walked}
 use Rattle.rb_layout.proofs.OpenPositions.{position-typed, type-open}
 use Rattle.rb_layout.proofs.Walks.{type_at_walked}
-use Rattle.rb_rel.specs.Switches.{Head, choose_of, greatest, head_below, heads_below, heads_of, heads_step, mend_leaf, mend_of}
+use Rattle.rb_rel.specs.Switches.{HeadAt, choose_of, greatest, head_below, heads_below, heads_of, heads_step, mend_leaf, mend_of}
 use Rattle.rb_rel.proofs.Agreeing.{lawful}
 use Rattle.rb_rel.proofs.Lawful.{fits_type, is_named}
 use Rattle.rb_rel.proofs.Lists.{both, get-mapped}
@@ -261,15 +261,15 @@ module _ (types : List DataDecl) where
 -- Costs --------------------------------------------------------------------------------------------
 
 module _ (layouts : List Layout) where
-  abbrev cost : Head → ℕ
+  abbrev cost : HeadAt → ℕ
   cost h = choose_of layouts h.con.ty h.con.con
 
-  cost-append : (xs ys : List Head) → sum_by cost (xs ++ ys) ≡ sum_by cost xs + sum_by cost ys
+  cost-append : (xs ys : List HeadAt) → sum_by cost (xs ++ ys) ≡ sum_by cost xs + sum_by cost ys
   cost-append [] ys = let z : sum_by cost ys ≡ 0 + sum_by cost ys = omega arith in z
   cost-append (x ∷ xs) ys =
       let a = sum_by-cons cost x (xs ++ ys) in let b = sum_by-cons cost x xs in let r = cost-append xs ys in omega (arith, a, b, r)
 
-  cost-below : (i : ℕ) (hs : List Head) → sum_by cost (map (head_below i) hs) ≡ sum_by cost hs
+  cost-below : (i : ℕ) (hs : List HeadAt) → sum_by cost (map (head_below i) hs) ≡ sum_by cost hs
   cost-below i [] = refl
   cost-below i (h ∷ hs) =
       let a = sum_by-cons cost (head_below i h) (map (head_below i) hs) in let b = sum_by-cons cost h hs in let r = cost-below i hs in omega (arith, a, b, r)
@@ -283,20 +283,20 @@ module _ (layouts : List Layout) where
       let c = sum_by-cons (mend_under layouts) p ps in omega (arith, a, b, r, c)
 
   pub mend-Wild : (at : ℕ) → mend_under layouts (Wild at) ≡ 0
-  mend-Wild at = ap (sum_by cost) (PL.fold-Wild (List Head) heads_step at)
+  mend-Wild at = ap (sum_by cost) (PL.fold-Wild (List HeadAt) heads_step at)
 
   pub mend-Var : (at x : ℕ) → mend_under layouts (Var at x) ≡ 0
-  mend-Var at x = ap (sum_by cost) (PL.fold-Var (List Head) heads_step at x)
+  mend-Var at x = ap (sum_by cost) (PL.fold-Var (List HeadAt) heads_step at x)
 
   pub mend-Con : (at : ℕ) (c : ConRef) (ps : List Pat) → mend_under layouts (Con at c ps) ≡ choose_of layouts c.ty c.con + sum_by (mend_under layouts) ps
   mend-Con at c ps =
-      ap (sum_by cost) (PL.fold-Con (List Head) heads_step at c ps) ∙ sum_by-cons cost (record { path = []; con = c }) (heads_below (map heads_of ps) 0)
+      ap (sum_by cost) (PL.fold-Con (List HeadAt) heads_step at c ps) ∙ sum_by-cons cost (record { path = []; con = c }) (heads_below (map heads_of ps) 0)
       ∙ ap (λ n. choose_of layouts c.ty c.con + n) (cost-fields ps 0)
 
   -- the fields below the root of a leaf cost what it takes to mend the leaf
   pub mend_fields : (leaf : Leaf) (at : ℕ) (c : ConRef) (ps : List Pat) → leaf.prov ≡ Con at c ps → mend_leaf (choose_of layouts) leaf ≡ sum_by (mend_under layouts) ps
   mend_fields leaf at c ps is =
-      ap (λ p. sum_by cost (drop 1 (heads_of p))) is ∙ ap (λ hs. sum_by cost (drop 1 hs)) (PL.fold-Con (List Head) heads_step at c ps) ∙ cost-fields ps 0
+      ap (λ p. sum_by cost (drop 1 (heads_of p))) is ∙ ap (λ hs. sum_by cost (drop 1 hs)) (PL.fold-Con (List HeadAt) heads_step at c ps) ∙ cost-fields ps 0
 
   abbrev IsFree : Pat → Type 0
   IsFree p = (ty : Ty) → open_type (out-Pat p) ty ≡ Some ty → mend_under layouts p ≡ 0

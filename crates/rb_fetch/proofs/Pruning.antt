@@ -19,7 +19,7 @@ use Rattle.rb_rel.proofs.Counting as N
 use Rattle.rb_rel.proofs.Lists.{both, get-append}
 use Rattle.rb_target.proofs.Shapes.{next_arm, pick}
 use Rattle.rb_fetch.specs.Fetching.{LocFits}
-use Rattle.rb_fetch.specs.Pruning.{group_at, AreBelow, group_step, group_arm, group_of, is_group, lead_all, leads_else, agreed_group, shared_group, kept_of, joined_with, joined_of, keep_arm, live_arms, leaf_for, prune_step, prune_arm, pruned_of, walk_in, nesting_in, Prunes}
+use Rattle.rb_fetch.specs.Pruning.{group_at, GroupsBelow, group_step, group_arm, group_of, is_group, lead_all, leads_else, agreed_group, shared_group, pruned_split, joined_with, joined_of, keep_arm, live_arms, leaf_for, prune_step, prune_arm, pruned_of, walk_in, nesting_in, Prunes}
 use Rattle.rb_fetch.specs.inner.Pruning.{pruned_under}
 use Rattle.rb_fetch.specs.inner.Looking.{SplitFits, TreeFits, LeavesBelow, under_arm, under_at}
 use Rattle.rb_fetch.proofs.LeafNumbers.{leaf_is_below, split_below}
@@ -95,7 +95,7 @@ module _ (P : Option FlatTree → Type 0) (loc : Loc) (arms : List FlatArm) (oth
   pub joined_cases : (((t : FlatTree) → IsChild t arms other → ⊥) → P None) → ((t : FlatTree) → IsChild t arms other → Alone t → P (Some t)) → P (Some (Split loc arms other)) → P (joined_of loc arms other)
   joined_cases none one split = go (shared_group arms other) refl
     where
-      kept : (xs : List FlatArm) (o : Option FlatTree) → xs ≡ arms → o ≡ other → P (kept_of loc xs o)
+      kept : (xs : List FlatArm) (o : Option FlatTree) → xs ≡ arms → o ≡ other → P (pruned_split loc xs o)
       kept [] None is at = none (λ t child. absent t (subst (λ ys. IsChild t ys None) (sym is) (subst (λ p. IsChild t arms p) (sym at) child)))
         where
           absent : (t : FlatTree) → IsChild t [] None → ⊥
@@ -264,7 +264,7 @@ BelowIn count (Some t) = LeavesBelow count t
 pub record IsPruned (groups : List (Option ℕ)) (tree : FlatTree) (o : Option FlatTree) : Type 0 where
   pub prunes : Prunes groups tree o
   pub fits : (n : ℕ) → TreeFits n tree → FitsIn n o
-  pub below : (count : ℕ) → AreBelow count groups → BelowIn count o
+  pub below : (count : ℕ) → GroupsBelow count groups → BelowIn count o
 
 module _ (groups : List (Option ℕ)) where
   abbrev Good : FlatTree → Type 0
@@ -370,5 +370,5 @@ module _ (groups : List (Option ℕ)) where
   pub pruned_fits : (tree t : FlatTree) → pruned_of groups tree ≡ Some t → (n : ℕ) → TreeFits n tree → TreeFits n t
   pruned_fits tree t e n f = subst (FitsIn n) e ((all_good tree).fits n f)
 
-  pub pruned_below : (tree t : FlatTree) → pruned_of groups tree ≡ Some t → (count : ℕ) → AreBelow count groups → LeavesBelow count t
+  pub pruned_below : (tree t : FlatTree) → pruned_of groups tree ≡ Some t → (count : ℕ) → GroupsBelow count groups → LeavesBelow count t
   pruned_below tree t e count h = subst (BelowIn count) e ((all_good tree).below count h)

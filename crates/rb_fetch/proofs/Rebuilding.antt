@@ -29,12 +29,12 @@ use Rattle.rb_layout.specs.declared.agreed.LaidOut.{LaidOut}
 use Rattle.rb_layout.specs.declared.layout.Block.{Block}
 use Rattle.rb_layout.specs.declared.layout.Layout.{Layout}
 use Rattle.rb_layout.specs.declared.layout.Leaf.{Leaf}
-use Rattle.rb_layout.specs.A9.{HasPointerPart, LeafFlattens, cons_below, cons_below_root, cons_of, cons_step}
+use Rattle.rb_layout.specs.A9.{HasPointerPart, LeafFlattens, cons_below, cons_below_root, pattern_cons, cons_step}
 use Rattle.rb_layout.specs.Agreement.{Agrees}
 use Rattle.rb_layout.specs.Flattening.{flat_layouts}
 use Rattle.rb_layout.specs.Positions.{leaf_of, layout_of, pair_of, sub_in, sub_of_layer, sub_pattern, types_or_none}
 use Rattle.rb_layout.specs.inner.Walking.{open_type}
-use Rattle.rb_rel.specs.Placing.{blocks_in, blocks_of, lay, leaf_in, leaf_numbered, request_of}
+use Rattle.rb_rel.specs.Placing.{leaf_requests, blocks_of, lay, leaf_in, leaf_numbered, request_of}
 use Rattle.rb_rel.specs.Switches.{choose_of}
 use Rattle.rb_rel.proofs.Agreeing.{lawful}
 use Rattle.rb_fragment.specs.declared.held.Held.{Held}
@@ -42,8 +42,8 @@ use Rattle.rb_fragment.specs.Fragments.{Comes}
 use Rattle.rb_fragment.specs.Owing.{Ends}
 use Rattle.rb_core.specs.declared.outcome.SourceEnd.TheVariants.{Done}
 use Rattle.rb_fragment.specs.Holding.{AreHeld, held_type}
-use Rattle.rb_fragment.specs.Pieces.{AtEnd, Piece}
-use Rattle.rb_fragment.specs.Plan.{Plan, Rep, words_of}
+use Rattle.rb_fragment.specs.Pieces.{AtEnd, CodePiece}
+use Rattle.rb_fragment.specs.Plan.{Plan, Rep, words_needed}
 use Rattle.rb_fragment.specs.Slots.{AllBelow, IsOneOf}
 use Rattle.rb_fragment.proofs.Adding.{Adds-refl, Adds-trans}
 use Rattle.rb_fragment.proofs.Holds.{AllBelow-more, AllGiven-append, AllGiven-more, AreHeld-append, AreHeld-kept, slots_at-kept}
@@ -84,15 +84,15 @@ module _ (types : List DataDecl) where
       ∙ found_pattern (sub_pattern types p.0 i) (sub_at p.0 i) path q u e (λ y h. sub_same p.0 i y.0 y.1 h)
 
   -- a constructor at a position is among those of the pattern
-  cons-Con : (at : ℕ) (c : ConRef) (ps : List Pat) → cons_of (Con at c ps) ≡ c ∷ cons_below (Con at c ps)
+  cons-Con : (at : ℕ) (c : ConRef) (ps : List Pat) → pattern_cons (Con at c ps) ≡ c ∷ cons_below (Con at c ps)
   cons-Con at c ps = PL.fold-Con (List ConRef) cons_step at c ps ∙ ap (λ cs. c ∷ cs) (flat ps) ∙ ap (λ (l : Pat-F Pat). c ∷ cons_below_root l) (sym (outs-Con at c ps))
     where
-      flat : (ps : List Pat) → flat_map (λ cs. cs) (map cons_of ps) ≡ flat_map cons_of ps
+      flat : (ps : List Pat) → flat_map (λ cs. cs) (map pattern_cons ps) ≡ flat_map pattern_cons ps
       flat [] = refl
-      flat (q ∷ ps) = ap (λ x. cons_of q ++ x) (flat ps)
+      flat (q ∷ ps) = ap (λ x. pattern_cons q ++ x) (flat ps)
 
   abbrev Below : Pat → Type 0
-  Below p = (i : ℕ) (q : Pat) (u : Ty) (k : ℕ) (c : ConRef) → sub_pattern types p i ≡ Some (q, u) → slice_get (cons_of q) k ≡ Some c → (j : ℕ) × (slice_get (cons_below p) j ≡ Some c)
+  Below p = (i : ℕ) (q : Pat) (u : Ty) (k : ℕ) (c : ConRef) → sub_pattern types p i ≡ Some (q, u) → slice_get (pattern_cons q) k ≡ Some c → (j : ℕ) × (slice_get (cons_below p) j ≡ Some c)
 
   belows : (p : Pat) → Below p
   belows = PL.induction Below (record {
@@ -101,12 +101,12 @@ module _ (types : List DataDecl) where
     num = λ at n i q u k c e h. absurd (let z = sym (ap (λ (l : Pat-F Pat). sub_in types l i) (outs-Num at n)) ∙ e in cc);
     con = λ at d ps each i q u k c e h.
         let s : slice_get ps i ≡ Some q = sym (ap (λ (l : Pat-F Pat). sub_of_layer l i) (outs-Con at d ps)) ∙ sub_same (Con at d ps) i q u e in
-        let r = has-flat cons_of ps i k q c s h in
+        let r = has-flat pattern_cons ps i k q c s h in
         (r.0, ap (λ (l : Pat-F Pat). slice_get (cons_below_root l) r.0) (outs-Con at d ps) ∙ r.1);
   })
 
   abbrev Within : Pat → Type 0
-  Within p = (k : ℕ) (c : ConRef) → slice_get (cons_below p) k ≡ Some c → (j : ℕ) × (slice_get (cons_of p) j ≡ Some c)
+  Within p = (k : ℕ) (c : ConRef) → slice_get (cons_below p) k ≡ Some c → (j : ℕ) × (slice_get (pattern_cons p) j ≡ Some c)
 
   withins : (p : Pat) → Within p
   withins = PL.induction Within (record {
@@ -116,14 +116,14 @@ module _ (types : List DataDecl) where
     con = λ at d ps each k c e. (suc k, ap (λ cs. slice_get cs (suc k)) (cons-Con at d ps) ∙ e);
   })
 
-  con_within : (path : List ℕ) (p : Pat) (ty : Ty) (at : ℕ) (c : ConRef) (ps : List Pat) (u : Ty) → found_at types (Some (p, ty)) path ≡ Some (Con at c ps, u) → (j : ℕ) × (slice_get (cons_of p) j ≡ Some c)
+  con_within : (path : List ℕ) (p : Pat) (ty : Ty) (at : ℕ) (c : ConRef) (ps : List Pat) (u : Ty) → found_at types (Some (p, ty)) path ≡ Some (Con at c ps, u) → (j : ℕ) × (slice_get (pattern_cons p) j ≡ Some c)
   con_within [] p ty at c ps u e =
       let s : p ≡ Con at c ps = ap (λ (y : Pat × Ty). y.0) (same_Some (p, ty) (Con at c ps, u) e) in
-      (0, ap (λ y. slice_get (cons_of y) 0) s ∙ ap (λ cs. slice_get cs 0) (cons-Con at c ps))
+      (0, ap (λ y. slice_get (pattern_cons y) 0) s ∙ ap (λ cs. slice_get cs 0) (cons-Con at c ps))
   con_within (i ∷ path) p ty at c ps u e = go (sub_pattern types p i) refl e (λ x h. con_within path x.0 x.1 at c ps u h)
     where
-      go : (o : Option (Pat × Ty)) → sub_pattern types p i ≡ o → found_at types o path ≡ Some (Con at c ps, u) → ((x : Pat × Ty) → found_at types (Some x) path ≡ Some (Con at c ps, u) → (j : ℕ) × (slice_get (cons_of x.0) j ≡ Some c))
-          → (j : ℕ) × (slice_get (cons_of p) j ≡ Some c)
+      go : (o : Option (Pat × Ty)) → sub_pattern types p i ≡ o → found_at types o path ≡ Some (Con at c ps, u) → ((x : Pat × Ty) → found_at types (Some x) path ≡ Some (Con at c ps, u) → (j : ℕ) × (slice_get (pattern_cons x.0) j ≡ Some c))
+          → (j : ℕ) × (slice_get (pattern_cons p) j ≡ Some c)
       go None is h rest = absurd cc
       go (Some x) is h rest = let r = rest x h in let b = belows p i x.0 x.1 r.0 c is r.1 in withins p b.0 c b.1
 
@@ -152,15 +152,15 @@ module _ (p : Program) (typed : IsTyped p) (agrees : Agrees p) (s : ℕ) (none :
   pub no_blocks : (v : Value) → blocks_of (flat_layouts p) s v ≡ []
   no_blocks v = at_layout (layout_of (flat_layouts p) s) refl
     where
-      at_leaf : (layout : Layout) → layout_of (flat_layouts p) s ≡ Some layout → (n : ℕ) (o : Option Leaf) → slice_get layout.leaves n ≡ o → blocks_in o ≡ []
+      at_leaf : (layout : Layout) → layout_of (flat_layouts p) s ≡ Some layout → (n : ℕ) (o : Option Leaf) → slice_get layout.leaves n ≡ o → leaf_requests o ≡ []
       at_leaf layout is n None at = refl
       at_leaf layout is n (Some leaf) at = ap (map request_of) (no_block layout n leaf is at)
 
-      at_number : (layout : Layout) → layout_of (flat_layouts p) s ≡ Some layout → (o : Option ℕ) → blocks_in (leaf_numbered layout.leaves o) ≡ []
+      at_number : (layout : Layout) → layout_of (flat_layouts p) s ≡ Some layout → (o : Option ℕ) → leaf_requests (leaf_numbered layout.leaves o) ≡ []
       at_number layout is None = refl
       at_number layout is (Some n) = at_leaf layout is n (slice_get layout.leaves n) refl
 
-      at_layout : (o : Option Layout) → layout_of (flat_layouts p) s ≡ o → blocks_in (leaf_in o v) ≡ []
+      at_layout : (o : Option Layout) → layout_of (flat_layouts p) s ≡ o → leaf_requests (leaf_in o v) ≡ []
       at_layout None is = refl
       at_layout (Some layout) is = at_number layout is (leaf_of layout v)
 
@@ -168,8 +168,8 @@ module _ (p : Program) (typed : IsTyped p) (agrees : Agrees p) (s : ℕ) (none :
 
 module _ (plan : Plan) where
   -- one piece behind another, each with its end
-  pub ended_seq : (n : ℕ) (a b c : Sheet) (k1 k2 : ℕ) (Pre Mid Post : List ℕ → Memory → Type 0) → n ≤ b.slots → Piece plan n a b Nowhere k1 Pre (AtEnd b Mid) → Piece plan b.slots b c Nowhere k2 Mid (AtEnd c Post)
-      → Piece plan n a c Nowhere (k1 + k2) Pre (AtEnd c Post)
+  pub ended_seq : (n : ℕ) (a b c : Sheet) (k1 k2 : ℕ) (Pre Mid Post : List ℕ → Memory → Type 0) → n ≤ b.slots → CodePiece plan n a b Nowhere k1 Pre (AtEnd b Mid) → CodePiece plan b.slots b c Nowhere k2 Mid (AtEnd c Post)
+      → CodePiece plan n a c Nowhere (k1 + k2) Pre (AtEnd c Post)
   ended_seq n a b c k1 k2 Pre Mid Post low first second =
       let second1 = piece_weaken plan b.slots n b c Nowhere k2 k2 Mid Mid (AtEnd c Post) (AtEnd c Post) low (omega arith) (λ s m x. x) (λ pc s m x. x) second in
       let p = piece_seq plan n a b c Nowhere Nowhere k1 k2 Pre Mid (AtEnd b Mid) (AtEnd c Post) first second1 (λ pc x. absurd x) (λ pc x. absurd x) (λ pc s m x. inl x) in
@@ -180,20 +180,20 @@ module _ (plan : Plan) where
       }
 
   -- what is said of kept slots stays
-  pub ended_frame : (n : ℕ) (a b : Sheet) (k : ℕ) (F Pre Post : List ℕ → Memory → Type 0) → ((s s' : List ℕ) (m : Memory) → Keeps n s s' → F s m → F s' m) → Piece plan n a b Nowhere k Pre (AtEnd b Post)
-      → Piece plan n a b Nowhere k (λ s m. F s m × Pre s m) (AtEnd b (λ s m. F s m × Post s m))
+  pub ended_frame : (n : ℕ) (a b : Sheet) (k : ℕ) (F Pre Post : List ℕ → Memory → Type 0) → ((s s' : List ℕ) (m : Memory) → Keeps n s s' → F s m → F s' m) → CodePiece plan n a b Nowhere k Pre (AtEnd b Post)
+      → CodePiece plan n a b Nowhere k (λ s m. F s m × Pre s m) (AtEnd b (λ s m. F s m × Post s m))
   ended_frame n a b k F Pre Post stays p =
       piece_weaken plan n n a b Nowhere k k (λ s m. F s m × Pre s m) (λ s m. F s m × Pre s m) (λ pc s m. F s m × AtEnd b Post pc s m) (AtEnd b (λ s m. F s m × Post s m)) (omega arith) (omega arith) (λ s m x. x)
       (λ pc s m x. (x.1.0, (x.0, x.1.1))) (piece_frame plan n a b Nowhere k F Pre (AtEnd b Post) stays p)
 
   pub ended_weaken : (n n' : ℕ) (a b : Sheet) (k k' : ℕ) (Pre Pre' Post Post' : List ℕ → Memory → Type 0) → n' ≤ n → k ≤ k' → ((s : List ℕ) (m : Memory) → Pre' s m → Pre s m) → ((s : List ℕ) (m : Memory) → Post s m → Post' s m)
-      → Piece plan n a b Nowhere k Pre (AtEnd b Post) → Piece plan n' a b Nowhere k' Pre' (AtEnd b Post')
+      → CodePiece plan n a b Nowhere k Pre (AtEnd b Post) → CodePiece plan n' a b Nowhere k' Pre' (AtEnd b Post')
   ended_weaken n n' a b k k' Pre Pre' Post Post' fewer le f g p = piece_weaken plan n n' a b Nowhere k k' Pre Pre' (AtEnd b Post) (AtEnd b Post') fewer le f (λ pc s m x. (x.0, g s m x.1)) p
 
   -- a construction without blocks
   pub construct_piece : (con : ConRef) (hs : List Held) (shown : List Pat) (old new : Sheet) (held : Held) → IsConstructed plan con hs shown old new held → ((v : Value) → blocks_of plan.layouts con.ty v ≡ [])
       → (clean : Bool) (vs : List Value) → AreAsShown shown vs
-      → Piece plan old.slots old new Nowhere (choose_of plan.layouts con.ty con.con) (λ s m. IsGood m × AreHeld plan clean s m hs vs) (AtEnd new (λ s m. Rep plan m clean (Named con.ty) (Values.Con con.con vs) (slots_at s held.slots)))
+      → CodePiece plan old.slots old new Nowhere (choose_of plan.layouts con.ty con.con) (λ s m. IsGood m × AreHeld plan clean s m hs vs) (AtEnd new (λ s m. Rep plan m clean (Named con.ty) (Values.Con con.con vs) (slots_at s held.slots)))
   construct_piece con hs shown old new held made none clean vs as_shown = record {
     adds = made.adds;
     low = omega arith;
@@ -218,7 +218,7 @@ whole_there agreed t n words slots body same plan of ty f all count =
     record {
       adds = Adds-refl plan body;
       given = subst (λ xs. AllBelow body.slots xs) (sym same) all;
-      count = ap length same ∙ count ∙ ap (words_of plan) kind;
+      count = ap length same ∙ count ∙ ap (words_needed plan) kind;
       origin = λ x i. inr (subst (IsOneOf x) same i);
       runs = λ clean v part is_leaf is_part.
           let whole : v ≡ part = same_Some v part is_part in
@@ -382,7 +382,7 @@ module _ (agreed : LaidOut) (typed : IsTyped agreed.covered.program) (flat : agr
       record {
         adds = Adds-trans plan old mid new done.adds made.adds;
         given = made.given;
-        count = made.count ∙ ap (words_of plan) (sym x.kind);
+        count = made.count ∙ ap (words_needed plan) (sym x.kind);
         origin = λ y i. inl (let le = one-from mid.slots y held.slots made.fresh i in omega (arith, le, up));
         runs = λ clean v part is_leaf is_part.
             let m0 = part_matches types path f.leaf.prov (Named t) (Con at c ps) ty v part there (leaf_matches f.layout v n f.leaf is_leaf f.is_leaf) is_part in

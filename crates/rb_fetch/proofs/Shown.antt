@@ -14,7 +14,7 @@ use Rattle.rb_layout.specs.declared.layout.Layout.{Layout}
 use Rattle.rb_layout.specs.declared.layout.Leaf.{Leaf}
 use Rattle.rb_layout.specs.Flattening.{same_path}
 use Rattle.rb_layout.specs.Positions.{layout_of, leaves_of_layout, leaf_of, root_type}
-use Rattle.rb_rel.specs.Switches.{Head, heads_below, heads_of}
+use Rattle.rb_rel.specs.Switches.{HeadAt, heads_below, heads_of}
 use Rattle.rb_rel.proofs.Lists.{and_true, get-append, get-map}
 use Rattle.rb_rel.proofs.Reading.{same_nat}
 use Rattle.rb_fetch.specs.Constructing.{AreAsShown}
@@ -33,9 +33,9 @@ shown_have con shown vs pass k h e =
     let whole : matches_of (ConPat 0 con shown) (Con con.con vs) ≡ true =
     matches-Con (Con con.con vs) 0 con shown ∙ ap (is_con con.con (map matches_of shown)) (outs-Con con.con vs)
     ∙ and_true (con.con == con.con) (all_pass (map matches_of shown) vs) (same-self con.con) pass in
-    shows (ConPat 0 con shown) (Con con.con vs) whole (suc k) h (ap (λ (hs : List Head). slice_get hs (suc k)) (heads-Con 0 con shown) ∙ e)
+    shows (ConPat 0 con shown) (Con con.con vs) whole (suc k) h (ap (λ (hs : List HeadAt). slice_get hs (suc k)) (heads-Con 0 con shown) ∙ e)
 
-pub has-append : (a b : List Head) (v : Value) → HasAll a v → HasAll b v → HasAll (a ++ b) v
+pub has-append : (a b : List HeadAt) (v : Value) → HasAll a v → HasAll b v → HasAll (a ++ b) v
 has-append a b v ha hb k h e = elim (get-append a b k h e) [ inl x ↦ ha k h x | inr x ↦ hb x.0 h x.1 ]
 
 -- Parts ---------------------------------------------------------------------------------------------
@@ -45,11 +45,11 @@ module _ (v u : Value) (path : List ℕ) (at : part_at v path ≡ Some u) where
   part_of_part q = part-append (Some v) path q ∙ ap (λ o. part_from o q) at
 
   -- what a part has, the whole has below it
-  pub has-under : (hs : List Head) → HasAll hs u → HasAll (map (head_under path) hs) v
+  pub has-under : (hs : List HeadAt) → HasAll hs u → HasAll (map (head_under path) hs) v
   has-under hs has k h e =
       let g = get-map (head_under path) hs k h e in
       let c = has k g.0 g.1 in
-      subst (λ (x : Head). HasCon v x.path x.con.con) (sym g.2) (c.0, part_of_part g.0.path ∙ c.1, c.2)
+      subst (λ (x : HeadAt). HasCon v x.path x.con.con) (sym g.2) (c.0, part_of_part g.0.path ∙ c.1, c.2)
 
 behind-is : (above path rest : List ℕ) → behind above path ≡ Some rest → path ≡ above ++ rest
 behind-is [] path rest e = same_Some path rest e
@@ -62,7 +62,7 @@ behind-is (i ∷ above) (j ∷ path) rest e = go (i == j) refl e (behind-is abov
 
 module _ (v u : Value) (path : List ℕ) (at : part_at v path ≡ Some u) where
   -- what is known of the whole at a part and below it, the part has
-  pub has-behind : (known : List Head) → HasAll known v → HasAll (heads_behind path known) u
+  pub has-behind : (known : List HeadAt) → HasAll known v → HasAll (heads_behind path known) u
   has-behind [] has k h e = absurd cc
   has-behind (g ∷ known) has k h e = go (behind path g.path) refl (λ i x at1. has-behind known (λ j y at2. has (suc j) y at2) i x at1) k h e
     where
@@ -71,10 +71,10 @@ module _ (v u : Value) (path : List ℕ) (at : part_at v path ≡ Some u) where
       go (Some q) is rest zero h1 e1 =
           let c = has 0 g refl in
           let here : part_at v g.path ≡ part_at u q = ap (part_at v) (behind-is path g.path q is) ∙ part_of_part v u path at q in
-          subst (λ (x : Head). HasCon u x.path x.con.con) (same_Some (record { path = q; con = g.con }) h1 e1) (c.0, sym here ∙ c.1, c.2)
+          subst (λ (x : HeadAt). HasCon u x.path x.con.con) (same_Some (record { path = q; con = g.con }) h1 e1) (c.0, sym here ∙ c.1, c.2)
       go (Some q) is rest (suc k1) h1 e1 = rest k1 h1 e1
 
-known-at : (known : List Head) (v : Value) (path : List ℕ) (k : ℕ) → HasAll known v → known_con path known ≡ Some k → HasCon v path k
+known-at : (known : List HeadAt) (v : Value) (path : List ℕ) (k : ℕ) → HasAll known v → known_con path known ≡ Some k → HasCon v path k
 known-at [] v path k has e = absurd cc
 known-at (g ∷ known) v path k has e = go (same_path g.path path) refl e (known-at known v path k (λ i h at. has (suc i) h at))
   where
@@ -95,7 +95,7 @@ sole-first [] l e = absurd cc
 sole-first (x ∷ []) l e = e
 sole-first (x ∷ y ∷ ns) l e = absurd cc
 
-module _ (layouts : List Layout) (s : ℕ) (path : List ℕ) (known : List Head) (l : ℕ) (told : leaf_known layouts s path known ≡ Some l) where
+module _ (layouts : List Layout) (s : ℕ) (path : List ℕ) (known : List HeadAt) (l : ℕ) (told : leaf_known layouts s path known ≡ Some l) where
   -- the constructor that is known there, and its one leaf
   record IsTold : Type 0 where
     con : ℕ

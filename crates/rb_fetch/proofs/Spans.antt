@@ -16,10 +16,10 @@ use Rattle.rb_layout.specs.declared.layout.Kind.TheVariants.{Const, Bits, Word, 
 use Rattle.rb_layout.specs.declared.layout.WordRef.{WordRef}
 use Rattle.rb_layout.specs.A6.{holds_unit}
 use Rattle.rb_layout.specs.Flattening.{same_path}
-use Rattle.rb_layout.specs.Locations.{Reached, range_in, next_ref, block_at, resolve_from}
+use Rattle.rb_layout.specs.Locations.{Reached, range_in, next_ref, pointer_block, resolve_from}
 use Rattle.rb_layout.specs.Words.{flat_at}
 use Rattle.rb_rel.specs.Reading.{LeadsTo}
-use Rattle.rb_rel.specs.Relation.{HoldsKind, Placed}
+use Rattle.rb_rel.specs.Relation.{HoldsKind, LeafStands}
 use Rattle.rb_rel.proofs.Holding.{path_is}
 use Rattle.rb_rel.proofs.Known.{ltb_is}
 use Rattle.rb_rel.proofs.Lawful.{HoldsUnit, Holder}
@@ -47,7 +47,7 @@ span_end leaf [] p (Some r) o x e = go (flat_at leaf r) e
     go (Some f) h = ap (λ (y : Reached). y.l) (chosen (leb 1 p.l && leb (o + p.l) f.width) (record { ref = r; word = f; o = o; l = p.l }) x h).1
 span_end leaf (t ∷ steps) p (Some r) o x e =
     span_end leaf steps (step_span p t)
-    (next_ref leaf (block_at (flat_at leaf r) o p.l t.align) t) t.o x e
+    (next_ref leaf (pointer_block (flat_at leaf r) o p.l t.align) t) t.o x e
 
 -- where the range's word stands in a slot, no step leads to it
 span_slot : (steps : List Step) (p : Span) (width x : ℕ) → (span_on p steps).width ≡ Some width → (span_on p steps).read ≡ Slot x → (p.width ≡ Some width) × (p.read ≡ Slot x)
@@ -57,7 +57,7 @@ span_slot (t ∷ steps) p width x some is =
     absurd (let z = r.1 in cc)
 
 -- a root word is of its width
-root_small : (leaf : Leaf) (ws : List ℕ) (m : Memory) (clean : Bool) (subs : List ℕ → List ℕ) (ats : ℕ → ℕ) → Placed leaf ws m clean subs ats
+root_small : (leaf : Leaf) (ws : List ℕ) (m : Memory) (clean : Bool) (subs : List ℕ → List ℕ) (ats : ℕ → ℕ) → LeafStands leaf ws m clean subs ats
     → (j : ℕ) (o : Option FlatWord) → slice_get leaf.root j ≡ o → (w : ℕ) → slice_get ws j ≡ Some w → IsSmall (width_of o) w
 root_small leaf ws m clean subs ats placed j None is w e = tt
 root_small leaf ws m clean subs ats placed j (Some f) is w e =

@@ -8,7 +8,7 @@ use Rattle.rb_layout.specs.declared.layout.Layout.{Layout}
 use Rattle.rb_layout.specs.declared.layout.Leaf.{Leaf}
 use Rattle.rb_layout.specs.Flattening.{same_path}
 use Rattle.rb_layout.specs.Positions.{leaf_of, layout_of}
-use Rattle.rb_rel.specs.Switches.{Head, inner_heads, is_leaf_for}
+use Rattle.rb_rel.specs.Switches.{HeadAt, inner_heads, is_leaf_for}
 use Rattle.rb_rel.proofs.Lists.{both, and_true}
 use Rattle.rb_rel.proofs.Reading.{same_nat}
 use Rattle.rb_fetch.specs.inner.Choosing.{HasAll, HasCon}
@@ -56,14 +56,14 @@ for-from k (x ∷ leaves) at (suc j) leaf e root =
 
 -- Leaves that can still be here -------------------------------------------------------------------
 
-at-of : (path : List ℕ) (con : ℕ) (h : Head) → is_at path con h ≡ true → h.path ≡ path → h.con.con ≡ con
+at-of : (path : List ℕ) (con : ℕ) (h : HeadAt) → is_at path con h ≡ true → h.path ≡ path → h.con.con ≡ con
 at-of path con h e same = go (same_path h.path path) (ap (λ p. same_path p path) same ∙ path_self path) e
   where
     go : (b : Bool) → b ≡ true → (if b then h.con.con == con else true) ≡ true → h.con.con ≡ con
     go true is x = same_nat h.con.con con x
     go false is x = absurd cc
 
-at-from : (path : List ℕ) (con : ℕ) (h : Head) → (h.path ≡ path → h.con.con ≡ con) → is_at path con h ≡ true
+at-from : (path : List ℕ) (con : ℕ) (h : HeadAt) → (h.path ≡ path → h.con.con ≡ con) → is_at path con h ≡ true
 at-from path con h f = go (same_path h.path path) refl
   where
     self : (n : ℕ) → (n == n) ≡ true
@@ -73,13 +73,13 @@ at-from path con h f = go (same_path h.path path) refl
     go true is = ap (λ n. n == con) (f (path_same h.path path is)) ∙ self con
     go false is = refl
 
-pub can-of : (path : List ℕ) (con : ℕ) (hs : List Head) → can_be path con hs ≡ true → (k : ℕ) (h : Head) → slice_get hs k ≡ Some h → h.path ≡ path → h.con.con ≡ con
+pub can-of : (path : List ℕ) (con : ℕ) (hs : List HeadAt) → can_be path con hs ≡ true → (k : ℕ) (h : HeadAt) → slice_get hs k ≡ Some h → h.path ≡ path → h.con.con ≡ con
 can-of path con [] e k h is same = absurd cc
 can-of path con (x ∷ hs) e zero h is same =
     let b = both (is_at path con x) (can_be path con hs) e in at-of path con h (ap (is_at path con) (sym (same_Some x h is)) ∙ b.0) same
 can-of path con (x ∷ hs) e (suc k) h is same = can-of path con hs (both (is_at path con x) (can_be path con hs) e).1 k h is same
 
-pub can-from : (path : List ℕ) (con : ℕ) (hs : List Head) → ((k : ℕ) (h : Head) → slice_get hs k ≡ Some h → h.path ≡ path → h.con.con ≡ con) → can_be path con hs ≡ true
+pub can-from : (path : List ℕ) (con : ℕ) (hs : List HeadAt) → ((k : ℕ) (h : HeadAt) → slice_get hs k ≡ Some h → h.path ≡ path → h.con.con ≡ con) → can_be path con hs ≡ true
 can-from path con [] f = refl
 can-from path con (x ∷ hs) f = and_true (is_at path con x) (can_be path con hs) (at-from path con x (f 0 x refl)) (can-from path con hs (λ k h e. f (suc k) h e))
 
@@ -112,21 +112,21 @@ module _ (layouts : List Layout) (t : ℕ) (path : List ℕ) (con : ℕ) where
 
 module _ (layouts : List Layout) (t : ℕ) where
   -- each of the constructors can be in the leaf
-  abbrev pub CanAll : List Head → ℕ → Type 0
-  CanAll hs n = (k : ℕ) (h : Head) → slice_get hs k ≡ Some h → can_be_leaf h.path h.con.con (leaf_at layouts t n) ≡ true
+  abbrev pub CanAll : List HeadAt → ℕ → Type 0
+  CanAll hs n = (k : ℕ) (h : HeadAt) → slice_get hs k ≡ Some h → can_be_leaf h.path h.con.con (leaf_at layouts t n) ≡ true
 
-  can-cons : (h : Head) (hs : List Head) (n : ℕ) → can_be_leaf h.path h.con.con (leaf_at layouts t n) ≡ true → CanAll hs n → CanAll (h ∷ hs) n
-  can-cons h hs n one rest zero g e = ap (λ (x : Head). can_be_leaf x.path x.con.con (leaf_at layouts t n)) (sym (same_Some h g e)) ∙ one
+  can-cons : (h : HeadAt) (hs : List HeadAt) (n : ℕ) → can_be_leaf h.path h.con.con (leaf_at layouts t n) ≡ true → CanAll hs n → CanAll (h ∷ hs) n
+  can-cons h hs n one rest zero g e = ap (λ (x : HeadAt). can_be_leaf x.path x.con.con (leaf_at layouts t n)) (sym (same_Some h g e)) ∙ one
   can-cons h hs n one rest (suc k) g e = rest k g e
 
-  pub stays-of : (hs : List Head) (ns : List ℕ) (i n : ℕ) → slice_get (leaves_beside layouts t hs ns) i ≡ Some n → ((j : ℕ) × (slice_get ns j ≡ Some n)) × CanAll hs n
+  pub stays-of : (hs : List HeadAt) (ns : List ℕ) (i n : ℕ) → slice_get (leaves_beside layouts t hs ns) i ≡ Some n → ((j : ℕ) × (slice_get ns j ≡ Some n)) × CanAll hs n
   stays-of [] ns i n e = ((i, e), λ k h at. absurd cc)
   stays-of (h ∷ hs) ns i n e =
       let r = stays-of hs (leaves_that_can_be layouts t h.path h.con.con ns) i n e in
       let s = kept-of layouts t h.path h.con.con ns r.0.0 n r.0.1 in
       (s.0, can-cons h hs n s.1 r.1)
 
-  pub stays-from : (hs : List Head) (ns : List ℕ) (j n : ℕ) → slice_get ns j ≡ Some n → CanAll hs n → (i : ℕ) × (slice_get (leaves_beside layouts t hs ns) i ≡ Some n)
+  pub stays-from : (hs : List HeadAt) (ns : List ℕ) (j n : ℕ) → slice_get ns j ≡ Some n → CanAll hs n → (i : ℕ) × (slice_get (leaves_beside layouts t hs ns) i ≡ Some n)
   stays-from [] ns j n e can = (j, e)
   stays-from (h ∷ hs) ns j n e can =
       let r = kept-from layouts t h.path h.con.con ns j n e (can 0 h refl) in
@@ -135,10 +135,10 @@ module _ (layouts : List Layout) (t : ℕ) where
 -- Places that need no look --------------------------------------------------------------------------
 
 -- one of the constructors stands at the path
-abbrev pub IsShownAt : List Head → List ℕ → Type 0
-IsShownAt hs path = (k : ℕ) × (h : Head) × (slice_get hs k ≡ Some h) × (h.path ≡ path)
+abbrev pub IsShownAt : List HeadAt → List ℕ → Type 0
+IsShownAt hs path = (k : ℕ) × (h : HeadAt) × (slice_get hs k ≡ Some h) × (h.path ≡ path)
 
-pub bare-of : (types : List DataDecl) (hs : List Head) (path : List ℕ) → is_among (bare_paths types hs) path ≡ true → IsShownAt hs path
+pub bare-of : (types : List DataDecl) (hs : List HeadAt) (path : List ℕ) → is_among (bare_paths types hs) path ≡ true → IsShownAt hs path
 bare-of types [] path e = absurd cc
 bare-of types (h ∷ hs) path e = go (is_bare types h.con) (bare-of types hs path) e
   where
@@ -155,7 +155,7 @@ bare-of types (h ∷ hs) path e = go (is_bare types h.con) (bare-of types hs pat
 
 -- Values --------------------------------------------------------------------------------------------
 
-module _ (layouts : List Layout) (t : ℕ) (layout : Layout) (there : layout_of layouts t ≡ Some layout) (hs : List Head) (v : Value) (has : HasAll hs v) where
+module _ (layouts : List Layout) (t : ℕ) (layout : Layout) (there : layout_of layouts t ≡ Some layout) (hs : List HeadAt) (v : Value) (has : HasAll hs v) where
   leaf_in : (n : ℕ) (x : Leaf) → slice_get layout.leaves n ≡ Some x → leaf_at layouts t n ≡ Some x
   leaf_in n x e = ap (λ o. leaf_within o n) there ∙ e
 
@@ -168,7 +168,7 @@ module _ (layouts : List Layout) (t : ℕ) (layout : Layout) (there : layout_of 
       ap (can_be_leaf g.path g.con.con) (leaf_in n leaf at) ∙ can
 
   -- where one of them stands, a leaf that stays has the value's
-  pub stays_so : (ns : List ℕ) (i n : ℕ) (x : Leaf) (j : ℕ) (h : Head) → slice_get (leaves_beside layouts t hs ns) i ≡ Some n → slice_get layout.leaves n ≡ Some x → slice_get (inner_heads x) j ≡ Some h
+  pub stays_so : (ns : List ℕ) (i n : ℕ) (x : Leaf) (j : ℕ) (h : HeadAt) → slice_get (leaves_beside layouts t hs ns) i ≡ Some n → slice_get layout.leaves n ≡ Some x → slice_get (inner_heads x) j ≡ Some h
       → IsShownAt hs h.path → HasCon v h.path h.con.con
   stays_so ns i n x j h en el eh f =
       let s = stays-of layouts t hs ns i n en in

@@ -17,7 +17,7 @@ use Rattle.rb_layout.specs.Positions.{Open}
 use Rattle.rb_rel.proofs.Lists.{get-append, get-left}
 use Rattle.rb_fragment.specs.declared.held.Held.{Held}
 use Rattle.rb_fragment.specs.Arms.{AreHoles, AreOfOneWay}
-use Rattle.rb_fragment.specs.Plan.{Plan, Rep, words_of}
+use Rattle.rb_fragment.specs.Plan.{Plan, Rep, words_needed}
 use Rattle.rb_fragment.specs.Slots.{AllBelow}
 use Rattle.rb_fragment.proofs.Holds.{AllBelow-more, slots_at-kept}
 use Rattle.rb_compose.specs.declared.subvalue.Subvalue.{Subvalue}
@@ -94,7 +94,7 @@ module _ (plan : Plan) where
         is_there = h.1;
         kind = h.2;
         below = subst (AllBelow n) slots g.0;
-        count = ap length (sym slots) ∙ g.1 ∙ ap (words_of plan) kind;
+        count = ap length (sym slots) ∙ g.1 ∙ ap (words_needed plan) kind;
       }
 
   pub given_at-more : (n m : ℕ) (opens : List Open) (xs : List Subvalue) → n ≤ m → AreGivenAt plan n opens xs → AreGivenAt plan m opens xs

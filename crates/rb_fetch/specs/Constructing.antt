@@ -20,7 +20,7 @@ use Rattle.rb_target.specs.Sheet.{Sheet}
 use Rattle.rb_layout.specs.declared.agreed.LaidOut.{LaidOut}
 use Rattle.rb_rel.specs.Switches.{choose_of}
 use Rattle.rb_fragment.specs.declared.held.Held.{Held}
-use Rattle.rb_fragment.specs.Plan.{Plan, words_of}
+use Rattle.rb_fragment.specs.Plan.{Plan, words_needed}
 use Rattle.rb_fragment.specs.Adding.{Adds}
 use Rattle.rb_fragment.specs.Holding.{AllGiven, AreHeld, held_type}
 use Rattle.rb_fragment.specs.Slots.{AllBelow, AllFrom}
@@ -39,7 +39,7 @@ pub record IsConstructed (plan : Plan) (con : ConRef) (hs : List Held) (shown : 
   pub kind : held.ty ≡ Named con.ty
   pub adds : Adds plan old new
   pub given : AllBelow new.slots held.slots
-  pub count : length held.slots ≡ words_of plan (Named con.ty)
+  pub count : length held.slots ≡ words_needed plan (Named con.ty)
   pub fresh : AllFrom old.slots held.slots
   pub does : (clean : Bool) (vs : List Value) → AreAsShown shown vs
       → (final : List Instr) (callee : Callee) (next : Next) → Law final callee next

@@ -20,9 +20,9 @@ use Rattle.rb_layout.specs.declared.layout.Layout.{Layout}
 use Rattle.rb_layout.specs.declared.layout.Leaf.{Leaf}
 use Rattle.rb_layout.specs.Positions.{open_positions, leaf_of, layout_of}
 use Rattle.rb_fragment.specs.declared.reads.Read.{Read}
-use Rattle.rb_fragment.specs.Plan.{Plan, Rep, words_of}
+use Rattle.rb_fragment.specs.Plan.{Plan, Rep, words_needed}
 use Rattle.rb_fragment.specs.Adding.{Adds}
-use Rattle.rb_fragment.specs.Pieces.{AtEnd, Piece}
+use Rattle.rb_fragment.specs.Pieces.{AtEnd, CodePiece}
 use Rattle.rb_fragment.specs.Slots.{AllBelow, IsOneOf}
 use Rattle.rb_fragment.specs.WordReads.{AreMeant, AllFit, IsSlotOf}
 use Rattle.rb_fetch.specs.Finding.{IsPlanOf}
@@ -53,7 +53,7 @@ pub record IsPartMeant (plan : Plan) (clean : Bool) (ty : Ty) (v : Value) (path 
 -- value of this leaf, the field's reads mean words that represent the part of it at the path, as cleanly.
 pub record AreFieldReads (plan : Plan) (t n : ℕ) (path : List ℕ) (ty : Ty) (layout : Layout)
     (words reads : List Read) : Type 0 where
-  pub count : length reads ≡ words_of plan ty
+  pub count : length reads ≡ words_needed plan ty
   pub fit : (k : ℕ) → AllFit k words → AllFit k reads
   pub origin : (x : ℕ) → IsSlotOf x reads → IsSlotOf x words
   pub means : (clean : Bool) (v : Value) (ws s : List ℕ) (m : Memory) → IsGood m → AreMeant words s m ws
@@ -65,7 +65,7 @@ pub record AreFieldReads (plan : Plan) (t n : ℕ) (path : List ℕ) (ty : Ty) (
 abbrev pub ReadsField : LaidOut → ℕ → ℕ → List ℕ → List Read → List Read → Type 0
 ReadsField agreed t n path words reads =
     (plan : Plan) → IsPlanOf agreed plan → (ty : Ty) (f : FieldAt plan t n path ty)
-    → length words ≡ words_of plan (Named t)
+    → length words ≡ words_needed plan (Named t)
     → AreFieldReads plan t n path ty f.layout words reads
 
 -- Slots --------------------------------------------------------------------------------------
@@ -78,10 +78,10 @@ pub record FieldIsFetched (plan : Plan) (t n : ℕ) (path : List ℕ) (ty : Ty) 
     (words : List ℕ) (old new : Sheet) (slots : List ℕ) : Type 0 where
   pub adds : Adds plan old new
   pub given : AllBelow new.slots slots
-  pub count : length slots ≡ words_of plan ty
+  pub count : length slots ≡ words_needed plan ty
   pub origin : (x : ℕ) → IsOneOf x slots → (old.slots ≤ x) ⊎ IsOneOf x words
   pub runs : (clean : Bool) (v part : Value) → leaf_of f.layout v ≡ Some n → part_at v path ≡ Some part
-      → Piece plan old.slots old new Nowhere (mend_under plan.layouts f.pat)
+      → CodePiece plan old.slots old new Nowhere (mend_under plan.layouts f.pat)
       (λ s m. IsGood m × Rep plan m clean (Named t) v (slots_at s words))
       (AtEnd new (λ s m. Rep plan m clean ty part (slots_at s slots)))
 
@@ -90,5 +90,5 @@ pub record FieldIsFetched (plan : Plan) (t n : ℕ) (path : List ℕ) (ty : Ty) 
 abbrev pub FetchesField : LaidOut → ℕ → ℕ → List ℕ → List ℕ → Sheet → Sheet → List ℕ → Type 0
 FetchesField agreed t n path words old new slots =
     (plan : Plan) → IsPlanOf agreed plan → (ty : Ty) (f : PositionAt plan t n path ty) → AllBelow old.slots words
-    → length words ≡ words_of plan (Named t)
+    → length words ≡ words_needed plan (Named t)
     → FieldIsFetched plan t n path ty f words old new slots

@@ -11,7 +11,7 @@ use Rattle.rb_core.specs.declared.pattern.Pat.{Pat}
 use Rattle.rb_layout.specs.declared.layout.Layout.{Layout}
 use Rattle.rb_layout.specs.declared.layout.Leaf.{Leaf}
 use Rattle.rb_layout.specs.Positions.{layout_of, sub_pattern}
-use Rattle.rb_rel.specs.Switches.{Head, choose_of, heads_of}
+use Rattle.rb_rel.specs.Switches.{HeadAt, choose_of, heads_of}
 use Rattle.rb_fragment.specs.Plan.{Plan}
 
 -- what stands at a path of a pattern that stands at a type: the pattern there, with its type; none where nothing does
@@ -33,4 +33,4 @@ pub record PositionAt (plan : Plan) (t n : ℕ) (path : List ℕ) (ty : Ty) : Ty
 -- the switches that rebuild a value of what stands at the wildcards of its pattern: for each constructor of the
 -- pattern those that choose the leaf of its construction; 0 where it has none
 abbrev pub mend_under : List Layout → Pat → ℕ
-mend_under layouts pat = sum_by (λ (h : Head). choose_of layouts h.con.ty h.con.con) (heads_of pat)
+mend_under layouts pat = sum_by (λ (h : HeadAt). choose_of layouts h.con.ty h.con.con) (heads_of pat)

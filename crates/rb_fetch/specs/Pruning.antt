@@ -28,8 +28,8 @@ abbrev pub group_at : List (Option ℕ) → ℕ → Option ℕ
 group_at groups leaf = group_or_none (slice_get groups leaf)
 
 -- each group in the list has a number below `count`
-abbrev pub AreBelow : ℕ → List (Option ℕ) → Type 0
-AreBelow count groups = (leaf g : ℕ) → group_at groups leaf ≡ Some g → g < count
+abbrev pub GroupsBelow : ℕ → List (Option ℕ) → Type 0
+GroupsBelow count groups = (leaf g : ℕ) → group_at groups leaf ≡ Some g → g < count
 
 -- Trees that lead one way -----------------------------------------------------------------------
 
@@ -83,14 +83,14 @@ few_of loc (a ∷ b ∷ arms) = Some (Flat.Split loc (a ∷ b ∷ arms) None)
 
 -- a split of the bits at a location, with these arms and perhaps an else; where one way alone is left what stands
 -- there, and none where none is
-abbrev pub kept_of : Loc → List FlatArm → Option FlatTree → Option FlatTree
-kept_of loc arms None = few_of loc arms
-kept_of loc [] (Some t) = Some t
-kept_of loc (a ∷ arms) (Some t) = Some (Flat.Split loc (a ∷ arms) (Some t))
+abbrev pub pruned_split : Loc → List FlatArm → Option FlatTree → Option FlatTree
+pruned_split loc arms None = few_of loc arms
+pruned_split loc [] (Some t) = Some t
+pruned_split loc (a ∷ arms) (Some t) = Some (Flat.Split loc (a ∷ arms) (Some t))
 
--- a split whose ways all lead to the given group is that group's leaf; without a group it is what `kept_of` leaves
+-- a split whose ways all lead to the given group is that group's leaf; without a group it is what `pruned_split` leaves
 abbrev pub joined_with : Option ℕ → Loc → List FlatArm → Option FlatTree → Option FlatTree
-joined_with None loc arms other = kept_of loc arms other
+joined_with None loc arms other = pruned_split loc arms other
 joined_with (Some g) loc arms other = Some (Flat.Leaf g)
 
 -- what is left of a split of the bits at a location, with these arms and perhaps an else, which are pruned already:

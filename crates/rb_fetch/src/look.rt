@@ -12,7 +12,7 @@ ghost use Rattle.rb_target.specs.Growth.{Grows};
 ghost use Rattle.rb_target.specs.Sheet.{IsHole, patched, pushed};
 ghost use Rattle.rb_fragment.specs.Arms.{AreHoles, AreOfOneWay};
 ghost use Rattle.rb_fetch.specs.Finding.{FindsGroup, FindsGroupOf, FindsLeaf, FindsLeafOf, leaf_count};
-ghost use Rattle.rb_fetch.specs.Pruning.{AreBelow};
+ghost use Rattle.rb_fetch.specs.Pruning.{GroupsBelow};
 ghost use Rattle.rb_fetch.specs.inner.Looking.{open_arms_of, Looks};
 
 use crate::fetch::fetch_bits;
@@ -97,7 +97,7 @@ pub fn find_group(
     groups: &[Option<u32>],
 ) -> Result<Seq<Hole>, AllocError>
     ensures group { IfOk result (λ holes. FindsGroup agreed.now ty groups.now words.now body.old body.new holes) }
-    ensures holes { IfOk result (λ holes. (count : ℕ) → AreBelow count groups.now
+    ensures holes { IfOk result (λ holes. (count : ℕ) → GroupsBelow count groups.now
         → AreHoles (length body.old.code) count body.new.code holes) }
     ensures ways { IfOk result (λ holes. AreOfOneWay holes) }
     ensures grows { OnOk result (Grows body.old.code body.new.code) }
@@ -124,7 +124,7 @@ pub fn find_group_of(
     groups: &[Option<u32>],
 ) -> Result<Seq<Hole>, AllocError>
     ensures group { IfOk result (λ holes. FindsGroupOf agreed.now ty groups.now words.now body.old body.new holes) }
-    ensures holes { IfOk result (λ holes. (count : ℕ) → AreBelow count groups.now
+    ensures holes { IfOk result (λ holes. (count : ℕ) → GroupsBelow count groups.now
         → AreHoles (length body.old.code) count body.new.code holes) }
     ensures ways { IfOk result (λ holes. AreOfOneWay holes) }
     ensures grows { OnOk result (Grows body.old.code body.new.code) }

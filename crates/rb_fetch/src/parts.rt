@@ -7,7 +7,7 @@ ghost use Rattle.std.specs.Prelude.{◌≡◌, ◌++◌, [], IfOk, IfSome, OnOk,
 ghost use Rattle.rb_core.specs.declared.types.Ty.TheVariants.{Named};
 ghost use Rattle.rb_layout.specs.Positions.{layout_of, leaves_of_layout, opens_below, opens_of};
 ghost use Rattle.rb_rel.specs.Switches.{is_leaf_for};
-ghost use Rattle.rb_fetch.specs.inner.Choosing.{HasLeaves, HasOpens, HasRootCon, HasType, IsPartIn, parts_from, parts_under};
+ghost use Rattle.rb_fetch.specs.inner.Choosing.{HasLeaves, HasOpens, HasRootCon, PartHasType, IsPartIn, parts_from, parts_under};
 ghost use Rattle.rb_fetch.specs.inner.Heads.{leaves_for};
 
 use crate::heads::{field_path, leaf_at};
@@ -173,7 +173,7 @@ pub(crate) fn words_at(
 // Looks whether there is one of `parts` at the position `path`, and the first one there is of this
 // type. That is always so; want of memory is the answer where it is not.
 fn find_part(parts: &[Subvalue], path: &[u32], ty: Ty) -> Result<(), AllocError>
-    ensures { OnOk result (HasType parts.now path.now ty) }
+    ensures { OnOk result (PartHasType parts.now path.now ty) }
 {
     for part in parts {
         if same_path(part.path.as_slice(), path) {

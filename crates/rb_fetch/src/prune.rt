@@ -5,7 +5,7 @@
 //! tree has groups in place of leaves.
 
 ghost use Rattle.std.specs.Prelude.{◌≡◌, IfOk, map};
-ghost use Rattle.rb_fetch.specs.Pruning.{few_of, group_at, group_of, is_group, joined_of, kept_of, lead_all, leads_else, leaf_for, live_arms, pruned_of, Prunes, shared_group};
+ghost use Rattle.rb_fetch.specs.Pruning.{few_of, group_at, group_of, is_group, joined_of, pruned_split, lead_all, leads_else, leaf_for, live_arms, pruned_of, Prunes, shared_group};
 ghost use Rattle.rb_fetch.specs.inner.Pruning.{pruned_under};
 
 use rb_core::boxed::Boxed;
@@ -110,7 +110,7 @@ fn kept(
     arms: Seq<FlatArm>,
     other: Option<FlatTree>,
 ) -> Result<Option<FlatTree>, AllocError>
-    ensures { IfOk result (λ r. r ≡ kept_of loc.now arms other) }
+    ensures { IfOk result (λ r. r ≡ pruned_split loc.now arms other) }
 {
     match other {
         None => few(alloc, loc, arms),

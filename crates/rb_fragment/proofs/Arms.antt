@@ -17,12 +17,12 @@ use Rattle.rb_fragment.proofs.Holds.{AllBelow-more}
 use Rattle.rb_fragment.proofs.Laying.{does_later, does_map}
 use Rattle.rb_fragment.proofs.Moves.{copied-kept, copies_run, joining_adds, joining_length, one-below, one-from, slots_at-copied, slots_from-above, slots_from-below, slots_from-distinct, slots_from-from, slots_from-has, slots_from-length, stands_from}
 use Rattle.rb_fragment.specs.Adding.{Adds}
-use Rattle.rb_fragment.specs.Arms.{AreShared, Arm, IsJoin, JoinedIs, shared_held, shared_sheet}
+use Rattle.rb_fragment.specs.Arms.{AreShared, CodeArm, IsJoin, JoinedIs, shared_held, shared_sheet}
 use Rattle.rb_fragment.specs.Fragments.{Comes, Emits}
 use Rattle.rb_fragment.specs.Holding.{AreGiven, Holds, IsOfLocal}
 use Rattle.rb_fragment.specs.Owing.{Does}
-use Rattle.rb_fragment.specs.Pieces.{AtEnd, IsLater, Piece}
-use Rattle.rb_fragment.specs.Plan.{Plan, Rep, words_of}
+use Rattle.rb_fragment.specs.Pieces.{AtEnd, IsLater, CodePiece}
+use Rattle.rb_fragment.specs.Plan.{Plan, Rep, words_needed}
 use Rattle.rb_fragment.specs.Slots.{AllBelow, AllFrom, SlotsAreApart, IsDistinct, IsOneOf, CodeStands, copied, copies, joining, slots_from}
 use Rattle.rb_fragment.specs.declared.held.Held.{Held}
 use Rattle.rb_fragment.specs.declared.held.Joined.{Joined}
@@ -37,9 +37,9 @@ local-below plan n (l ∷ ls) x given (inr h) = local-below plan n ls x given.2 
 
 -- An arm: its variables, with their switches, its body, and its value where all arms leave it.
 module _ (plan : Plan) (clean : Bool) (calls : Calls) (n : ℕ) (t : Ty) (a b c : Sheet) (inner : List Local) (ys : List ℕ) (Pre : List ℕ → Memory → Type 0) (env : List Binding) (eb : Calls → ℕ → List Binding → Outcome) (extra : ℕ)
-    (m : ℕ) (into : List ℕ) (room_into : c.slots ≤ m) (from : AllFrom n into) (below : AllBelow m into) (distinct : IsDistinct into) (count : length into ≡ words_of plan t)
+    (m : ℕ) (into : List ℕ) (room_into : c.slots ≤ m) (from : AllFrom n into) (below : AllBelow m into) (distinct : IsDistinct into) (count : length into ≡ words_needed plan t)
     (new : (s : ℕ) → c.slots ≤ s → s < m → IsOneOf s into)
-    (bind : Piece plan n a b Nowhere extra Pre (AtEnd b (λ s m. Holds plan clean s m inner env)))
+    (bind : CodePiece plan n a b Nowhere extra Pre (AtEnd b (λ s m. Holds plan clean s m inner env)))
     (body : Emits plan eb inner b c t ys)
     (apart : SlotsAreApart into ys) where
   abbrev wide : Sheet
@@ -57,7 +57,7 @@ module _ (plan : Plan) (clean : Bool) (calls : Calls) (n : ℕ) (t : Ty) (a b c 
   same_words : length into ≡ length ys
   same_words = count ∙ sym body.count
 
-  pub arm : Arm plan clean calls n a whole join extra Pre (λ left. eb calls left env) t into
+  pub arm : CodeArm plan clean calls n a whole join extra Pre (λ left. eb calls left env) t into
   arm = record {
     adds = Adds-trans plan a c whole (Adds-trans plan a b c bind.adds body.adds) (joining_adds plan c m into ys room_into below ys_low same_words new);
     runs = λ final callee next law rel agrees s w room good pre.
@@ -143,15 +143,15 @@ arm_join into held c d r j =
 module _ (plan : Plan) (t : Ty) (n : ℕ) (a b q d : Sheet) (inner : List Local) (hy : Held) (r : Joined) (eb : Calls → ℕ → List Binding → Outcome) (extra : ℕ) (below_a : n ≤ a.slots) (ab : Adds plan a b)
     (body : Emits plan eb inner b q t hy.slots)
     (outside : (x : ℕ) → IsOneOf x hy.slots → (x < n) ⊎ (a.slots ≤ x))
-    (Case : Type 0) (clean : Case → Bool) (env : Case → List Binding) (Pre : Case → List ℕ → Memory → Type 0) (bind : (i : Case) → Piece plan n a b Nowhere extra (Pre i) (AtEnd b (λ s m. Holds plan (clean i) s m inner (env i)))) where
+    (Case : Type 0) (clean : Case → Bool) (env : Case → List Binding) (Pre : Case → List ℕ → Memory → Type 0) (bind : (i : Case) → CodePiece plan n a b Nowhere extra (Pre i) (AtEnd b (λ s m. Holds plan (clean i) s m inner (env i)))) where
   -- what is known of the shared slots, and what the arm does in each case
   pub record IsArm : Type 0 where
     pub adds : Adds plan a d
-    pub shared : AreShared n d.slots (words_of plan t) r.into.slots
-    pub does : (calls : Calls) (i : Case) → Arm plan (clean i) calls n a d r.join.pc extra (Pre i) (λ left. eb calls left (env i)) t r.into.slots
+    pub shared : AreShared n d.slots (words_needed plan t) r.into.slots
+    pub does : (calls : Calls) (i : Case) → CodeArm plan (clean i) calls n a d r.join.pc extra (Pre i) (λ left. eb calls left (env i)) t r.into.slots
 
   done : (m : ℕ) → d ≡ joining (record q { slots = m }) r.into.slots hy.slots → r.join.pc ≡ length q.code + length (copies r.into.slots hy.slots) → q.slots ≤ m
-      → AreShared n m (words_of plan t) r.into.slots → ((x : ℕ) → q.slots ≤ x → x < m → IsOneOf x r.into.slots) → SlotsAreApart r.into.slots hy.slots → IsArm
+      → AreShared n m (words_needed plan t) r.into.slots → ((x : ℕ) → q.slots ≤ x → x < m → IsOneOf x r.into.slots) → SlotsAreApart r.into.slots hy.slots → IsArm
   done m code join room sh new apart =
       let zs = r.into.slots in
       let w = joining (record q { slots = m }) zs hy.slots in
@@ -161,8 +161,8 @@ module _ (plan : Plan) (t : Ty) (n : ℕ) (a b q d : Sheet) (inner : List Local)
         adds = subst (λ (k : Sheet). Adds plan a k) (sym code) adds0;
         shared = record { from = sh.from; below = subst (λ (k : Sheet). AllBelow k.slots zs) (sym code) sh.below; distinct = sh.distinct; count = sh.count };
         does = λ calls i.
-            subst (λ (k : Sheet). Arm plan (clean i) calls n a k r.join.pc extra (Pre i) (λ left. eb calls left (env i)) t zs) (sym code)
-            (subst (λ k. Arm plan (clean i) calls n a w k extra (Pre i) (λ left. eb calls left (env i)) t zs) (sym join)
+            subst (λ (k : Sheet). CodeArm plan (clean i) calls n a k r.join.pc extra (Pre i) (λ left. eb calls left (env i)) t zs) (sym code)
+            (subst (λ k. CodeArm plan (clean i) calls n a w k extra (Pre i) (λ left. eb calls left (env i)) t zs) (sym join)
             (arm plan (clean i) calls n t a b q inner hy.slots (Pre i) (env i) eb extra m zs room sh.from sh.below sh.distinct sh.count new (bind i) body apart));
       }
 
@@ -183,7 +183,7 @@ module _ (plan : Plan) (t : Ty) (n : ℕ) (a b q d : Sheet) (inner : List Local)
       (λ x i y. let le = slots_from-above q.slots k x (subst (λ l. IsOneOf x l) slots i) in let lt = one-below q.slots x hy.slots body.given y in absurd (omega (arith, le, lt)))
 
   -- a later one: they are those of the arms before it
-  pub arm_later : (h : Held) → AreShared n a.slots (words_of plan t) h.slots → JoinedIs (Some h) hy q d r → IsArm
+  pub arm_later : (h : Held) → AreShared n a.slots (words_needed plan t) h.slots → JoinedIs (Some h) hy q d r → IsArm
   arm_later h sh j =
       let slots : r.into.slots ≡ h.slots = ap (λ (k : Held). k.slots) j.shared in
       let up : a.slots ≤ q.slots = omega (arith, ab.more, body.adds.more) in

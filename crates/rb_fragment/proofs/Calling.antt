@@ -10,7 +10,7 @@ use Rattle.rb_core.specs.declared.program.Fun.{Fun}
 use Rattle.rb_bytes.specs.Memory.{Memory}
 use Rattle.rb_target.specs.declared.instr.Instr.{Instr}
 use Rattle.rb_target.specs.declared.instr.Instr.TheVariants.{Call}
-use Rattle.rb_target.specs.Meaning.{World, Outcome as Run, taken, after_call, slots_at, put_slots}
+use Rattle.rb_target.specs.Meaning.{World, CallEnd as Run, taken, after_call, slots_at, put_slots}
 use Rattle.rb_target.specs.Sheet.{Sheet}
 use Rattle.rb_fragment.proofs.Holds.{AllBelow-more}
 use Rattle.rb_fragment.proofs.Moves.{below-all, put_gives, put_kept, slots_from-above, slots_from-below, slots_from-contain, slots_from-length}
@@ -19,7 +19,7 @@ use Rattle.rb_fragment.specs.Adding.{Adds, IsFitting}
 use Rattle.rb_fragment.specs.Fragments.{AnyValues, Applies, Comes, calling}
 use Rattle.rb_fragment.specs.Holding.{AllGiven, AreHeld, all_slots, held_type}
 use Rattle.rb_fragment.specs.Owing.{Ends, GivesValue}
-use Rattle.rb_fragment.specs.Plan.{Plan, Rep, Reps, types_of, words_in, words_of}
+use Rattle.rb_fragment.specs.Plan.{Plan, Rep, Reps, types_of, words_needed_by, words_needed}
 use Rattle.rb_fragment.specs.Slots.{AllBelow, slots_from}
 use Rattle.rb_fragment.specs.declared.held.Held.{Held}
 use Rattle.rb_rel.specs.Placing.{Fits, Laid, Over}
@@ -35,7 +35,7 @@ all_slots-below plan n (h ∷ hs) g = append-below h.slots (all_slots hs) g.0 (a
     append-below [] ys a b = b
     append-below (x ∷ xs) ys a b = (a.0, append-below xs ys a.1 b)
 
-all_slots-length : (plan : Plan) (n : ℕ) (hs : List Held) → AllGiven plan n hs → length (all_slots hs) ≡ words_in plan (map held_type hs)
+all_slots-length : (plan : Plan) (n : ℕ) (hs : List Held) → AllGiven plan n hs → length (all_slots hs) ≡ words_needed_by plan (map held_type hs)
 all_slots-length plan n [] g = refl
 all_slots-length plan n (h ∷ hs) g = let r = all_slots-length plan n hs g.2 in omega (arith, length-append h.slots (all_slots hs), g.1, r)
 
@@ -57,7 +57,7 @@ call_ends most back out go Ok1 Ok m eq f (Fits bs p) (Done v left) h = (h.0, h.1
 
 module _ (plan : Plan) (a : Sheet) (g : ℕ) (f : Fun) (hs : List Held) (is : slice_get plan.program.funs g ≡ Some f) (kinds : map held_type hs ≡ types_of f) (given : AllGiven plan a.slots hs) where
   abbrev k : ℕ
-  k = words_of plan f.result
+  k = words_needed plan f.result
 
   abbrev ds : List ℕ
   ds = slots_from a.slots k
@@ -76,7 +76,7 @@ module _ (plan : Plan) (a : Sheet) (g : ℕ) (f : Fun) (hs : List Held) (is : sl
     bounded = tt;
     slots_fit = (below-all after.slots ds (slots_from-below a.slots k after.slots (omega arith)), below-all after.slots froms (AllBelow-more a.slots after.slots froms (omega arith) (all_slots-below plan a.slots hs given)));
     targets = tt;
-    calls = (f, is, slots_from-length a.slots k, all_slots-length plan a.slots hs given ∙ ap (words_in plan) kinds);
+    calls = (f, is, slots_from-length a.slots k, all_slots-length plan a.slots hs given ∙ ap (words_needed_by plan) kinds);
   }
 
   adds : Adds plan a after

@@ -12,7 +12,7 @@ use Rattle.rb_fragment.specs.Arms.{AreOfOneWay, closed}
 use Rattle.rb_target.proofs.Finishing.{finishes_patched, finishes_plain, leads_patched}
 use Rattle.rb_target.proofs.Shapes.{patch_is}
 use Rattle.rb_target.specs.Growth.{AgreesBut, Nowhere}
-use Rattle.rb_target.specs.Targets.{Finishes, IsIn, IsOpen, target_in}
+use Rattle.rb_target.specs.Targets.{Finishes, IsHoleAmong, IsOpenTarget, target_in}
 
 -- is this place open?
 same_arm : (a b : Option ℕ) → (a ≡ b) ⊎ (a ≡ b → ⊥)
@@ -21,30 +21,30 @@ same_arm None (Some k) = inr (λ e. cc e)
 same_arm (Some k) None = inr (λ e. cc e)
 same_arm (Some j) (Some k) = elim (eqb_tells j k) [ inl e ↦ inl (ap Some e.1) | inr e ↦ inr (λ s. e.1 (same_Some j k s)) ]
 
-in_head : (h : Hole) (hs : List Hole) (o : Hole) → IsIn o (h ∷ hs) → (h ≡ o) ⊎ IsIn o hs
+in_head : (h : Hole) (hs : List Hole) (o : Hole) → IsHoleAmong o (h ∷ hs) → (h ≡ o) ⊎ IsHoleAmong o hs
 in_head h hs o (zero, e) = inl (same_Some h o e)
 in_head h hs o (suc k, e) = inr (k, e)
 
-in_tail : (h : Hole) (hs : List Hole) (o : Hole) → IsIn o hs → IsIn o (h ∷ hs)
+in_tail : (h : Hole) (hs : List Hole) (o : Hole) → IsHoleAmong o hs → IsHoleAmong o (h ∷ hs)
 in_tail h hs o (k, e) = (suc k, e)
 
-in_none : (o : Hole) → IsIn o [] → ⊥
+in_none : (o : Hole) → IsHoleAmong o [] → ⊥
 in_none o (k, e) = cc e
 
-pub is_open : (hs : List Hole) (q : ℕ) (arm : Option ℕ) → IsOpen hs q arm ⊎ (IsOpen hs q arm → ⊥)
+pub is_open : (hs : List Hole) (q : ℕ) (arm : Option ℕ) → IsOpenTarget hs q arm ⊎ (IsOpenTarget hs q arm → ⊥)
 is_open [] q arm = inr (λ o. in_none o.0 o.1)
 is_open (h ∷ hs) q arm = elim (is_open hs q arm) [
   | inl o ↦ inl (o.0, in_tail h hs o.0 o.1, o.2, o.3)
   | inr shut ↦ here shut (eqb_tells h.pc q) (same_arm h.arm arm)
 ]
   where
-    rest : (IsOpen hs q arm → ⊥) → ((h.pc ≡ q) × (h.arm ≡ arm) → ⊥) → IsOpen (h ∷ hs) q arm → ⊥
+    rest : (IsOpenTarget hs q arm → ⊥) → ((h.pc ≡ q) × (h.arm ≡ arm) → ⊥) → IsOpenTarget (h ∷ hs) q arm → ⊥
     rest shut ne o = elim (in_head h hs o.0 o.1) [
       | inl is ↦ ne (ap (λ (x : Hole). x.pc) is ∙ o.2, ap (λ (x : Hole). x.arm) is ∙ o.3)
       | inr i ↦ shut (o.0, i, o.2, o.3)
     ]
 
-    here : (IsOpen hs q arm → ⊥) → ((eqb h.pc q ≡ true) × (h.pc ≡ q)) ⊎ ((eqb h.pc q ≡ false) × (h.pc ≢ q)) → (h.arm ≡ arm) ⊎ (h.arm ≡ arm → ⊥) → IsOpen (h ∷ hs) q arm ⊎ (IsOpen (h ∷ hs) q arm → ⊥)
+    here : (IsOpenTarget hs q arm → ⊥) → ((eqb h.pc q ≡ true) × (h.pc ≡ q)) ⊎ ((eqb h.pc q ≡ false) × (h.pc ≢ q)) → (h.arm ≡ arm) ⊎ (h.arm ≡ arm → ⊥) → IsOpenTarget (h ∷ hs) q arm ⊎ (IsOpenTarget (h ∷ hs) q arm → ⊥)
     here shut (inl e) (inl a) = inl (h, (0, refl), e.1, a)
     here shut (inl e) (inr ne) = inr (rest shut (λ s. ne s.1))
     here shut (inr ne) a = inr (rest shut (λ s. ne.1 s.0))
@@ -52,7 +52,7 @@ is_open (h ∷ hs) q arm = elim (is_open hs q arm) [
 -- code whose holes are closed: what it is without them, and where each leads
 pub record IsClosed (final : List Instr) (b : Sheet) (hs : List Hole) (ts : List ℕ) (lo hi : ℕ) : Type 0 where
   pub finishes : Finishes final b.code hs lo hi
-  pub leads : (h : Hole) → IsIn h hs → lo ≤ h.pc → h.pc < hi → target_in (slice_get final h.pc) h.arm ≡ Some (slice_index ts h.leaf)
+  pub leads : (h : Hole) → IsHoleAmong h hs → lo ≤ h.pc → h.pc < hi → target_in (slice_get final h.pc) h.arm ≡ Some (slice_index ts h.leaf)
 
 pub closed_is : (final : List Instr) (hs : List Hole) (ts : List ℕ) (b : Sheet) (lo hi : ℕ) → AgreesBut final (closed b hs ts).code lo hi Nowhere → AreAllHoles b.code hs → AreOfOneWay hs → IsClosed final b hs ts lo hi
 closed_is final [] ts b lo hi agrees holes one = record { finishes = finishes_plain final b.code [] lo hi agrees; leads = λ h i. absurd (in_none h i) }

@@ -24,8 +24,8 @@ use Rattle.rb_fragment.proofs.Represented.{Rep-count}
 use Rattle.rb_fragment.specs.Adding.{CallsWell}
 use Rattle.rb_fragment.specs.Functions.{AllCompile, HasShapes, RunsDo, param_locals}
 use Rattle.rb_fragment.specs.Holding.{AreGiven, Holds, scope_of}
-use Rattle.rb_fragment.specs.Owing.{Does, GivesValue, Related}
-use Rattle.rb_fragment.specs.Plan.{Plan, Rep, Reps, types_of, words_in, words_of}
+use Rattle.rb_fragment.specs.Owing.{Does, GivesValue, CallsAgree}
+use Rattle.rb_fragment.specs.Plan.{Plan, Rep, Reps, types_of, words_needed_by, words_needed}
 use Rattle.rb_fragment.specs.Slots.{slots_from}
 use Rattle.rb_target.specs.Meaning.{body_of}
 
@@ -50,29 +50,29 @@ module _ (plan : Plan) where
   params_hold clean m (p ∷ ps) [] ws pre zs a e r = absurd r
   params_hold clean m (p ∷ ps) (v ∷ vs) ws pre zs a e r =
       let first = r.0 in let rest = r.1 in
-      let count : length first ≡ words_of plan p.ty = Rep-count plan clean m r.3 in
+      let count : length first ≡ words_needed plan p.ty = Rep-count plan clean m r.3 in
       let s = pre ++ (first ++ (rest ++ zs)) in
       let whole : pre ++ (ws ++ zs) ≡ s = ap (λ l. pre ++ (l ++ zs)) r.2 ∙ ap (λ l. pre ++ l) (append_assoc first rest zs) in
-      let words : slots_at s (slots_from a (words_of plan p.ty)) ≡ first = ap (λ n. slots_at s (slots_from a n)) (sym count) ∙ row_is first pre (rest ++ zs) a e in
-      let len : length (pre ++ first) ≡ a + words_of plan p.ty = omega (arith, e, count, length-append pre first) in
-      let others = params_hold clean m ps vs rest (pre ++ first) zs (a + words_of plan p.ty) len r.4 in
+      let words : slots_at s (slots_from a (words_needed plan p.ty)) ≡ first = ap (λ n. slots_at s (slots_from a n)) (sym count) ∙ row_is first pre (rest ++ zs) a e in
+      let len : length (pre ++ first) ≡ a + words_needed plan p.ty = omega (arith, e, count, length-append pre first) in
+      let others = params_hold clean m ps vs rest (pre ++ first) zs (a + words_needed plan p.ty) len r.4 in
       subst (λ l. Holds plan clean l m (param_locals plan a (p ∷ ps)) (argument_bindings (p ∷ ps) (v ∷ vs))) (sym whole) (
         refl,
         subst (λ us. Rep plan m clean p.ty v us) (sym words) r.3,
-        subst (λ l. Holds plan clean l m (param_locals plan (a + words_of plan p.ty) ps) (argument_bindings ps vs)) (append_assoc pre first (rest ++ zs)) others,
+        subst (λ l. Holds plan clean l m (param_locals plan (a + words_needed plan p.ty) ps) (argument_bindings ps vs)) (append_assoc pre first (rest ++ zs)) others,
       )
 
-  pub params_given : (a n : ℕ) (ps : List Param) → a + words_in plan (map (λ p. p.ty) ps) ≤ n → AreGiven plan n (param_locals plan a ps)
+  pub params_given : (a n : ℕ) (ps : List Param) → a + words_needed_by plan (map (λ p. p.ty) ps) ≤ n → AreGiven plan n (param_locals plan a ps)
   params_given a n [] le = tt
   params_given a n (p ∷ ps) le = (
-    slots_from-below a (words_of plan p.ty) n (omega (arith, le)),
-    slots_from-length a (words_of plan p.ty),
-    params_given (a + words_of plan p.ty) n ps (omega (arith, le)),
+    slots_from-below a (words_needed plan p.ty) n (omega (arith, le)),
+    slots_from-length a (words_needed plan p.ty),
+    params_given (a + words_needed plan p.ty) n ps (omega (arith, le)),
   )
 
   pub params_scope : (a : ℕ) (ps : List Param) → scope_of (param_locals plan a ps) ≡ map binder_of ps
   params_scope a [] = refl
-  params_scope a (p ∷ ps) = ap (λ (l : List Binder). binder_of p ∷ l) (params_scope (a + words_of plan p.ty) ps)
+  params_scope a (p ∷ ps) = ap (λ (l : List Binder). binder_of p ∷ l) (params_scope (a + words_needed plan p.ty) ps)
 
 -- Calls by instructions
 
@@ -96,7 +96,7 @@ calls_fit plan funs results shapes (Switch a other arms) h = tt
 
 module _ (plan : Plan) (funs : List CodeFun) (lawful : IsLawful funs) (all : AllCompile plan funs) where
   -- a call with one call less
-  inside : (k : ℕ) → Related plan (call_within plan.program k) (enter funs k) → (clean : Bool) (g : ℕ) (f : Fun) (vs : List Value) (ws : List ℕ) (v : World) → slice_get plan.program.funs g ≡ Some f → IsGood v.memory
+  inside : (k : ℕ) → CallsAgree plan (call_within plan.program k) (enter funs k) → (clean : Bool) (g : ℕ) (f : Fun) (vs : List Value) (ws : List ℕ) (v : World) → slice_get plan.program.funs g ≡ Some f → IsGood v.memory
       → Reps plan v.memory clean (types_of f) vs ws
       → Does plan v.switches (from (M.body_of funs g) (enter funs k) 0 (first_slots funs g ws) v) v.memory (Source.body_outcome plan.program (call_within plan.program k) (slice_get plan.program.funs g) g v.left vs)
       (GivesValue plan clean f.result (from (M.body_of funs g) (enter funs k) 0 (first_slots funs g ws) v))
@@ -110,7 +110,7 @@ module _ (plan : Plan) (funs : List CodeFun) (lawful : IsLawful funs) (all : All
       subst (λ o. Does plan v.switches (out (M.body_of funs g) (slots_in (slice_get funs g))) v.memory (Source.body_outcome plan.program (call_within plan.program k) o g v.left vs) (GivesValue plan clean f.result (out (M.body_of funs g) (slots_in (slice_get funs g))))) (sym is)
       (subst (λ r. Does plan v.switches r v.memory (Source.body_outcome plan.program (call_within plan.program k) (Some f) g v.left vs) (GivesValue plan clean f.result r)) (sym same) d)
 
-  at_depth : (k : ℕ) → Related plan (call_within plan.program k) (enter funs k) → (clean : Bool) (g : ℕ) (f : Fun) (vs : List Value) (ws : List ℕ) (w : World) → slice_get plan.program.funs g ≡ Some f → IsGood w.memory
+  at_depth : (k : ℕ) → CallsAgree plan (call_within plan.program k) (enter funs k) → (clean : Bool) (g : ℕ) (f : Fun) (vs : List Value) (ws : List ℕ) (w : World) → slice_get plan.program.funs g ≡ Some f → IsGood w.memory
       → Reps plan w.memory clean (types_of f) vs ws → (left : ℕ)
       → Does plan w.switches (after_one_call left w (λ v. from (M.body_of funs g) (enter funs k) 0 (first_slots funs g ws) v)) w.memory (call_within plan.program (suc k) g left vs)
       (GivesValue plan clean f.result (after_one_call left w (λ v. from (M.body_of funs g) (enter funs k) 0 (first_slots funs g ws) v)))
@@ -121,7 +121,7 @@ module _ (plan : Plan) (funs : List CodeFun) (lawful : IsLawful funs) (all : All
   at_zero g t clean vs w zero = (w, refl, omega arith)
   at_zero g t clean vs w (suc left) = (w, refl, omega arith)
 
-  pub related : (k : ℕ) → Related plan (call_within plan.program k) (enter funs k)
+  pub related : (k : ℕ) → CallsAgree plan (call_within plan.program k) (enter funs k)
   unfolding enter
   related zero = λ clean g f vs ws w is good reps. at_zero g f.result clean vs w w.left
   related (suc k) = λ clean g f vs ws w is good reps. at_depth k (related k) clean g f vs ws w is good reps w.left

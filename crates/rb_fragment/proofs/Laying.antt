@@ -7,7 +7,7 @@ use Rattle.rb_core.specs.declared.outcome.SourceEnd.TheVariants.{Done, Spent as 
 use Rattle.rb_core.specs.declared.outcome.Outcome.{Outcome}
 use Rattle.rb_core.specs.Meaning.{after, at_end, then_do, done}
 use Rattle.rb_bytes.specs.Memory.{Memory, IsGood, aligned}
-use Rattle.rb_target.specs.Meaning.{World, Outcome as Run, over}
+use Rattle.rb_target.specs.Meaning.{World, CallEnd as Run, over}
 use Rattle.rb_target.specs.declared.outcome.End.TheVariants.{Full as Filled}
 use Rattle.rb_bytes.specs.declared.fault.Full.{Full as Unplaced}
 use Rattle.std.proofs.lemmas.List.{append-nil}
@@ -15,7 +15,7 @@ use Rattle.rb_bytes.proofs.GrowthLemmas.{Grown-refl, Grown-trans}
 use Rattle.rb_bytes.specs.Growth.{Grown}
 use Rattle.rb_fragment.specs.Owing.{Does, Ends}
 use Rattle.rb_fragment.specs.Plan.{cost_at, Plan, cost_of}
-use Rattle.rb_rel.specs.Placing.{Fits, Laid, Over, Request, behind, lay, requests_at, requests_of}
+use Rattle.rb_rel.specs.Placing.{Fits, Laid, Over, Request, block_before, lay, requests_at, requests_of}
 
 abbrev pub all_behind : List (ℕ × ℕ) → Laid → Laid
 all_behind bs (Fits cs p) = Fits (bs ++ cs) p
@@ -29,11 +29,11 @@ behind_none : (l : Laid) → l ≡ all_behind [] l
 behind_none (Fits bs p) = refl
 behind_none (Over r) = refl
 
-behind_twice : (x : ℕ × ℕ) (bs : List (ℕ × ℕ)) (l : Laid) → behind x (all_behind bs l) ≡ all_behind (x ∷ bs) l
+behind_twice : (x : ℕ × ℕ) (bs : List (ℕ × ℕ)) (l : Laid) → block_before x (all_behind bs l) ≡ all_behind (x ∷ bs) l
 behind_twice x bs (Fits cs p) = refl
 behind_twice x bs (Over r) = refl
 
-behind_then : (limit : ℕ) (x : ℕ × ℕ) (l : Laid) (qs : List Request) → behind x (then_lay limit l qs) ≡ then_lay limit (behind x l) qs
+behind_then : (limit : ℕ) (x : ℕ × ℕ) (l : Laid) (qs : List Request) → block_before x (then_lay limit l qs) ≡ then_lay limit (block_before x l) qs
 behind_then limit x (Fits bs p) qs = behind_twice x bs (lay limit p qs)
 behind_then limit x (Over r) qs = refl
 
@@ -43,9 +43,9 @@ lay-append limit p [] rs = behind_none (lay limit p rs)
 lay-append limit p (q ∷ qs) rs =
     let at = aligned p q.align in
     let no : Laid = Over (record { next = p; size = q.size; align = q.align; limit = limit }) in
-    let P : Bool → Type 0 = λ t. cond t (behind (at, q.size) (lay limit (at + q.size) (qs ++ rs))) no ≡ then_lay limit (cond t (behind (at, q.size) (lay limit (at + q.size) qs)) no) rs in
+    let P : Bool → Type 0 = λ t. cond t (block_before (at, q.size) (lay limit (at + q.size) (qs ++ rs))) no ≡ then_lay limit (cond t (block_before (at, q.size) (lay limit (at + q.size) qs)) no) rs in
     elim (leb (at + q.size) limit) as P [
-      | true ↦ ap (λ l. behind (at, q.size) l) (lay-append limit (at + q.size) qs rs) ∙ behind_then limit (at, q.size) (lay limit (at + q.size) qs) rs
+      | true ↦ ap (λ l. block_before (at, q.size) l) (lay-append limit (at + q.size) qs rs) ∙ behind_then limit (at, q.size) (lay limit (at + q.size) qs) rs
       | false ↦ refl
     ]
 

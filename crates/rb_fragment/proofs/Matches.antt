@@ -20,15 +20,15 @@ use Rattle.rb_fragment.proofs.Laying.{does_later, does_map}
 use Rattle.rb_fragment.proofs.Patching.{AreClosable, adds_closed, all_holes_closed, all_holes_grow, all_holes_of, all_joins_holes, at_closed, closed_hole, closed_length, closed_slots, from_at, hole_from, hole_within, join_at, join_closed, join_from, jump_hole, retarget_all, retarget_none}
 use Rattle.rb_fragment.proofs.Pieces.{does_event, jumps, reached_does}
 use Rattle.rb_fragment.specs.Adding.{Adds}
-use Rattle.rb_fragment.specs.Arms.{AreHoles, AreJoins, AreOfOneWay, ArePatchable, Arm, ArmIn, ArmsAre, ArmsIn, HasHole, IsJoin, closed, whole_match}
+use Rattle.rb_fragment.specs.Arms.{AreHoles, AreJoins, AreOfOneWay, ArePatchable, CodeArm, ArmIn, ArmsAre, ArmsIn, HasHole, IsJoin, closed, whole_match}
 use Rattle.rb_fragment.specs.Fragments.{Comes, Fragment}
-use Rattle.rb_fragment.specs.Owing.{Does, Related}
+use Rattle.rb_fragment.specs.Owing.{Does, CallsAgree}
 use Rattle.rb_fragment.specs.Pieces.{Branches, ReachesExit}
 use Rattle.rb_fragment.specs.Plan.{Plan}
 use Rattle.rb_fragment.specs.Slots.{AllBelow, AllFrom}
 use Rattle.rb_target.proofs.Growing.{Grows-refl, Grows-trans, Keeps-trans, below_or}
 use Rattle.rb_target.specs.Growth.{AgreesBut, Grows, Nowhere}
-use Rattle.rb_target.specs.Targets.{IsIn}
+use Rattle.rb_target.specs.Targets.{IsHoleAmong}
 
 -- The arms
 
@@ -248,7 +248,7 @@ module _ (plan : Plan) (n most count : ℕ) (b e q : Sheet) (holes joins : List 
         let same : r.target ≡ slice_index starts k = same_Some r.target (slice_index starts k) (sym r.is_target ∙ to ∙ ap (λ i. Some (slice_index starts i)) r.is_way) in
         (r.target, r.slots, r.world, r.runs, r.keeps, r.later, (same, r.exit))
       where
-        one_hole : (h : Hole) (hs : List Hole) → IsIn h hs → AreHoles (length b.code) count e.code hs → (length b.code ≤ h.pc) × (h.pc < length e.code)
+        one_hole : (h : Hole) (hs : List Hole) → IsHoleAmong h hs → AreHoles (length b.code) count e.code hs → (length b.code ≤ h.pc) × (h.pc < length e.code)
         one_hole h [] (k, at) a = cc at
         one_hole h (x ∷ hs) (zero, at) a =
             let is : x ≡ h = same_Some x h at in
@@ -257,8 +257,8 @@ module _ (plan : Plan) (n most count : ℕ) (b e q : Sheet) (holes joins : List 
         one_hole h (x ∷ hs) (suc k, at) a = one_hole h hs (k, at) a.3
 
   -- from the end of b the run does what the way that is taken does, and comes to behind all
-  module _ (clean : Bool) (calls : Calls) (o : ℕ → ℕ → Outcome) (t : Ty) (into : List ℕ) (extra : ℕ → ℕ) (stand : ArmsIn count e q joins starts (λ k a d join. Arm plan clean calls n a d join (extra k) (Mid k) (o k) t into)) where
-    pub match_does : (final : List Instr) (callee : Callee) (next : Next) → Law final callee next → Related plan calls callee → AgreesBut final whole.code (length b.code) (length whole.code) Nowhere
+  module _ (clean : Bool) (calls : Calls) (o : ℕ → ℕ → Outcome) (t : Ty) (into : List ℕ) (extra : ℕ → ℕ) (stand : ArmsIn count e q joins starts (λ k a d join. CodeArm plan clean calls n a d join (extra k) (Mid k) (o k) t into)) where
+    pub match_does : (final : List Instr) (callee : Callee) (next : Next) → Law final callee next → CallsAgree plan calls callee → AgreesBut final whole.code (length b.code) (length whole.code) Nowhere
         → (s : List ℕ) (w : World) (k : ℕ) → k < count → whole.slots ≤ length s → IsGood w.memory → Pre k s w.memory
         → Does plan (w.switches + (most + extra k)) (next (length b.code) s w) w.memory (o k w.left) (Comes plan clean (next (length b.code) s w) next (length whole.code) n t into s)
     match_does final callee next law rel agrees s w k lt room good pre =
@@ -273,7 +273,7 @@ module _ (plan : Plan) (n most count : ℕ) (b e q : Sheet) (holes joins : List 
         let Ok1 = Comes plan clean out1 next x.join n t into r.1 in
         let Ok2 = Comes plan clean out1 next (length q.code) n t into r.1 in
         let d1 : Does plan (r.2.switches + extra k) out1 r.2.memory ok Ok1 =
-        x.does.runs final callee next law rel (of_arm final callee next law agrees (slice_index starts k) (λ a d join. Arm plan clean calls n a d join (extra k) (Mid k) (o k) t into) x) r.1 r.2 long_d good1 mid1 in
+        x.does.runs final callee next law rel (of_arm final callee next law agrees (slice_index starts k) (λ a d join. CodeArm plan clean calls n a d join (extra k) (Mid k) (o k) t into) x) r.1 r.2 long_d good1 mid1 in
         let d2 : Does plan (r.2.switches + extra k) out1 r.2.memory ok Ok2 = does_later plan (r.2.switches + extra k) out1 Ok2 Ok1 r.2.memory ok
         (λ u w' y. (taken w', refl, refl, omega arith, (y.0, y.1 ∙ jumps final callee next law x.join (length q.code) y.0 w' (join_is final callee next law agrees x.join x.jumps), y.2, y.3))) d1 in
         let d3 : Does plan (r.2.switches + extra k) (next r.0 r.1 r.2) r.2.memory ok Ok2 = subst (λ pc. Does plan (r.2.switches + extra k) (next pc r.1 r.2) r.2.memory ok Ok2) (sym to) d2 in

@@ -11,7 +11,7 @@ use Rattle.rb_target.specs.declared.instr.Instr.{Instr}
 use Rattle.rb_target.specs.declared.instr.Instr.TheVariants.{Jump}
 use Rattle.rb_target.specs.declared.body.Hole.{Hole}
 use Rattle.rb_target.specs.Laws.{Law}
-use Rattle.rb_target.specs.Meaning.{World, Outcome as Run, Next, Callee, taken, act}
+use Rattle.rb_target.specs.Meaning.{World, CallEnd as Run, Next, Callee, taken, act}
 use Rattle.rb_target.specs.Sheet.{Sheet, retargeted, patched, pushed, with_slot}
 use Rattle.rb_target.specs.Validity.{dests}
 use Rattle.rb_fragment.proofs.Adding.{Adds-one, Adds-refl, Adds-trans, push_adds}
@@ -20,13 +20,13 @@ use Rattle.rb_fragment.proofs.Patching.{jump_hole, patch_adds}
 use Rattle.rb_fragment.specs.Adding.{Adds, IsFitting}
 use Rattle.rb_fragment.specs.Arms.{IsOpenJump}
 use Rattle.rb_fragment.specs.Owing.{Does, Ends}
-use Rattle.rb_fragment.specs.Pieces.{AtEnd, Branches, IsLater, Piece, ReachesExit, Straight}
+use Rattle.rb_fragment.specs.Pieces.{AtEnd, Branches, IsLater, CodePiece, ReachesExit, Straight}
 use Rattle.rb_fragment.specs.Plan.{Plan, cost_at, cost_of}
 use Rattle.rb_rel.specs.Placing.{lay, requests_at, requests_of}
 use Rattle.rb_target.proofs.Growing.{Agrees-part, Grows-refl, Keeps-refl, Keeps-set, Keeps-trans, get-seam}
 use Rattle.rb_target.proofs.Shapes.{IsPatched, patch_is}
 use Rattle.rb_target.specs.Growth.{AgreesBut, Keeps, Nowhere}
-use Rattle.rb_target.specs.Targets.{Finishes, IsIn}
+use Rattle.rb_target.specs.Targets.{Finishes, IsHoleAmong}
 
 pub later-refl : (w : World) → IsLater 0 w w
 later-refl w = record { memory = refl; left = refl; switches = omega arith }
@@ -52,7 +52,7 @@ does_event plan base out m e o Ok none d =
 module _ (plan : Plan) where
   -- fewer slots kept, more switches, more known before and less after
   pub piece_weaken : (n n' : ℕ) (a b : Sheet) (Open : ℕ → Type 0) (k k' : ℕ) (Pre Pre' : List ℕ → Memory → Type 0) (Exit Exit' : ℕ → List ℕ → Memory → Type 0) → n' ≤ n → k ≤ k'
-      → ((s : List ℕ) (m : Memory) → Pre' s m → Pre s m) → ((pc : ℕ) (s : List ℕ) (m : Memory) → Exit pc s m → Exit' pc s m) → Piece plan n a b Open k Pre Exit → Piece plan n' a b Open k' Pre' Exit'
+      → ((s : List ℕ) (m : Memory) → Pre' s m → Pre s m) → ((pc : ℕ) (s : List ℕ) (m : Memory) → Exit pc s m → Exit' pc s m) → CodePiece plan n a b Open k Pre Exit → CodePiece plan n' a b Open k' Pre' Exit'
   piece_weaken n n' a b Open k k' Pre Pre' Exit Exit' fewer le f g p = record {
     adds = p.adds;
     low = omega (arith, fewer, p.low);
@@ -70,7 +70,7 @@ module _ (plan : Plan) where
 
   -- what is said of kept slots stays
   pub piece_frame : (n : ℕ) (a b : Sheet) (Open : ℕ → Type 0) (k : ℕ) (F Pre : List ℕ → Memory → Type 0) (Exit : ℕ → List ℕ → Memory → Type 0)
-      → ((s s' : List ℕ) (m : Memory) → Keeps n s s' → F s m → F s' m) → Piece plan n a b Open k Pre Exit → Piece plan n a b Open k (λ s m. F s m × Pre s m) (λ pc s m. F s m × Exit pc s m)
+      → ((s s' : List ℕ) (m : Memory) → Keeps n s s' → F s m → F s' m) → CodePiece plan n a b Open k Pre Exit → CodePiece plan n a b Open k (λ s m. F s m × Pre s m) (λ pc s m. F s m × Exit pc s m)
   piece_frame n a b Open k F Pre Exit stays p = record {
     adds = p.adds;
     low = p.low;
@@ -89,10 +89,10 @@ module _ (plan : Plan) where
 
   -- a piece, and another behind it where the first comes to its end
   module _ (n : ℕ) (a b c : Sheet) (O1 O2 : ℕ → Type 0) (k1 k2 : ℕ) (Pre Mid : List ℕ → Memory → Type 0) (Exit1 Exit2 : ℕ → List ℕ → Memory → Type 0)
-      (first : Piece plan n a b O1 k1 Pre Exit1) (second : Piece plan n b c O2 k2 Mid Exit2)
+      (first : CodePiece plan n a b O1 k1 Pre Exit1) (second : CodePiece plan n b c O2 k2 Mid Exit2)
       (opens1 : (pc : ℕ) → O1 pc → pc < length b.code) (opens2 : (pc : ℕ) → O2 pc → length b.code ≤ pc)
       (leads : (pc : ℕ) (s : List ℕ) (m : Memory) → Exit1 pc s m → ((pc ≡ length b.code) × Mid s m) ⊎ Exit2 pc s m) where
-    pub piece_seq : Piece plan n a c (λ pc. O1 pc ⊎ O2 pc) (k1 + k2) Pre Exit2
+    pub piece_seq : CodePiece plan n a c (λ pc. O1 pc ⊎ O2 pc) (k1 + k2) Pre Exit2
     piece_seq = record {
       adds = Adds-trans plan a b c first.adds second.adds;
       low = first.low;
@@ -179,7 +179,7 @@ pub jumps : (final : List Instr) (callee : Callee) (next : Next) → Law final c
 jumps final callee next law h t s w at = law.step h (Jump t) s w at
 
 -- an open jump that is set: the run that came to it goes on at its target
-module _ (plan : Plan) (n : ℕ) (a b : Sheet) (Open : ℕ → Type 0) (k : ℕ) (h : Hole) (t : ℕ) (Pre : List ℕ → Memory → Type 0) (Exit : ℕ → List ℕ → Memory → Type 0) (p : Piece plan n a b Open k Pre Exit)
+module _ (plan : Plan) (n : ℕ) (a b : Sheet) (Open : ℕ → Type 0) (k : ℕ) (h : Hole) (t : ℕ) (Pre : List ℕ → Memory → Type 0) (Exit : ℕ → List ℕ → Memory → Type 0) (p : CodePiece plan n a b Open k Pre Exit)
     (is_open : Open h.pc) (jump : IsOpenJump b.code h) (low : length a.code ≤ h.pc) (forward : h.pc < t) (within : t ≤ length b.code) where
   abbrev new : Sheet
   new = patched b h t
@@ -195,7 +195,7 @@ module _ (plan : Plan) (n : ℕ) (a b : Sheet) (Open : ℕ → Type 0) (k : ℕ)
   abbrev pub ExitAfter : ℕ → List ℕ → Memory → Type 0
   ExitAfter pc s m = ((pc ≢ h.pc) × Exit pc s m) ⊎ ((pc ≡ t) × Exit h.pc s m)
 
-  pub piece_patch : Piece plan n a new (λ pc. Open pc × (pc ≢ h.pc)) k Pre ExitAfter
+  pub piece_patch : CodePiece plan n a new (λ pc. Open pc × (pc ≢ h.pc)) k Pre ExitAfter
   piece_patch = record {
     adds = patch_adds plan a b h t p.adds set low forward within;
     low = p.low;
@@ -269,7 +269,7 @@ module _ (plan : Plan) where
 
   -- straight code in front of ways out
   pub straight_branches : (n : ℕ) (a b c : Sheet) (holes : List Hole) (k : ℕ) (Pre Mid Exit : ℕ → List ℕ → Memory → Type 0) → Adds plan a b → n ≤ a.slots → ((i : ℕ) → Straight plan n a b (Pre i) (Mid i)) → Branches plan n b c holes k Mid Exit
-      → ((h : Hole) → IsIn h holes → length b.code ≤ h.pc) → Branches plan n a c holes k Pre Exit
+      → ((h : Hole) → IsHoleAmong h holes → length b.code ≤ h.pc) → Branches plan n a c holes k Pre Exit
   straight_branches n a b c holes k Pre Mid Exit adds le first second high = record {
     adds = Adds-trans plan a b c adds second.adds;
     low = le;

@@ -19,39 +19,39 @@ use Rattle.rb_fragment.specs.declared.reads.Read.TheOpen.{Read-F}
 use Rattle.rb_fragment.specs.declared.reads.Read.TheFolds as Folds
 use Rattle.rb_fragment.specs.declared.reads.Read.TheFolds.{fold-roll-Read, fold_out-Share}
 use Rattle.rb_fragment.specs.declared.reads.Share.{Share, Share-F}
-use Rattle.rb_fragment.specs.Reads.{Reading, where_some, loaded, Meant, joined_over, mean_step, share_step, mean, meant_of, is_range, is_width, fits_step, share_fits, fits, fits_share}
+use Rattle.rb_fragment.specs.Reads.{ReadMeaning, where_some, loaded, Meant, joined_over, mean_step, share_step, mean, meant_of, is_range, is_width, fits_step, share_fits, fits, fits_share}
 
 -- Meaning
 
 pub mean-Slot : (x : ℕ) (s : List ℕ) (m : Memory) → mean (Slot x) s m ≡ Some (slice_index s x)
 unfolding X.roll-Read denote.Hole.Carrier.roll
-mean-Slot x s m = ap (λ (r : Reading). r s m) (fold-roll-Read Reading Meant mean_step share_step (R.Slot x))
+mean-Slot x s m = ap (λ (r : ReadMeaning). r s m) (fold-roll-Read ReadMeaning Meant mean_step share_step (R.Slot x))
 
 pub mean-Number : (c : ℕ) (s : List ℕ) (m : Memory) → mean (Number c) s m ≡ Some c
 unfolding X.roll-Read denote.Hole.Carrier.roll
-mean-Number c s m = ap (λ (r : Reading). r s m) (fold-roll-Read Reading Meant mean_step share_step (R.Number c))
+mean-Number c s m = ap (λ (r : ReadMeaning). r s m) (fold-roll-Read ReadMeaning Meant mean_step share_step (R.Number c))
 
 pub mean-Bits : (r : Read) (o l : ℕ) (s : List ℕ) (m : Memory) → mean (Bits r o l) s m ≡ where_some (mean r s m) (λ w. Some (take_of w o l))
 unfolding X.roll-Read denote.Hole.Carrier.roll
-mean-Bits r o l s m = ap (λ (q : Reading). q s m) (fold-roll-Read Reading Meant mean_step share_step (R.Bits r o l))
+mean-Bits r o l s m = ap (λ (q : ReadMeaning). q s m) (fold-roll-Read ReadMeaning Meant mean_step share_step (R.Bits r o l))
 
 pub mean-Address : (r : Read) (o l align : ℕ) (s : List ℕ) (m : Memory) → mean (Address r o l align) s m ≡ where_some (mean r s m) (λ w. Some (take_of w o l * align % 2 ^ 64))
 unfolding X.roll-Read denote.Hole.Carrier.roll
-mean-Address r o l align s m = ap (λ (q : Reading). q s m) (fold-roll-Read Reading Meant mean_step share_step (R.Address r o l align))
+mean-Address r o l align s m = ap (λ (q : ReadMeaning). q s m) (fold-roll-Read ReadMeaning Meant mean_step share_step (R.Address r o l align))
 
 pub mean-Loaded : (r : Read) (byte width : ℕ) (s : List ℕ) (m : Memory) → mean (Loaded r byte width) s m ≡ where_some (mean r s m) (λ base. loaded (load_of m base byte width))
 unfolding X.roll-Read denote.Hole.Carrier.roll
-mean-Loaded r byte width s m = ap (λ (q : Reading). q s m) (fold-roll-Read Reading Meant mean_step share_step (R.Loaded r byte width))
+mean-Loaded r byte width s m = ap (λ (q : ReadMeaning). q s m) (fold-roll-Read ReadMeaning Meant mean_step share_step (R.Loaded r byte width))
 
 pub mean-Joined : (ps : List Share) (s : List ℕ) (m : Memory) → mean (Joined ps) s m ≡ joined_over 0 (map meant_of ps) s m
 unfolding X.roll-Read denote.Hole.Carrier.roll
-mean-Joined ps s m = ap (λ (q : Reading). q s m) (fold-roll-Read Reading Meant mean_step share_step (R.Joined ps))
+mean-Joined ps s m = ap (λ (q : ReadMeaning). q s m) (fold-roll-Read ReadMeaning Meant mean_step share_step (R.Joined ps))
 
 abbrev pub meant : Share → Meant
 meant p = record { reading = mean p.read; o = p.o; l = p.l; a = p.a }
 
 pub meant-is : (p : Share) → meant_of p ≡ meant p
-meant-is p = fold_out-Share Reading Meant mean_step share_step p
+meant-is p = fold_out-Share ReadMeaning Meant mean_step share_step p
 
 -- Fitting
 

@@ -7,13 +7,13 @@ use Rattle.rb_bytes.specs.Memory.{Memory}
 use Rattle.rb_bytes.specs.Laws.{Extends}
 use Rattle.rb_rel.proofs.Growth.{Represents-kept}
 use Rattle.rb_rel.proofs.Represented.{Represents-count, Represents-int}
-use Rattle.rb_fragment.specs.Plan.{Plan, Rep, words_of}
+use Rattle.rb_fragment.specs.Plan.{Plan, Rep, words_needed}
 
 -- a memory that grows keeps what represents values
 pub Rep-kept : (plan : Plan) (clean : Bool) (m m' : Memory) → Extends m m' → {t : Ty} {v : Value} {ws : List ℕ} → Rep plan m clean t v ws → Rep plan m' clean t v ws
 Rep-kept plan clean m m' e r = Represents-kept m m' e plan.program.types plan.layouts clean r
 
-pub Rep-count : (plan : Plan) (clean : Bool) (m : Memory) {t : Ty} {v : Value} {ws : List ℕ} → Rep plan m clean t v ws → length ws ≡ words_of plan t
+pub Rep-count : (plan : Plan) (clean : Bool) (m : Memory) {t : Ty} {v : Value} {ws : List ℕ} → Rep plan m clean t v ws → length ws ≡ words_needed plan t
 Rep-count plan clean m r = Represents-count plan.program.types plan.layouts m clean r
 
 -- an integer is one word

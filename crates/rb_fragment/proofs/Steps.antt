@@ -8,7 +8,7 @@ use Rattle.rb_bytes.proofs.GrowthLemmas.{address_small}
 use Rattle.rb_target.specs.declared.instr.AluOp.{AluOp}
 use Rattle.rb_target.specs.declared.instr.AluOp.TheVariants.{Mul}
 use Rattle.rb_target.specs.declared.instr.Instr.TheVariants.{Const, Copy, Alu, Take, Put, Load}
-use Rattle.rb_target.specs.Meaning.{Outcome, after_load, alu_of}
+use Rattle.rb_target.specs.Meaning.{CallEnd, after_load, alu_of}
 use Rattle.rb_target.specs.Sheet.{Sheet, pushed, with_slot}
 use Rattle.rb_fragment.specs.Plan.{Plan}
 use Rattle.rb_fragment.specs.Pieces.{Straight}
@@ -57,7 +57,7 @@ module _ (plan : Plan) (n : ℕ) (b : Sheet) (le : n ≤ b.slots) (Good : ℕ �
       straight_one plan n b (Load b.slots a byte width) (λ s m. (word : ℕ) × (load_of m (slice_index s a) byte width ≡ Ok word) × Good word m) (λ s m. Good (slice_index s b.slots) m) le (0, omega arith, refl)
       (record { bounded = (low, wide); slots_fit = (omega arith, omega (arith, lt)); targets = tt; calls = tt })
       (λ next callee pc s w inside pre.
-      let go : ℕ → Outcome = λ word. next (pc + 1) (slice_set s b.slots word) w in
+      let go : ℕ → CallEnd = λ word. next (pc + 1) (slice_set s b.slots word) w in
       (pre.0, ap (λ q. after_load q w go) pre.1, subst (λ k. Good k w.memory) (sym (set_same s b.slots pre.0 inside)) pre.2))
 
   -- low bits of a slot put into the range of another, which is not kept

@@ -6,13 +6,13 @@ use Rattle.rb_target.specs.declared.instr.Instr.TheVariants.{Call, Return}
 use Rattle.rb_target.specs.Growth.{Grows}
 use Rattle.rb_target.specs.Sheet.{Sheet}
 use Rattle.rb_target.specs.Validity.{IsBounded, SlotsFit, TargetsFit, dests}
-use Rattle.rb_fragment.specs.Plan.{Plan, words_of, words_in, types_of}
+use Rattle.rb_fragment.specs.Plan.{Plan, words_needed, words_needed_by, types_of}
 
 -- a call has the words of its function's parameters and result; there is no return yet
 abbrev pub CallsWell : Plan → Instr → Type 0
 CallsWell plan (Call g ds froms) =
-    (f : Fun) × (slice_get plan.program.funs g ≡ Some f) × (length ds ≡ words_of plan f.result)
-    × (length froms ≡ words_in plan (types_of f))
+    (f : Fun) × (slice_get plan.program.funs g ≡ Some f) × (length ds ≡ words_needed plan f.result)
+    × (length froms ≡ words_needed_by plan (types_of f))
 CallsWell plan (Return froms) = ⊥
 CallsWell plan i = Unit {0}
 

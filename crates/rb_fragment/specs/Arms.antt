@@ -12,11 +12,11 @@ use Rattle.rb_target.specs.Growth.{AgreesBut, Grows}
 use Rattle.rb_target.specs.Laws.{Law}
 use Rattle.rb_target.specs.Meaning.{World, Next, Callee}
 use Rattle.rb_target.specs.Sheet.{Sheet, patched, IsHole}
-use Rattle.rb_target.specs.Targets.{IsIn}
+use Rattle.rb_target.specs.Targets.{IsHoleAmong}
 use Rattle.rb_fragment.specs.declared.held.Held.{Held}
 use Rattle.rb_fragment.specs.declared.held.Joined.{Joined}
 use Rattle.rb_fragment.specs.Plan.{Plan}
-use Rattle.rb_fragment.specs.Owing.{Does, Related}
+use Rattle.rb_fragment.specs.Owing.{Does, CallsAgree}
 use Rattle.rb_fragment.specs.Adding.{Adds}
 use Rattle.rb_fragment.specs.Slots.{AllBelow, AllFrom, IsDistinct, copies, joining, slots_from, with_slots}
 use Rattle.rb_fragment.specs.Fragments.{Comes}
@@ -41,7 +41,8 @@ AreHoles from count code (h ∷ hs) = (from ≤ h.pc) × (h.leaf < count) × IsH
 
 -- holes that are the same target of the same instruction belong to the same way
 abbrev pub AreOfOneWay : List Hole → Type 0
-AreOfOneWay holes = (h k : Hole) → IsIn h holes → IsIn k holes → h.pc ≡ k.pc → h.arm ≡ k.arm → h.leaf ≡ k.leaf
+AreOfOneWay holes =
+    (h k : Hole) → IsHoleAmong h holes → IsHoleAmong k holes → h.pc ≡ k.pc → h.arm ≡ k.arm → h.leaf ≡ k.leaf
 
 -- the hole is the target of a jump of the code
 abbrev pub IsOpenJump : List Instr → Hole → Type 0
@@ -65,10 +66,10 @@ HasHole pc (h ∷ hs) = (pc ≡ h.pc) ⊎ HasHole pc hs
 
 -- From the end of a, where Pre holds, the run does what o does, with at most so many extra switches, leaves the
 -- value in slots that all arms share, and comes to an open jump. The first n slots are kept.
-pub record Arm (plan : Plan) (clean : Bool) (calls : Calls) (n : ℕ) (a d : Sheet) (join extra : ℕ)
+pub record CodeArm (plan : Plan) (clean : Bool) (calls : Calls) (n : ℕ) (a d : Sheet) (join extra : ℕ)
     (Pre : List ℕ → Memory → Type 0) (o : ℕ → Outcome) (t : Ty) (into : List ℕ) : Type 0 where
   pub adds : Adds plan a d
-  pub runs : (final : List Instr) (callee : Callee) (next : Next) → Law final callee next → Related plan calls callee
+  pub runs : (final : List Instr) (callee : Callee) (next : Next) → Law final callee next → CallsAgree plan calls callee
       → AgreesBut final d.code (length a.code) (length d.code) (λ pc. pc ≡ join)
       → (s : List ℕ) (w : World) → d.slots ≤ length s → IsGood w.memory → Pre s w.memory
       → Does plan (w.switches + extra) (next (length a.code) s w) w.memory (o w.left)

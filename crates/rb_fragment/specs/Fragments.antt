@@ -12,12 +12,12 @@ use Rattle.rb_target.specs.declared.instr.Instr.{Instr}
 use Rattle.rb_target.specs.declared.instr.Instr.TheVariants.{Call}
 use Rattle.rb_target.specs.Growth.{Nowhere, AgreesBut, Keeps}
 use Rattle.rb_target.specs.Laws.{Law}
-use Rattle.rb_target.specs.Meaning.{World, Outcome as Run, Next, Callee, slots_at}
+use Rattle.rb_target.specs.Meaning.{World, CallEnd as Run, Next, Callee, slots_at}
 use Rattle.rb_target.specs.Sheet.{Sheet, pushed}
 use Rattle.rb_fragment.specs.declared.held.Held.{Held}
 use Rattle.rb_fragment.specs.declared.held.Local.{Local}
-use Rattle.rb_fragment.specs.Plan.{Plan, Rep, words_of}
-use Rattle.rb_fragment.specs.Owing.{Does, Related}
+use Rattle.rb_fragment.specs.Plan.{Plan, Rep, words_needed}
+use Rattle.rb_fragment.specs.Owing.{Does, CallsAgree}
 use Rattle.rb_fragment.specs.Adding.{Adds}
 use Rattle.rb_fragment.specs.Slots.{AllBelow, IsOneOf, slots_from, with_slots}
 use Rattle.rb_fragment.specs.Holding.{IsOfLocal, Holds, AreHeld, AllGiven, held_type, all_slots, scope_of}
@@ -32,7 +32,7 @@ Comes plan clean out next b n t slots s v w =
 pub record Fragment (plan : Plan) (clean : Bool) (calls : Calls) (old new : Sheet) (Pre : List ℕ → Memory → Type 0)
     (o : ℕ → Outcome)
     (t : Ty) (slots : List ℕ) : Type 0 where
-  pub runs : (final : List Instr) (callee : Callee) (next : Next) → Law final callee next → Related plan calls callee
+  pub runs : (final : List Instr) (callee : Callee) (next : Next) → Law final callee next → CallsAgree plan calls callee
       → AgreesBut final new.code (length old.code) (length new.code) Nowhere
       → (s : List ℕ) (w : World) → new.slots ≤ length s → IsGood w.memory → Pre s w.memory
       → Does plan w.switches (next (length old.code) s w) w.memory (o w.left)
@@ -44,7 +44,7 @@ pub record Emits (plan : Plan) (ev : Calls → ℕ → List Binding → Outcome)
     (slots : List ℕ) : Type 0 where
   pub adds : Adds plan old new
   pub given : AllBelow new.slots slots
-  pub count : length slots ≡ words_of plan t
+  pub count : length slots ≡ words_needed plan t
   pub origin : (x : ℕ) → IsOneOf x slots → (old.slots ≤ x) ⊎ IsOfLocal x locals
   pub does : (calls : Calls) (clean : Bool) (env : List Binding)
       → Fragment plan clean calls old new (λ s m. Holds plan clean s m locals env) (λ left. ev calls left env) t slots
@@ -59,7 +59,7 @@ pub record Applies (plan : Plan) (Such : List Value → Type 0) (f : Calls → L
     (slots : List ℕ) : Type 0 where
   pub adds : Adds plan old new
   pub given : AllBelow new.slots slots
-  pub count : length slots ≡ words_of plan t
+  pub count : length slots ≡ words_needed plan t
   pub fresh : (x : ℕ) → IsOneOf x slots → old.slots ≤ x
   pub does : (calls : Calls) (clean : Bool) (vs : List Value) → Such vs
       → Fragment plan clean calls old new (λ s m. AreHeld plan clean s m hs vs) (f calls vs) t slots
@@ -74,7 +74,7 @@ pub record EmitsAll (plan : Plan) (Such : List Value → Type 0) (ms : Calls →
   pub kinds : map held_type hs ≡ take (length hs) ts
   pub count : (calls : Calls) → length (ms calls) ≡ length hs
   pub does : (calls : Calls) (clean : Bool) (env : List Binding)
-      → (final : List Instr) (callee : Callee) (next : Next) → Law final callee next → Related plan calls callee
+      → (final : List Instr) (callee : Callee) (next : Next) → Law final callee next → CallsAgree plan calls callee
       → AgreesBut final new.code (length old.code) (length new.code) Nowhere
       → (s : List ℕ) (w : World) → new.slots ≤ length s → IsGood w.memory → Holds plan clean s w.memory locals env
       → (go : List Value → ℕ → Outcome) (b : ℕ) (t : Ty) (slots : List ℕ)
@@ -90,4 +90,5 @@ pub record EmitsAll (plan : Plan) (Such : List Value → Type 0) (ms : Calls →
 -- a call of function g, its result in new slots
 abbrev pub calling : Plan → Sheet → ℕ → Fun → List Held → Sheet
 calling plan b g f hs =
-    pushed (with_slots b (words_of plan f.result)) (Call g (slots_from b.slots (words_of plan f.result)) (all_slots hs))
+    pushed (with_slots b (words_needed plan f.result))
+        (Call g (slots_from b.slots (words_needed plan f.result)) (all_slots hs))

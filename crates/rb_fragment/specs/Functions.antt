@@ -11,20 +11,20 @@ use Rattle.rb_target.specs.Meaning.{World, Next, Callee, run_of}
 use Rattle.rb_target.specs.Sheet.{Sheet}
 use Rattle.rb_target.specs.Validity.{IsValidFun}
 use Rattle.rb_fragment.specs.declared.held.Local.{Local}
-use Rattle.rb_fragment.specs.Plan.{Plan, Reps, words_of, words_in, types_of}
-use Rattle.rb_fragment.specs.Owing.{Does, GivesValue, Related}
+use Rattle.rb_fragment.specs.Plan.{Plan, Reps, words_needed, words_needed_by, types_of}
+use Rattle.rb_fragment.specs.Owing.{Does, GivesValue, CallsAgree}
 use Rattle.rb_fragment.specs.Slots.{slots_from}
 
 -- the parameters as variables in slots in a row from a on, each in as many as its type has words
 abbrev pub param_locals : Plan → ℕ → List Param → List Local
 param_locals plan a [] = []
 param_locals plan a (p ∷ ps) =
-    record { var = p.var; ty = p.ty; slots = slots_from a (words_of plan p.ty) }
-    ∷ param_locals plan (a + words_of plan p.ty) ps
+    record { var = p.var; ty = p.ty; slots = slots_from a (words_needed plan p.ty) }
+    ∷ param_locals plan (a + words_needed plan p.ty) ps
 
 -- how many words a function's parameters have, in all
 abbrev pub param_words : Plan → Fun → ℕ
-param_words plan f = words_in plan (types_of f)
+param_words plan f = words_needed_by plan (types_of f)
 
 -- a function's code before its first instruction
 abbrev pub empty_sheet : Plan → Fun → Sheet
@@ -34,7 +34,7 @@ empty_sheet plan f = record { code = []; params = param_words plan f; slots = pa
 abbrev pub HasShapes : Plan → List CodeFun → Type 0
 HasShapes plan funs =
     (g : ℕ) (f : Fun) → slice_get plan.program.funs g ≡ Some f
-    → (q : CodeFun) × (slice_get funs g ≡ Some q) × (q.results ≡ words_of plan f.result)
+    → (q : CodeFun) × (slice_get funs g ≡ Some q) × (q.results ≡ words_needed plan f.result)
     × (q.params ≡ param_words plan f)
 
 -- The code q of function g: it is valid among functions of the right shapes, and does what the function
@@ -42,9 +42,9 @@ HasShapes plan funs =
 pub record Compiles (plan : Plan) (g : ℕ) (f : Fun) (q : CodeFun) : Type 0 where
   pub name : q.name ≡ f.name
   pub params : q.params ≡ param_words plan f
-  pub results : q.results ≡ words_of plan f.result
+  pub results : q.results ≡ words_needed plan f.result
   pub valid : (funs : List CodeFun) → HasShapes plan funs → IsValidFun funs q
-  pub does : (calls : Calls) (callee : Callee) (next : Next) → Law q.body callee next → Related plan calls callee
+  pub does : (calls : Calls) (callee : Callee) (next : Next) → Law q.body callee next → CallsAgree plan calls callee
       → (clean : Bool) (vs : List Value) (ws : List ℕ) (w : World) → IsGood w.memory
       → Reps plan w.memory clean (types_of f) vs ws
       → Does plan w.switches (next 0 (ws ++ replicate (q.slots - length ws) 0) w) w.memory

@@ -9,7 +9,7 @@ use Rattle.rb_bytes.specs.Memory.{Memory}
 use Rattle.rb_target.specs.Meaning.{slots_at}
 use Rattle.rb_fragment.specs.declared.held.Held.{Held}
 use Rattle.rb_fragment.specs.declared.held.Local.{Local}
-use Rattle.rb_fragment.specs.Plan.{Plan, Rep, words_of}
+use Rattle.rb_fragment.specs.Plan.{Plan, Rep, words_needed}
 use Rattle.rb_fragment.specs.Slots.{AllBelow, IsOneOf}
 
 -- Variables
@@ -25,7 +25,7 @@ scope_of locals = map binder_in locals
 -- each of the locals has as many slots as its type has words, all below n
 abbrev pub AreGiven : Plan → ℕ → List Local → Type 0
 AreGiven plan n [] = Unit {0}
-AreGiven plan n (l ∷ ls) = AllBelow n l.slots × (length l.slots ≡ words_of plan l.ty) × AreGiven plan n ls
+AreGiven plan n (l ∷ ls) = AllBelow n l.slots × (length l.slots ≡ words_needed plan l.ty) × AreGiven plan n ls
 
 -- slot x is one of those of the locals
 abbrev pub IsOfLocal : ℕ → List Local → Type 0
@@ -54,7 +54,7 @@ all_slots (h ∷ hs) = h.slots ++ all_slots hs
 -- each of the held values has as many slots as its type has words, all below n
 abbrev pub AllGiven : Plan → ℕ → List Held → Type 0
 AllGiven plan n [] = Unit {0}
-AllGiven plan n (h ∷ hs) = AllBelow n h.slots × (length h.slots ≡ words_of plan h.ty) × AllGiven plan n hs
+AllGiven plan n (h ∷ hs) = AllBelow n h.slots × (length h.slots ≡ words_needed plan h.ty) × AllGiven plan n hs
 
 -- the slots of hs represent the values vs, one each and in the same order
 abbrev pub AreHeld : Plan → Bool → List ℕ → Memory → List Held → List Value → Type 0

@@ -8,7 +8,7 @@ use Rattle.rb_core.specs.Meaning.{Calls, Meaning, all_of, then_with}
 use Rattle.rb_target.specs.Sheet.{Sheet}
 use Rattle.rb_fragment.specs.declared.held.Held.{Held}
 use Rattle.rb_fragment.specs.declared.held.Local.{Local}
-use Rattle.rb_fragment.specs.Plan.{Plan, words_of, types_of}
+use Rattle.rb_fragment.specs.Plan.{Plan, words_needed, types_of}
 use Rattle.rb_fragment.specs.Slots.{slots_from}
 use Rattle.rb_fragment.specs.Holding.{AllGiven, held_type, scope_of}
 use Rattle.rb_fragment.specs.Fragments.{AnyValues, Applies, Emits, EmitsAll, calling}
@@ -20,7 +20,7 @@ CallsApply =
     → map held_type hs ≡ types_of f
     → AllGiven plan a.slots hs
     → Applies plan AnyValues (λ calls vs left. calls g left vs) hs a (calling plan a g f hs) f.result
-    (slots_from a.slots (words_of plan f.result))
+    (slots_from a.slots (words_needed plan f.result))
 
 -- code that leaves the values of parts, and behind it code that does f of them, is code for the expression that
 -- does both, the parts from left to right

@@ -10,7 +10,7 @@ use Rattle.rb_core.specs.Meaning.{Calls}
 use Rattle.rb_bytes.specs.Memory.{Memory, IsGood}
 use Rattle.rb_bytes.specs.Growth.{Grown}
 use Rattle.rb_target.specs.declared.outcome.End.TheVariants.{Returned, Spent, Full}
-use Rattle.rb_target.specs.Meaning.{World, Outcome as Run, Callee, over}
+use Rattle.rb_target.specs.Meaning.{World, CallEnd as Run, Callee, over}
 use Rattle.rb_rel.specs.Placing.{Laid, Fits, Over, requests_of, lay}
 use Rattle.rb_fragment.specs.Plan.{Plan, Rep, Reps, cost_of, types_of}
 
@@ -35,8 +35,8 @@ GivesValue plan clean t out v w =
     (words : List ℕ) × (out ≡ over (Returned words w.left) w) × Rep plan w.memory clean t v words
 
 -- the code's calls do what the source's do: for each function of the program and represented arguments
-abbrev pub Related : Plan → Calls → Callee → Type 0
-Related plan calls callee =
+abbrev pub CallsAgree : Plan → Calls → Callee → Type 0
+CallsAgree plan calls callee =
     (clean : Bool) (g : ℕ) (f : Fun) (vs : List Value) (ws : List ℕ) (w : World)
     → slice_get plan.program.funs g ≡ Some f
     → IsGood w.memory → Reps plan w.memory clean (types_of f) vs ws

@@ -8,7 +8,7 @@ use Rattle.rb_target.specs.Growth.{Nowhere, AgreesBut, Keeps}
 use Rattle.rb_target.specs.Laws.{Law}
 use Rattle.rb_target.specs.Meaning.{World, Next, Callee}
 use Rattle.rb_target.specs.Sheet.{Sheet}
-use Rattle.rb_target.specs.Targets.{target_in, IsIn, Finishes}
+use Rattle.rb_target.specs.Targets.{target_in, IsHoleAmong, Finishes}
 use Rattle.rb_fragment.specs.Plan.{Plan}
 use Rattle.rb_fragment.specs.Adding.{Adds}
 
@@ -26,8 +26,8 @@ ReachesExit next start n most Exit s w =
 
 -- From the end of old, where Pre holds, the run comes to Exit, with at most so many switches and the first
 -- n slots kept. Of the instructions at open places nothing is assumed.
-pub record Piece (plan : Plan) (n : ℕ) (old new : Sheet) (Open : ℕ → Type 0) (most : ℕ) (Pre : List ℕ → Memory → Type 0)
-    (Exit : ℕ → List ℕ → Memory → Type 0) : Type 0 where
+pub record CodePiece (plan : Plan) (n : ℕ) (old new : Sheet) (Open : ℕ → Type 0) (most : ℕ)
+    (Pre : List ℕ → Memory → Type 0) (Exit : ℕ → List ℕ → Memory → Type 0) : Type 0 where
   pub adds : Adds plan old new
   pub low : n ≤ old.slots
   pub runs : (final : List Instr) (callee : Callee) (next : Next) → Law final callee next
@@ -41,15 +41,15 @@ AtEnd new Post pc s m = (pc ≡ length new.code) × Post s m
 
 -- code with one way out, at its end, and no switch: where Pre holds before it, Post holds behind it
 abbrev pub Straight : Plan → ℕ → Sheet → Sheet → (List ℕ → Memory → Type 0) → (List ℕ → Memory → Type 0) → Type 0
-Straight plan n old new Pre Post = Piece plan n old new Nowhere 0 Pre (AtEnd new Post)
+Straight plan n old new Pre Post = CodePiece plan n old new Nowhere 0 Pre (AtEnd new Post)
 
 -- the run goes out by a hole of way k, whatever its target,
 -- with Exit, at most so many switches and the first n slots kept
-pub record Leaves (final : List Instr) (next : Next) (holes : List Hole) (n most start : ℕ) (s : List ℕ) (w : World)
+pub record GoesOutBy (final : List Instr) (next : Next) (holes : List Hole) (n most start : ℕ) (s : List ℕ) (w : World)
     (k : ℕ)
     (Exit : List ℕ → Memory → Type 0) : Type 0 where
   pub hole : Hole
-  pub is_hole : IsIn hole holes
+  pub is_hole : IsHoleAmong hole holes
   pub is_way : hole.leaf ≡ k
   pub target : ℕ
   pub is_target : target_in (slice_get final hole.pc) hole.arm ≡ Some target
@@ -70,4 +70,4 @@ pub record Branches (plan : Plan) (n : ℕ) (old new : Sheet) (holes : List Hole
   pub leaves : (final : List Instr) (callee : Callee) (next : Next) → Law final callee next
       → Finishes final new.code holes (length old.code) (length new.code)
       → (s : List ℕ) (w : World) (k : ℕ) → new.slots ≤ length s → IsGood w.memory → Pre k s w.memory
-      → Leaves final next holes n most (length old.code) s w k (Exit k)
+      → GoesOutBy final next holes n most (length old.code) s w k (Exit k)

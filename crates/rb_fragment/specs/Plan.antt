@@ -28,13 +28,13 @@ abbrev pub Reps : Plan → Memory → Bool → List Ty → List Value → List �
 Reps plan = Represent plan.program.types plan.layouts
 
 -- how many words represent a value of a type
-abbrev pub words_of : Plan → Ty → ℕ
-words_of plan = word_count plan.layouts
+abbrev pub words_needed : Plan → Ty → ℕ
+words_needed plan = word_count plan.layouts
 
 -- how many words represent a value of each of these types, in all
-abbrev pub words_in : Plan → List Ty → ℕ
-words_in plan [] = 0
-words_in plan (t ∷ ts) = words_of plan t + words_in plan ts
+abbrev pub words_needed_by : Plan → List Ty → ℕ
+words_needed_by plan [] = 0
+words_needed_by plan (t ∷ ts) = words_needed plan t + words_needed_by plan ts
 
 -- the types of a function's parameters, in order
 abbrev pub types_of : Fun → List Ty

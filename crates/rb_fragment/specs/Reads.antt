@@ -19,8 +19,8 @@ use Rattle.rb_fragment.specs.Pieces.{Straight}
 -- Meaning
 
 -- what a number is, where the slots hold these words and the memory is this one; None where a load goes astray
-abbrev pub Reading : Type 0
-Reading = List ℕ → Memory → Option ℕ
+abbrev pub ReadMeaning : Type 0
+ReadMeaning = List ℕ → Memory → Option ℕ
 
 -- what `go` makes of a number, or None where there is none
 abbrev pub where_some : Option ℕ → (ℕ → Option ℕ) → Option ℕ
@@ -34,18 +34,18 @@ loaded (Err t) = None
 
 -- a share with what its number means: bits o up to o + l of that stand from bit a on
 pub record Meant : Type 0 where
-  pub reading : Reading
+  pub reading : ReadMeaning
   pub o : ℕ
   pub l : ℕ
   pub a : ℕ
 
 -- the number n with shares put over it, one after the other, or None where one of their numbers is none
-abbrev pub joined_over : ℕ → List Meant → Reading
+abbrev pub joined_over : ℕ → List Meant → ReadMeaning
 joined_over n [] s m = Some n
 joined_over n (p ∷ ps) s m = where_some (p.reading s m) (λ w. joined_over (put_of n p.a p.l (take_of w p.o p.l)) ps s m)
 
 -- what a read means, where the reads and shares within it are replaced by their meanings
-abbrev pub mean_step : Read-F Reading Meant → Reading
+abbrev pub mean_step : Read-F ReadMeaning Meant → ReadMeaning
 mean_step (R.Slot x) s m = Some (slice_index s x)
 mean_step (R.Number c) s m = Some c
 mean_step (R.Bits r o l) s m = where_some (r s m) (λ w. Some (take_of w o l))
@@ -54,16 +54,16 @@ mean_step (R.Loaded r byte width) s m = where_some (r s m) (λ base. loaded (loa
 mean_step (R.Joined shares) s m = joined_over 0 shares s m
 
 -- a share with its meaning, where its read is replaced by its meaning
-abbrev pub share_step : Share-F Reading Meant → Meant
+abbrev pub share_step : Share-F ReadMeaning Meant → Meant
 share_step p = record { reading = p.read; o = p.o; l = p.l; a = p.a }
 
 -- what a read means
-abbrev pub mean : Read → Reading
-mean = fold-Read Reading Meant mean_step share_step
+abbrev pub mean : Read → ReadMeaning
+mean = fold-Read ReadMeaning Meant mean_step share_step
 
 -- a share with what its read means
 abbrev pub meant_of : Share → Meant
-meant_of = fold-Share Reading Meant mean_step share_step
+meant_of = fold-Share ReadMeaning Meant mean_step share_step
 
 -- Fitting
 

@@ -3,7 +3,7 @@ use Rattle.std.proofs.Common.{◌≡◌, ℕ, zero, suc, ◌+◌, ◌<◌, ◌�
 use Rattle.std.specs.Prelude.{slice_get}
 use Rattle.std.proofs.lemmas.Option.{same_Some}
 use Rattle.rb_image_text.specs.declared.image.ImageBlock.{ImageBlock}
-use Rattle.rb_image_text.specs.Images.{AreBelow, AreBlocks}
+use Rattle.rb_image_text.specs.Images.{AreBelow, AreImageBlocks}
 use Rattle.rb_image_text.specs.Places.{end_of, IsInPlace, AreInPlace}
 use Rattle.rb_image.specs.Memories.{end_from}
 
@@ -29,13 +29,13 @@ follow_rest : (from : ℕ) (b : ImageBlock) (bs : List ImageBlock) → Follow fr
 follow_rest from b bs follow zero c lt is = follow (suc zero) c (omega (arith, lt)) is
 follow_rest from b bs follow (suc i) c lt is = follow (suc (suc i)) c (omega (arith, lt)) is
 
-ascend_rest : (bs : List ImageBlock) (from : ℕ) → from ≤ 16777216 → Follow from bs → AreBlocks bs → Ascend 16777216 from bs
+ascend_rest : (bs : List ImageBlock) (from : ℕ) → from ≤ 16777216 → Follow from bs → AreImageBlocks bs → Ascend 16777216 from bs
 ascend_rest [] from le follow are = le
 ascend_rest (b ∷ bs) from le follow are =
     let here = follow zero b (omega arith) refl in
     (here.behind, are.0.some, are.0.bytes, ascend_rest bs (b.at + length b.bytes) here.high (follow_rest from b bs follow) are.1)
 
-pub ascending : (blocks : List ImageBlock) → AreInPlace blocks → AreBlocks blocks → Ascend 16777216 64 blocks
+pub ascending : (blocks : List ImageBlock) → AreInPlace blocks → AreImageBlocks blocks → Ascend 16777216 64 blocks
 ascending [] placed are = omega arith
 ascending (b ∷ bs) placed are =
     let here = placed zero b (omega arith) refl in

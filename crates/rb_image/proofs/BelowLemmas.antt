@@ -13,7 +13,7 @@ use Rattle.rb_rel.proofs.Opens.{opens-Con, opens-Wild, opens-Var}
 use Rattle.rb_image.specs.declared.below.Examined.{Examined}
 use Rattle.rb_image.specs.declared.kept.Kept.{Kept}
 use Rattle.rb_image.specs.Parts.{At, field_words, place_at}
-use Rattle.rb_image.specs.inner.Opening.{opened, place_below, word_of}
+use Rattle.rb_image.specs.inner.Opening.{opened, place_below, examined_word}
 use Rattle.rb_image.proofs.DropLemmas.{drop_item, drop_past}
 
 module _ (x : Examined) where
@@ -21,7 +21,7 @@ module _ (x : Examined) where
   types = x.types.now
 
   abbrev Place : List ℕ → Ty → List At
-  Place path ty = place_at x.layouts.now (word_of x) path ty
+  Place path ty = place_at x.layouts.now (examined_word x) path ty
 
   one : (path : List ℕ) (ty : Ty) (os : List Open) → os ≡ record { path = []; ty = ty } ∷ [] → opened x path os ≡ Place path ty
   one path ty os is = ap (opened x path) is ∙ append-nil (Place (path ++ []) ty) ∙ ap (λ p. Place p ty) (append-nil path)

@@ -12,7 +12,7 @@ use Rattle.rb_image_text.specs.declared.image.ImageBlock.{ImageBlock}
 use Rattle.rb_image.specs.declared.kept.Kept.{Kept}
 use Rattle.rb_image.specs.declared.walk.Passed.{Passed}
 use Rattle.rb_image.specs.Asked.{asked_by}
-use Rattle.rb_image.specs.Walks.{Seen, layout_at, layout_or_none, seen_of}
+use Rattle.rb_image.specs.Walks.{Waypoint, layout_at, layout_or_none, seen_of}
 use Rattle.rb_image.specs.inner.Checking.{stand_of, words_seen}
 use Rattle.rb_image.specs.Paths.{words_asked}
 use Rattle.rb_image.proofs.AskedLemmas.{leaf_asks}
@@ -26,7 +26,7 @@ pub fault_taken : (there here : Bool) (o : Option ImageFault) → there ≡ true
 fault_taken there here o t h = sym (ap (λ (b : Bool). if b && here then o else None) t ∙ ap (λ (b : Bool). if b then o else None) h)
 
 -- Splits -------------------------------------------------------------------------------------
-module _ (layouts : List Layout) (m : List ImageBlock) (s : Seen) where
+module _ (layouts : List Layout) (m : List ImageBlock) (s : Waypoint) where
   -- a type without a layout has none
   pub none_asked : (found : List Kept) → layout_of layouts s.ty ≡ None → found ≡ found ++ words_asked layouts m (stand_of s)
   none_asked found none =
@@ -37,11 +37,11 @@ module _ (layouts : List Layout) (m : List ImageBlock) (s : Seen) where
   some_asked layout some = ap (λ o. asked_by (layout_or_none o).tree m s.words) (sym some)
 
 -- Subvalues ----------------------------------------------------------------------------------
-module _ (layouts : List Layout) (m : List ImageBlock) (items : List Passed) (last : Seen) where
-  abbrev words : List Seen → List Kept
+module _ (layouts : List Layout) (m : List ImageBlock) (items : List Passed) (last : Waypoint) where
+  abbrev words : List Waypoint → List Kept
   words = flat_map (words_seen layouts m)
 
-  abbrev left : ℕ → List Seen
+  abbrev left : ℕ → List Waypoint
   left k = map seen_of (drop k items) ++ last ∷ []
 
   -- one subvalue more

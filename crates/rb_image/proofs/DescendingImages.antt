@@ -38,7 +38,7 @@ use Rattle.rb_image.specs.Falling.{AreKept, Descends, DescendingImagesAreSound, 
 use Rattle.rb_image.specs.Memories.{image_memory}
 use Rattle.rb_image.specs.Orders.{order_of}
 use Rattle.rb_image.specs.Parts.{At, bits_at, field_word, field_words, look, look_layout, look_leaf, place_at, places_of_leaf}
-use Rattle.rb_image.specs.Roots.{AllFit, RootIsSound, WordFits, kept_from, widths_of}
+use Rattle.rb_image.specs.Roots.{WordsFit, RootIsSound, WordFits, kept_from, widths_of}
 use Rattle.rb_image.specs.Roots as Roots
 use Rattle.rb_image.specs.Sound.{IsSound, sound}
 use Rattle.rb_image.specs.Splits.{and_then, leaf_at, nothing, word_at}
@@ -177,7 +177,7 @@ module _ (p : Program) (typed : IsTyped p) (agrees : Agrees p) (blocks : List Im
       layer t v ws from b inner falls kept (λ k o e. Descends-represents (below k o e)) (λ k o e. descending_sound (below k o e))
 
   -- Root words -------------------------------------------------------------------------------
-  fit_all : (widths words : List ℕ) → length words ≡ length widths → ((j w n : ℕ) → slice_get widths j ≡ Some w → slice_get words j ≡ Some n → n < 2 ^ w) → AllFit widths words
+  fit_all : (widths words : List ℕ) → length words ≡ length widths → ((j w n : ℕ) → slice_get widths j ≡ Some w → slice_get words j ≡ Some n → n < 2 ^ w) → WordsFit widths words
   fit_all widths words long each i = go (slice_get widths i) refl (slice_get words i) refl
     where
       go : (o : Option ℕ) → slice_get widths i ≡ o → (q : Option ℕ) → slice_get words i ≡ q → WordFits o q
@@ -192,7 +192,7 @@ module _ (p : Program) (typed : IsTyped p) (agrees : Agrees p) (blocks : List Im
           let z : ◌≡◌ {A = Option ℕ} None (Some g.0) = sym h ∙ g.1 in absurd cc
       go (Some w) e (Some n) h = each i w n e h
 
-  made_fits : (t : ℕ) (v : Value) (ws : List ℕ) (b : Made types layouts m false t v ws) → AllFit b.layout.shape ws
+  made_fits : (t : ℕ) (v : Value) (ws : List ℕ) (b : Made types layouts m false t v ws) → WordsFit b.layout.shape ws
   made_fits t v ws b =
       fit_all b.layout.shape ws b.shaped (λ j w n e h.
       let widths = agrees.a2 t b.layout b.number b.leaf b.is_layout b.is_number in
@@ -201,16 +201,16 @@ module _ (p : Program) (typed : IsTyped p) (agrees : Agrees p) (blocks : List Im
       let same : x.0 ≡ n = same_Some x.0 n (sym x.1 ∙ h) in
       subst (λ y. y < 2 ^ w) same (subst (λ y. x.0 < 2 ^ y) (sym f.2) x.2.fits))
 
-  one_fits : (bits x : ℕ) → x < 2 ^ bits → AllFit (bits ∷ []) (x ∷ [])
+  one_fits : (bits x : ℕ) → x < 2 ^ bits → WordsFit (bits ∷ []) (x ∷ [])
   one_fits bits x lt = fit_all (bits ∷ []) (x ∷ []) refl each
     where
       each : (j w n : ℕ) → slice_get (bits ∷ []) j ≡ Some w → slice_get (x ∷ []) j ≡ Some n → n < 2 ^ w
       each zero w n e h = subst (λ y. n < 2 ^ y) (same_Some bits w e) (subst (λ y. y < 2 ^ bits) (same_Some x n h) lt)
       each (suc j) w n e h = absurd cc
 
-  pub words_fit : {ty : Ty} {v : Value} {ws : List ℕ} {from : ℕ → ℕ} → Descends types layouts m ty v ws from → AllFit (widths_of layouts ty) ws
+  pub words_fit : {ty : Ty} {v : Value} {ws : List ℕ} {from : ℕ → ℕ} → Descends types layouts m ty v ws from → WordsFit (widths_of layouts ty) ws
   words_fit (number bits x from lt) = one_fits bits x lt
-  words_fit (built t v ws from b inner falls kept below) = subst (λ o. AllFit (Roots.shape_of o) ws) (sym b.is_layout) (made_fits t v ws b)
+  words_fit (built t v ws from b inner falls kept below) = subst (λ o. WordsFit (Roots.layout_widths o) ws) (sym b.is_layout) (made_fits t v ws b)
 
   root_kept : (i : ℕ) (ns : List ℕ) (j n : ℕ) → slice_get ns j ≡ Some n → ((word_at (kept_from i ns) j).number ≡ n) × ((word_at (kept_from i ns) j).base ≡ 0)
   root_kept i [] j n e = absurd cc

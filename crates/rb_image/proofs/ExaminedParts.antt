@@ -14,8 +14,8 @@ use Rattle.rb_image_text.specs.declared.image.ImageBlock.{ImageBlock}
 use Rattle.rb_image.specs.declared.kept.Kept.{Kept}
 use Rattle.rb_image.specs.Blocks.{size_at}
 use Rattle.rb_image.specs.Falling.{AddressFalls}
-use Rattle.rb_image.specs.Orders.{PartAt}
-use Rattle.rb_image.specs.Parts.{bits_at, block_from, block_size, examine, examine_kind, examine_part, followed, if_size, kept_at}
+use Rattle.rb_image.specs.Orders.{LocatedPart}
+use Rattle.rb_image.specs.Parts.{bits_at, block_from, block_size, examine, examine_kind, examine_part, pointer_lead, if_size, kept_at}
 use Rattle.rb_image.specs.Splits.{and_then, or_fault, pointed_from, range_of}
 use Rattle.rb_image.proofs.FallLemmas.{pointed_is, same_Ok}
 use Rattle.rb_image.proofs.PlacedSpots.{AreLed, BlockSeen}
@@ -55,7 +55,7 @@ module _ (m : List ImageBlock) (leaf : Leaf) (ws : List Kept) where
   block_is None size a e = absurd cc
   block_is (Some at) size a e = let r = sized at size a (size_at m at) refl e in (ap Some r.0, r.1)
 
-  pub followed_is : (bits : Kept) (align b at : ℕ) → ◌≡◌ {A = Result ℕ ImageFault} (followed m leaf bits align b) (Ok at)
+  pub followed_is : (bits : Kept) (align b at : ℕ) → ◌≡◌ {A = Result ℕ ImageFault} (pointer_lead m leaf bits align b) (Ok at)
       → (bits.number * align ≡ at) × (size_at m at ≡ Some (block_size (slice_get leaf.blocks b))) × AddressFalls bits.base at
   followed_is bits align b at e =
       let target = bits.number * align in
@@ -71,7 +71,7 @@ module _ (m : List ImageBlock) (leaf : Leaf) (ws : List Kept) where
   FineKind ats bits (Pointer align b) = (bits.number * align ≡ slice_index ats b) × (size_at m (slice_index ats b) ≡ Some (block_size (slice_get leaf.blocks b)))
       × AddressFalls bits.base (slice_index ats b)
 
-  abbrev pub IsFine : List ℕ → PartAt → Type 0
+  abbrev pub IsFine : List ℕ → LocatedPart → Type 0
   IsFine ats s = FineKind ats (bits_at m ws ats s) s.part.kind
 
   -- Addresses stay ---------------------------------------------------------------------------
@@ -84,7 +84,7 @@ module _ (m : List ImageBlock) (leaf : Leaf) (ws : List Kept) where
   kind_keeps c ats new bits (Bits path a) none e = ap (λ xs. slice_index xs c) (sym (same_Ok ats new e))
   kind_keeps c ats new bits (Word path j) none e = ap (λ xs. slice_index xs c) (sym (same_Ok ats new e))
   kind_keeps c ats new bits (Pointer align b) none e =
-      let r = then_ok (followed m leaf bits align b) (λ at. Ok (slice_set ats b at)) new e in
+      let r = then_ok (pointer_lead m leaf bits align b) (λ at. Ok (slice_set ats b at)) new e in
       ap (λ xs. slice_index xs c) (sym (same_Ok (slice_set ats b r.0) new r.2)) ∙ get_or-set_other ats b c r.0 0 (one_some align b c none)
 
   kind_long : (ats new : List ℕ) (bits : Kept) (kind : Kind) → ◌≡◌ {A = Result (List ℕ) ImageFault} (examine_kind m leaf ats bits kind) (Ok new) → length new ≡ length ats
@@ -92,29 +92,29 @@ module _ (m : List ImageBlock) (leaf : Leaf) (ws : List Kept) where
   kind_long ats new bits (Bits path a) e = ap length (sym (same_Ok ats new e))
   kind_long ats new bits (Word path j) e = ap length (sym (same_Ok ats new e))
   kind_long ats new bits (Pointer align b) e =
-      let r = then_ok (followed m leaf bits align b) (λ at. Ok (slice_set ats b at)) new e in
+      let r = then_ok (pointer_lead m leaf bits align b) (λ at. Ok (slice_set ats b at)) new e in
       ap length (sym (same_Ok (slice_set ats b r.0) new r.2)) ∙ length-set ats b r.0
 
-  pub keeps : (c : ℕ) (ss : List PartAt) (ats new : List ℕ) → pointing c ss ≡ 0 → ◌≡◌ {A = Result (List ℕ) ImageFault} (examine m leaf ws ats ss) (Ok new) → slice_index new c ≡ slice_index ats c
+  pub keeps : (c : ℕ) (ss : List LocatedPart) (ats new : List ℕ) → pointing c ss ≡ 0 → ◌≡◌ {A = Result (List ℕ) ImageFault} (examine m leaf ws ats ss) (Ok new) → slice_index new c ≡ slice_index ats c
   keeps c [] ats new none e = ap (λ xs. slice_index xs c) (sym (same_Ok ats new e))
   keeps c (s ∷ ss) ats new none e =
       let r = then_ok (examine_part m leaf ws ats s) (λ found. examine m leaf ws found ss) new e in
       keeps c ss r.0 new (omega (arith, none)) r.2 ∙ kind_keeps c ats r.0 (bits_at m ws ats s) s.part.kind (omega (arith, none)) r.1
 
   -- All parts --------------------------------------------------------------------------------
-  abbrev IsWithin : PartAt → Type 0
+  abbrev IsWithin : LocatedPart → Type 0
   IsWithin s = (align b : ℕ) → s.part.kind ≡ Pointer align b → b < length leaf.blocks
 
   module _ (new : List ℕ) where
     -- what a part is found to be where it is examined, it is in the end
-    fine_kind : (ats found : List ℕ) (ss : List PartAt) (bits : Kept) (kind : Kind) → length ats ≡ length leaf.blocks → ((align b : ℕ) → kind ≡ Pointer align b → b < length leaf.blocks)
+    fine_kind : (ats found : List ℕ) (ss : List LocatedPart) (bits : Kept) (kind : Kind) → length ats ≡ length leaf.blocks → ((align b : ℕ) → kind ≡ Pointer align b → b < length leaf.blocks)
         → ((c : ℕ) → points c kind + pointing c ss ≤ 1) → ◌≡◌ {A = Result (List ℕ) ImageFault} (examine_kind m leaf ats bits kind) (Ok found)
         → ◌≡◌ {A = Result (List ℕ) ImageFault} (examine m leaf ws found ss) (Ok new) → FineKind new bits kind
     fine_kind ats found ss bits (Const c) long within once e rest = same_number bits.number c (if_ok (bits.number == c) ats found (BadBits bits.base bits.place) e).0
     fine_kind ats found ss bits (Bits path a) long within once e rest = tt
     fine_kind ats found ss bits (Word path j) long within once e rest = tt
     fine_kind ats found ss bits (Pointer align b) long within once e rest =
-        let r = then_ok (followed m leaf bits align b) (λ at. Ok (slice_set ats b at)) found e in
+        let r = then_ok (pointer_lead m leaf bits align b) (λ at. Ok (slice_set ats b at)) found e in
         let at = r.0 in
         let f = followed_is bits align b at r.1 in
         let lt = within align b refl in
@@ -125,7 +125,7 @@ module _ (m : List ImageBlock) (leaf : Leaf) (ws : List Kept) where
         keeps b ss found new none rest ∙ ap (λ xs. slice_index xs b) (sym (same_Ok (slice_set ats b at) found r.2)) ∙ get_or-set_same ats b at 0 (omega (arith, long, lt)) in
         (f.0 ∙ sym is, ap (size_at m) is ∙ f.1, subst (AddressFalls bits.base) (sym is) f.2)
 
-    block_kept : (ats : List ℕ) (s : PartAt) (o : Option ℕ) → ((b : ℕ) → o ≡ Some b → slice_index new b ≡ slice_index ats b) → kept_at m ws ats o s ≡ kept_at m ws new o s
+    block_kept : (ats : List ℕ) (s : LocatedPart) (o : Option ℕ) → ((b : ℕ) → o ≡ Some b → slice_index new b ≡ slice_index ats b) → kept_at m ws ats o s ≡ kept_at m ws new o s
     block_kept ats s None same = refl
     block_kept ats s (Some b) same = ap (λ a. kept_at m ws (a ∷ []) (Some 0) s) (sym (same b refl))
 
@@ -133,8 +133,8 @@ module _ (m : List ImageBlock) (leaf : Leaf) (ws : List Kept) where
     seen_some seen None b h e = absurd cc
     seen_some seen (Some a) b h e = subst (λ x. 1 ≤ seen x) (same_Some a b e) h
 
-    pub all_fine : (ss : List PartAt) (ats : List ℕ) (seen : ℕ → ℕ) → length ats ≡ length leaf.blocks → ((c : ℕ) → seen c + pointing c ss ≤ 1) → AreLed seen ss → ((s : PartAt) → In s ss → IsWithin s)
-        → ◌≡◌ {A = Result (List ℕ) ImageFault} (examine m leaf ws ats ss) (Ok new) → (s : PartAt) → In s ss → IsFine new s
+    pub all_fine : (ss : List LocatedPart) (ats : List ℕ) (seen : ℕ → ℕ) → length ats ≡ length leaf.blocks → ((c : ℕ) → seen c + pointing c ss ≤ 1) → AreLed seen ss → ((s : LocatedPart) → In s ss → IsWithin s)
+        → ◌≡◌ {A = Result (List ℕ) ImageFault} (examine m leaf ws ats ss) (Ok new) → (s : LocatedPart) → In s ss → IsFine new s
     all_fine [] ats seen long once led within e s h = absurd h
     all_fine (x ∷ ss) ats seen long once led within e s h =
         let r = then_ok (examine_part m leaf ws ats x) (λ found. examine m leaf ws found ss) new e in

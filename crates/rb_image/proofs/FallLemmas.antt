@@ -15,9 +15,9 @@ use Rattle.rb_image_text.specs.declared.fault.ImageFault.{ImageFault}
 use Rattle.rb_image_text.specs.declared.fault.ImageFault.TheVariants.{BadPointer}
 use Rattle.rb_image_text.specs.declared.image.ImageBlock.{ImageBlock}
 use Rattle.rb_image.specs.declared.kept.Kept.{Kept}
-use Rattle.rb_image.specs.Blocks.{block_at, size_at, size_in, word_in, word_of}
-use Rattle.rb_image.specs.Orders.{PartAt}
-use Rattle.rb_image.specs.Parts.{block_from, block_size, bits_at, examine, examine_kind, examine_part, field_word, field_words, followed, holds, if_size, kept_at}
+use Rattle.rb_image.specs.Blocks.{block_at, size_at, size_in, word_in, block_word}
+use Rattle.rb_image.specs.Orders.{LocatedPart}
+use Rattle.rb_image.specs.Parts.{block_from, block_size, bits_at, examine, examine_kind, examine_part, field_word, field_words, pointer_lead, is_field_word, if_size, kept_at}
 use Rattle.rb_image.specs.Splits.{and_then, nothing, or_fault, pointed_from, range_of, word_at}
 use Rattle.rb_image.proofs.SpotLemmas.{In}
 
@@ -44,8 +44,8 @@ one_of true b e = inl refl
 one_of false b e = inr e
 
 -- a part among others that is of a root word, and holds word j of the field at a path
-pub record RootPart (ss : List PartAt) (path : List ℕ) (j : ℕ) : Type 0 where
-  pub spot : PartAt
+pub record RootPart (ss : List LocatedPart) (path : List ℕ) (j : ℕ) : Type 0 where
+  pub spot : LocatedPart
   pub is_spot : In spot ss
   pub at_root : spot.block ≡ None
   pub is_kind : spot.part.kind ≡ Word path j
@@ -124,25 +124,25 @@ module _ (m : List ImageBlock) (none : block_at m 0 ≡ None) where
   block_is (Some at) size a e = let r = sized at size a (size_at m at) refl e in (ap Some r.0, subst (λ n. 1 ≤ n) r.0 r.1)
 
   word_some : (a byte width : ℕ) → 1 ≤ unwrap_or (word_in m a byte width) 0 → 1 ≤ a
-  word_some zero byte width some = absurd (let z : unwrap_or (word_in m 0 byte width) 0 ≡ 0 = ap (λ b. unwrap_or (word_of b byte width) 0) none in omega (arith, some, z))
+  word_some zero byte width some = absurd (let z : unwrap_or (word_in m 0 byte width) 0 ≡ 0 = ap (λ b. unwrap_or (block_word b byte width) 0) none in omega (arith, some, z))
   word_some (suc a) byte width some = omega arith
 
   module _ (leaf : Leaf) (ws : List Kept) (high : ℕ) (under : AreUnder high ws) where
-    followed_low : (bits : Kept) (align b at : ℕ) → IsUnder high bits → followed m leaf bits align b ≡ Ok at → (1 ≤ at) × (at < high)
+    followed_low : (bits : Kept) (align b at : ℕ) → IsUnder high bits → pointer_lead m leaf bits align b ≡ Ok at → (1 ≤ at) × (at < high)
     followed_low bits align b at h e =
         let r = block_is (pointed_from bits.base (bits.number * align)) (block_size (slice_get leaf.blocks b)) at (or_fault_ok _ (BadPointer bits.base (bits.number * align)) at e) in
         let p = pointed_is bits.base (bits.number * align) at r.0 in
         let u = h (some_factor bits.number align at p.0 r.1) in
         (r.1, elim p.2 [ inl z ↦ (let w = u.1 z in omega (arith, w, p.0, p.1)) | inr l ↦ omega (arith, l, p.0, u.0) ])
 
-    kept_below : (ats : List ℕ) (s : PartAt) (b : ℕ) → AreLow high ats → IsBelow high (kept_at m ws ats (Some b) s)
+    kept_below : (ats : List ℕ) (s : LocatedPart) (b : ℕ) → AreLow high ats → IsBelow high (kept_at m ws ats (Some b) s)
     kept_below ats s b low some = let a = word_some (slice_index ats b) s.byte s.width some in (a, low b a)
 
-    kept_under : (ats : List ℕ) (s : PartAt) (block : Option ℕ) → AreLow high ats → IsUnder high (kept_at m ws ats block s)
+    kept_under : (ats : List ℕ) (s : LocatedPart) (block : Option ℕ) → AreLow high ats → IsUnder high (kept_at m ws ats block s)
     kept_under ats s None low = under s.word
     kept_under ats s (Some b) low = below_under high (kept_at m ws ats (Some b) s) (kept_below ats s b low)
 
-    bits_under : (ats : List ℕ) (s : PartAt) → AreLow high ats → IsUnder high (bits_at m ws ats s)
+    bits_under : (ats : List ℕ) (s : LocatedPart) → AreLow high ats → IsUnder high (bits_at m ws ats s)
     bits_under ats s low = range_under high (kept_at m ws ats s.block s) s.part.o s.part.l (kept_under ats s s.block low)
 
     const_low : (ats new : List ℕ) (b : Bool) (f : ImageFault) → (if b then Ok ats else Err f) ≡ Ok new → AreLow high ats → AreLow high new
@@ -157,26 +157,26 @@ module _ (m : List ImageBlock) (none : block_at m 0 ≡ None) where
     kind_low ats new bits (Bits path a) h low e = subst (AreLow high) (same_Ok ats new e) low
     kind_low ats new bits (Word path j) h low e = subst (AreLow high) (same_Ok ats new e) low
     kind_low ats new bits (Const c) h low e = const_low ats new (bits.number == c) _ e low
-    kind_low ats new bits (Pointer align b) h low e = set_on ats new b (followed m leaf bits align b) (λ at is. (followed_low bits align b at h is).1) e low
+    kind_low ats new bits (Pointer align b) h low e = set_on ats new b (pointer_lead m leaf bits align b) (λ at is. (followed_low bits align b at h is).1) e low
 
     -- what an examined part leaves, and what the rest makes of it
-    record Turn (ats new : List ℕ) (s : PartAt) (ss : List PartAt) : Type 0 where
+    record Turn (ats new : List ℕ) (s : LocatedPart) (ss : List LocatedPart) : Type 0 where
       mid : List ℕ
       here : examine_part m leaf ws ats s ≡ Ok mid
       rest : examine m leaf ws mid ss ≡ Ok new
 
-    turn_of : (new : List ℕ) (ss : List PartAt) (r : Result (List ℕ) ImageFault) → and_then r (λ found. examine m leaf ws found ss) ≡ Ok new → (mid : List ℕ) × (r ≡ Ok mid) × (examine m leaf ws mid ss ≡ Ok new)
+    turn_of : (new : List ℕ) (ss : List LocatedPart) (r : Result (List ℕ) ImageFault) → and_then r (λ found. examine m leaf ws found ss) ≡ Ok new → (mid : List ℕ) × (r ≡ Ok mid) × (examine m leaf ws mid ss ≡ Ok new)
     turn_of new ss (Err f) e = absurd cc
     turn_of new ss (Ok mid) e = (mid, refl, e)
 
-    turned : (ats new : List ℕ) (s : PartAt) (ss : List PartAt) → examine m leaf ws ats (s ∷ ss) ≡ Ok new → Turn ats new s ss
+    turned : (ats new : List ℕ) (s : LocatedPart) (ss : List LocatedPart) → examine m leaf ws ats (s ∷ ss) ≡ Ok new → Turn ats new s ss
     turned ats new s ss e = let r = turn_of new ss (examine_part m leaf ws ats s) e in record { mid = r.0; here = r.1; rest = r.2 }
 
-    turn_low : (ats new : List ℕ) (s : PartAt) (ss : List PartAt) (t : Turn ats new s ss) → AreLow high ats → AreLow high t.mid
+    turn_low : (ats new : List ℕ) (s : LocatedPart) (ss : List LocatedPart) (t : Turn ats new s ss) → AreLow high ats → AreLow high t.mid
     turn_low ats new s ss t low = kind_low ats t.mid (bits_at m ws ats s) s.part.kind (bits_under ats s low) low t.here
 
     -- the blocks of a leaf lie lower
-    pub examine_low : (ats new : List ℕ) (ss : List PartAt) → examine m leaf ws ats ss ≡ Ok new → AreLow high ats → AreLow high new
+    pub examine_low : (ats new : List ℕ) (ss : List LocatedPart) → examine m leaf ws ats ss ≡ Ok new → AreLow high ats → AreLow high new
     examine_low ats new [] e low = subst (AreLow high) (same_Ok ats new e) low
     examine_low ats new (s ∷ ss) e low = let t = turned ats new s ss e in examine_low t.mid new ss t.rest (turn_low ats new s ss t low)
 
@@ -185,28 +185,28 @@ module _ (m : List ImageBlock) (none : block_at m 0 ≡ None) where
     pointer_high ats mid bits align b (Ok at) lt e = let l = lt at refl in omega (arith, l.0, l.1)
 
     -- where a pointer was followed, there is something below
-    pub examine_high : (ats new : List ℕ) (ss : List PartAt) (s : PartAt) (align b : ℕ) → In s ss → s.part.kind ≡ Pointer align b → examine m leaf ws ats ss ≡ Ok new → AreLow high ats → 1 ≤ high
+    pub examine_high : (ats new : List ℕ) (ss : List LocatedPart) (s : LocatedPart) (align b : ℕ) → In s ss → s.part.kind ≡ Pointer align b → examine m leaf ws ats ss ≡ Ok new → AreLow high ats → 1 ≤ high
     examine_high ats new [] s align b h is e low = absurd h
     examine_high ats new (x ∷ ss) s align b (inl same) is e low =
         let t = turned ats new x ss e in
-        let kind : x.part.kind ≡ Pointer align b = ap (λ (y : PartAt). y.part.kind) (sym same) ∙ is in
+        let kind : x.part.kind ≡ Pointer align b = ap (λ (y : LocatedPart). y.part.kind) (sym same) ∙ is in
         let here : examine_kind m leaf ats (bits_at m ws ats x) (Pointer align b) ≡ Ok t.mid = subst (λ (k : Kind). examine_kind m leaf ats (bits_at m ws ats x) k ≡ Ok t.mid) kind t.here in
-        pointer_high ats t.mid (bits_at m ws ats x) align b (followed m leaf (bits_at m ws ats x) align b) (λ at r. followed_low (bits_at m ws ats x) align b at (bits_under ats x low) r) here
+        pointer_high ats t.mid (bits_at m ws ats x) align b (pointer_lead m leaf (bits_at m ws ats x) align b) (λ at r. followed_low (bits_at m ws ats x) align b at (bits_under ats x low) r) here
     examine_high ats new (x ∷ ss) s align b (inr h) is e low =
         let t = turned ats new x ss e in
         examine_high t.mid new ss s align b h is t.rest (turn_low ats new x ss t low)
 
     module _ (ats : List ℕ) (low : AreLow high ats) where
       -- the words of fields
-      field_if : (s : PartAt) (ss : List PartAt) (path : List ℕ) (j : ℕ) (b : Bool) → IsUnder high (field_word m ws ats ss path j) → IsUnder high (if b then bits_at m ws ats s else field_word m ws ats ss path j)
+      field_if : (s : LocatedPart) (ss : List LocatedPart) (path : List ℕ) (j : ℕ) (b : Bool) → IsUnder high (field_word m ws ats ss path j) → IsUnder high (if b then bits_at m ws ats s else field_word m ws ats ss path j)
       field_if s ss path j true rest = bits_under ats s low
       field_if s ss path j false rest = rest
 
-      pub field_under : (ss : List PartAt) (path : List ℕ) (j : ℕ) → IsUnder high (field_word m ws ats ss path j)
+      pub field_under : (ss : List LocatedPart) (path : List ℕ) (j : ℕ) → IsUnder high (field_word m ws ats ss path j)
       field_under [] path j = below_under high nothing (nothing_below high)
-      field_under (s ∷ ss) path j = field_if s ss path j (holds s.part.kind path j) (field_under ss path j)
+      field_under (s ∷ ss) path j = field_if s ss path j (is_field_word s.part.kind path j) (field_under ss path j)
 
-      holds_is : (k : Kind) (path : List ℕ) (j : ℕ) → holds k path j ≡ true → k ≡ Word path j
+      holds_is : (k : Kind) (path : List ℕ) (j : ℕ) → is_field_word k path j ≡ true → k ≡ Word path j
       holds_is (Const c) path j e = absurd cc
       holds_is (Bits own a) path j e = absurd cc
       holds_is (Pointer align b) path j e = absurd cc
@@ -214,13 +214,13 @@ module _ (m : List ImageBlock) (none : block_at m 0 ≡ None) where
           let b = both (same_path own path) (i == j) e in
           ap (λ q. Word q i) (path_is own path b.0) ∙ ap (λ n. Word path n) (same_nat i j b.1)
 
-      root_or_below : (s : PartAt) (block : Option ℕ) → s.block ≡ block → (s.block ≡ None) ⊎ IsBelow high (bits_at m ws ats s)
+      root_or_below : (s : LocatedPart) (block : Option ℕ) → s.block ≡ block → (s.block ≡ None) ⊎ IsBelow high (bits_at m ws ats s)
       root_or_below s None is = inl is
       root_or_below s (Some b) is =
           inr (range_below high (kept_at m ws ats s.block s) s.part.o s.part.l
           (subst (λ o. IsBelow high (kept_at m ws ats o s)) (sym is) (kept_below ats s b low)))
 
-      field_case : (s : PartAt) (ss : List PartAt) (path : List ℕ) (j : ℕ) (b : Bool) → holds s.part.kind path j ≡ b
+      field_case : (s : LocatedPart) (ss : List LocatedPart) (path : List ℕ) (j : ℕ) (b : Bool) → is_field_word s.part.kind path j ≡ b
           → RootPart ss path j ⊎ IsBelow high (field_word m ws ats ss path j)
           → RootPart (s ∷ ss) path j ⊎ IsBelow high (if b then bits_at m ws ats s else field_word m ws ats ss path j)
       field_case s ss path j false is (inl r) = inl (record { spot = r.spot; is_spot = inr r.is_spot; at_root = r.at_root; is_kind = r.is_kind })
@@ -230,9 +230,9 @@ module _ (m : List ImageBlock) (none : block_at m 0 ≡ None) where
         | inr h ↦ inr h
       ]
 
-      pub field_below : (ss : List PartAt) (path : List ℕ) (j : ℕ) → RootPart ss path j ⊎ IsBelow high (field_word m ws ats ss path j)
+      pub field_below : (ss : List LocatedPart) (path : List ℕ) (j : ℕ) → RootPart ss path j ⊎ IsBelow high (field_word m ws ats ss path j)
       field_below [] path j = inr (nothing_below high)
-      field_below (s ∷ ss) path j = field_case s ss path j (holds s.part.kind path j) refl (field_below ss path j)
+      field_below (s ∷ ss) path j = field_case s ss path j (is_field_word s.part.kind path j) refl (field_below ss path j)
 
 -- Lists of words -----------------------------------------------------------------------------
 -- what holds of each word of a field, and of none, holds at each place

@@ -18,13 +18,13 @@ use Rattle.rb_layout.specs.declared.layout.Kind.TheVariants.{Const, Bits, Word, 
 use Rattle.rb_layout.specs.declared.layout.Leaf.{Leaf}
 use Rattle.rb_layout.specs.declared.layout.Part.{Part}
 use Rattle.rb_layout.specs.declared.layout.WordRef.{WordRef}
-use Rattle.rb_rel.specs.Relation.{HoldsKind, Placed}
+use Rattle.rb_rel.specs.Relation.{HoldsKind, LeafStands}
 use Rattle.rb_image_text.specs.declared.fault.ImageFault.{ImageFault}
 use Rattle.rb_image_text.specs.declared.fault.ImageFault.TheVariants.{BadBits}
 use Rattle.rb_image_text.specs.declared.image.ImageBlock.{ImageBlock}
 use Rattle.rb_image.specs.declared.kept.Kept.{Kept}
 use Rattle.rb_image.specs.Falling.{PointersFall, base_in}
-use Rattle.rb_image.specs.Orders.{PartAt, order_of}
+use Rattle.rb_image.specs.Orders.{LocatedPart, order_of}
 use Rattle.rb_image.specs.Parts.{addresses_of, bits_at, examine, examine_kind, examine_part}
 use Rattle.rb_image.specs.Splits.{and_then}
 use Rattle.rb_image.proofs.FallingWords.{AreKeptAs, IsKnown, follows, kept_is, same_is}
@@ -34,16 +34,16 @@ use Rattle.rb_image.proofs.SpotLemmas.{In}
 use Rattle.rb_image.proofs.WholeMemories.{IsWhole}
 
 -- a pointer among parts
-pub pointer_counts : (c align : ℕ) (ss : List PartAt) (s : PartAt) → In s ss → s.part.kind ≡ Pointer align c → 1 ≤ pointing c ss
+pub pointer_counts : (c align : ℕ) (ss : List LocatedPart) (s : LocatedPart) → In s ss → s.part.kind ≡ Pointer align c → 1 ≤ pointing c ss
 pointer_counts c align [] s h e = absurd h
 pointer_counts c align (x ∷ ss) s (inl same) e =
-    let one : points c x.part.kind ≡ 1 = ap (λ (y : PartAt). points c y.part.kind) (sym same) ∙ ap (points c) e ∙ points_same c align in
+    let one : points c x.part.kind ≡ 1 = ap (λ (y : LocatedPart). points c y.part.kind) (sym same) ∙ ap (points c) e ∙ points_same c align in
     omega (arith, one)
 pointer_counts c align (x ∷ ss) s (inr h) e = let more = pointer_counts c align ss s h e in omega (arith, more)
 
 module _ (blocks : List ImageBlock) (m : Memory) (is : IsWhole blocks m)
     (leaf : Leaf) (flat : IsFlat leaf) (wide : (b : ℕ) (block : Block) (j : ℕ) (f : FlatWord) → slice_get leaf.blocks b ≡ Some block → slice_get block.words j ≡ Some f → IsBlockWidth f.width)
-    (ws : List ℕ) (subs : List ℕ → List ℕ) (ats from : ℕ → ℕ) (placed : Placed leaf ws m false subs ats) (falls : PointersFall leaf from ats)
+    (ws : List ℕ) (subs : List ℕ → List ℕ) (ats from : ℕ → ℕ) (placed : LeafStands leaf ws m false subs ats) (falls : PointersFall leaf from ats)
     (xs : List Kept) (kept : AreKeptAs xs ws from) where
   -- the blocks that were seen have their addresses
   abbrev AreKnown : (ℕ → ℕ) → List ℕ → Type 0
@@ -96,19 +96,19 @@ module _ (blocks : List ImageBlock) (m : Memory) (is : IsWhole blocks m)
         (subst (λ n. HoldsKind subs ats (take_of n q.o q.l) q.l q.kind) (sym at.0) (x.2.parts k q is_part))
 
   -- All parts --------------------------------------------------------------------------------
-  record Found (seen : ℕ → ℕ) (known : List ℕ) (ss : List PartAt) : Type 0 where
+  record Found (seen : ℕ → ℕ) (known : List ℕ) (ss : List LocatedPart) : Type 0 where
     found : List ℕ
     is_found : ◌≡◌ {A = Result (List ℕ) ImageFault} (examine blocks leaf xs known ss) (Ok found)
     all : AreKnown (λ c. seen c + pointing c ss) found
 
-  all_examined : (ss : List PartAt) (known : List ℕ) (seen : ℕ → ℕ) → length known ≡ length leaf.blocks → AreKnown seen known → AreLed seen ss
-      → ((s : PartAt) → In s ss → IsSpot leaf s) → Found seen known ss
+  all_examined : (ss : List LocatedPart) (known : List ℕ) (seen : ℕ → ℕ) → length known ≡ length leaf.blocks → AreKnown seen known → AreLed seen ss
+      → ((s : LocatedPart) → In s ss → IsSpot leaf s) → Found seen known ss
   all_examined [] known seen long all led spots = record { found = known; is_found = refl; all = λ c some. all c (omega (arith, some)) }
   all_examined (s ∷ ss) known seen long all led spots =
       let x = spots s (inl refl) in
-      let seen_block : BlockSeen seen x.ref.block = subst (BlockSeen seen) (ap (λ (y : PartAt). y.block) x.is) led.0 in
+      let seen_block : BlockSeen seen x.ref.block = subst (BlockSeen seen) (ap (λ (y : LocatedPart). y.block) x.is) led.0 in
       let e : Examined seen s.part.kind (examine_part blocks leaf xs known s) =
-      subst (λ (y : PartAt). Examined seen s.part.kind (examine_part blocks leaf xs known y)) (sym x.is)
+      subst (λ (y : LocatedPart). Examined seen s.part.kind (examine_part blocks leaf xs known y)) (sym x.is)
       (spot_examined x.ref x.word x.number s.part x.is_word x.is_part known seen long all seen_block) in
       let rest = all_examined ss e.next (λ c. points c s.part.kind + seen c) e.long e.all led.1 (λ y h. spots y (inr h)) in
       record {

@@ -8,7 +8,7 @@ use Rattle.rb_bytes.specs.Memory.{Memory}
 use Rattle.rb_layout.specs.declared.layout.FlatTree.{FlatTree, Split, Leaf}
 use Rattle.rb_layout.specs.declared.layout.FlatArm.{FlatArm}
 use Rattle.rb_layout.specs.A7.{IsTestAbove}
-use Rattle.rb_layout.specs.Splits.{Test, Is, IsNone, Route, behind, Under, arm_routes, else_routes, literals_of, routes_of, routes_under}
+use Rattle.rb_layout.specs.Splits.{Test, Is, IsNone, Route, under_test, Under, arm_routes, else_routes, literals_of, routes_of, routes_under}
 use Rattle.rb_layout.proofs.FlatForms.{Each, tree-induction}
 use Rattle.rb_rel.proofs.Lists.{get-append, get-left, get-mapped, get-right}
 use Rattle.rb_coding.specs.Arms.{under_number}
@@ -32,7 +32,7 @@ record IsBehind (loc : Loc) (r : Route) (rs : List Route) : Type 0 where
   place : ℕ
   test : Test
   is_loc : loc_of test ≡ loc
-  is_route : slice_get rs place ≡ Some (behind test r)
+  is_route : slice_get rs place ≡ Some (under_test test r)
 
 behind_else : (loc : Loc) (cs : List ℕ) (other : Option FlatTree) (next : FlatTree) → other ≡ Some next → (k : ℕ) (r : Route) → slice_get (routes_of next) k ≡ Some r
     → IsBehind loc r (else_routes loc cs (other_routes other))
@@ -41,7 +41,7 @@ behind_else loc cs (Some t) next e k r at = record {
   place = k;
   test = IsNone loc cs;
   is_loc = refl;
-  is_route = get-mapped (behind (IsNone loc cs)) (routes_of t) k r (ap (λ (x : FlatTree). slice_get (routes_of x) k) (same_Some t next e) ∙ at);
+  is_route = get-mapped (under_test (IsNone loc cs)) (routes_of t) k r (ap (λ (x : FlatTree). slice_get (routes_of x) k) (same_Some t next e) ∙ at);
 }
 
 behind_arms : (loc : Loc) (cs : List ℕ) (arms : List FlatArm) (other : Option FlatTree) (n : ℕ) (next : FlatTree) → under_number arms other n ≡ Some next
@@ -59,22 +59,22 @@ behind_arms loc cs (a ∷ arms) other n next e k r at = go (λ h. behind_arms lo
     last = else_routes loc cs (other_routes other)
 
     further : IsBehind loc r (rest ++ last) → IsBehind loc r ((first ++ rest) ++ last)
-    further b = elim (get-append rest last b.place (behind b.test r) b.is_route) [
+    further b = elim (get-append rest last b.place (under_test b.test r) b.is_route) [
       | inl h ↦
-          let g = get-right first rest b.place (behind b.test r) h in
-          record { place = g.0; test = b.test; is_loc = b.is_loc; is_route = get-left (first ++ rest) last g.0 (behind b.test r) g.1 }
+          let g = get-right first rest b.place (under_test b.test r) h in
+          record { place = g.0; test = b.test; is_loc = b.is_loc; is_route = get-left (first ++ rest) last g.0 (under_test b.test r) g.1 }
       | inr h ↦
-          let g = get-right (first ++ rest) last h.0 (behind b.test r) h.1 in
+          let g = get-right (first ++ rest) last h.0 (under_test b.test r) h.1 in
           record { place = g.0; test = b.test; is_loc = b.is_loc; is_route = g.1 }
     ]
 
     here : a.under ≡ next → IsBehind loc r ((first ++ rest) ++ last)
     here same =
         let test = Is loc a.literal in
-        let g : slice_get (map (behind test) (routes_of a.under)) k ≡ Some (behind test r) =
-        get-mapped (behind test) (routes_of a.under) k r (ap (λ (x : FlatTree). slice_get (routes_of x) k) same ∙ at) in
-        let f : slice_get first k ≡ Some (behind test r) = ap (λ (u : Under (List Route)). slice_get (arm_routes loc u) k) (under_is a) ∙ g in
-        record { place = k; test = test; is_loc = refl; is_route = get-left (first ++ rest) last k (behind test r) (get-left first rest k (behind test r) f) }
+        let g : slice_get (map (under_test test) (routes_of a.under)) k ≡ Some (under_test test r) =
+        get-mapped (under_test test) (routes_of a.under) k r (ap (λ (x : FlatTree). slice_get (routes_of x) k) same ∙ at) in
+        let f : slice_get first k ≡ Some (under_test test r) = ap (λ (u : Under (List Route)). slice_get (arm_routes loc u) k) (under_is a) ∙ g in
+        record { place = k; test = test; is_loc = refl; is_route = get-left (first ++ rest) last k (under_test test r) (get-left first rest k (under_test test r) f) }
 
     go : (under_number arms other n ≡ Some next → IsBehind loc r (rest ++ last)) → (b : Bool) → (if b then Some a.under else under_number arms other n) ≡ Some next → IsBehind loc r ((first ++ rest) ++ last)
     go more true h = here (same_Some a.under next h)
@@ -105,7 +105,7 @@ module _ (blocks : List ImageBlock) (xs : List Kept) (ws : List ℕ) (m : Memory
       let b = behind_tree t.n t.next t.is_next t.leads.number t.leads.route t.leads.is_route in
       let x = subst (HasRange blocks xs ws m) b.is_loc (ranges b.test (record {
         route_number = b.place;
-        route = behind b.test t.leads.route;
+        route = under_test b.test t.leads.route;
         number = 0;
         is_route = b.is_route;
         leads = t.leads.is_leaf;
@@ -117,7 +117,7 @@ module _ (blocks : List ImageBlock) (xs : List Kept) (ws : List ℕ) (m : Memory
       (let c = behind_tree t.n t.next t.is_next above.route_number above.route above.is_route in
       ranges test (record {
         route_number = c.place;
-        route = behind c.test above.route;
+        route = under_test c.test above.route;
         number = suc above.number;
         is_route = c.is_route;
         leads = above.leads;

@@ -13,7 +13,7 @@ use Rattle.rb_bytes.proofs.BlockLemmas.{block_bounds, within_size}
 use Rattle.rb_bytes.proofs.MemoryLemmas.{load_ok}
 use Rattle.rb_layout.specs.A4.{IsBlockWidth}
 use Rattle.rb_layout.specs.Flat.{IsFlat}
-use Rattle.rb_layout.specs.Locations.{Reached, block_at, block_in, next_ref, range_in, reached_at, ref_in, resolve_from, word_beginning}
+use Rattle.rb_layout.specs.Locations.{Reached, pointer_block, block_in, next_ref, range_in, reached_at, ref_in, resolve_from, word_beginning}
 use Rattle.rb_layout.specs.Pointers.{PointsTo}
 use Rattle.rb_layout.specs.Words.{words_in, words_of_block, flat_at, begins_at, size_of}
 use Rattle.rb_layout.specs.declared.layout.Block.{Block}
@@ -22,8 +22,8 @@ use Rattle.rb_layout.specs.declared.layout.Kind.{Kind}
 use Rattle.rb_layout.specs.declared.layout.Leaf.{Leaf}
 use Rattle.rb_layout.specs.declared.layout.Part.{Part}
 use Rattle.rb_layout.specs.declared.layout.WordRef.{WordRef}
-use Rattle.rb_rel.specs.Reading.{WordStands, after, read_first, read_from, read_loc}
-use Rattle.rb_rel.specs.Relation.{HoldsKind, IsFound, Placed}
+use Rattle.rb_rel.specs.Reading.{WordStands, on_loaded, read_first, read_from, read_loc}
+use Rattle.rb_rel.specs.Relation.{HoldsKind, IsFound, LeafStands}
 use Rattle.rb_rel.proofs.Lists.{and_true}
 use Rattle.rb_rel.proofs.Reading.{IsAt, block_in-is, stands_at, word_beginning-is}
 use Rattle.rb_image_text.specs.declared.fault.ImageFault.{ImageFault}
@@ -32,7 +32,7 @@ use Rattle.rb_image_text.specs.declared.image.ImageBlock.{ImageBlock}
 use Rattle.rb_image.specs.declared.kept.Kept.{Kept}
 use Rattle.rb_image.specs.Blocks.{size_at, word_in}
 use Rattle.rb_image.specs.Falling.{AddressFalls, PointersFall, base_in}
-use Rattle.rb_image.specs.Parts.{block_from, block_size, followed, if_size, kept_at}
+use Rattle.rb_image.specs.Parts.{block_from, block_size, pointer_lead, if_size, kept_at}
 use Rattle.rb_image.specs.Splits.{and_then, kept_in, or_fault, pointed_from, range_at, range_from, range_of, step_over, with_base, word_at}
 use Rattle.rb_image.proofs.FoundWords.{in_block}
 use Rattle.rb_image.proofs.PlacedSpots.{spot_of}
@@ -92,7 +92,7 @@ module _ (blocks : List ImageBlock) (m : Memory) (is : IsWhole blocks m) where
       x.is_word ∙ ap Some (same_loaded x.w w (sym x.loaded ∙ e))
 
   module _ (leaf : Leaf) (flat : IsFlat leaf) (wide : (b : ℕ) (block : Block) (j : ℕ) (f : FlatWord) → slice_get leaf.blocks b ≡ Some block → slice_get block.words j ≡ Some f → IsBlockWidth f.width)
-      (ws : List ℕ) (subs : List ℕ → List ℕ) (ats from : ℕ → ℕ) (placed : Placed leaf ws m false subs ats) (falls : PointersFall leaf from ats)
+      (ws : List ℕ) (subs : List ℕ → List ℕ) (ats from : ℕ → ℕ) (placed : LeafStands leaf ws m false subs ats) (falls : PointersFall leaf from ats)
       (xs : List Kept) (kept : AreKeptAs xs ws from) where
     -- Words --------------------------------------------------------------------------------
     block_width : (b : ℕ) (o : Option Block) (j : ℕ) (f : FlatWord) → slice_get leaf.blocks b ≡ o → slice_get (words_of_block o) j ≡ Some f → IsBlockWidth f.width
@@ -122,12 +122,12 @@ module _ (blocks : List ImageBlock) (m : Memory) (is : IsWhole blocks m) where
       block_there = let block = (flat.below r l align b points).0 in placed.blocks b block.0 block.1
 
       -- a pointer leads to its block
-      pub follows : ◌≡◌ {A = Result ℕ ImageFault} (followed blocks leaf bits align b) (Ok (ats b))
+      pub follows : ◌≡◌ {A = Result ℕ ImageFault} (pointer_lead blocks leaf bits align b) (Ok (ats b))
       follows =
           let block = (flat.below r l align b points).0 in
           let size = block_size (slice_get leaf.blocks b) in
           let found : size_at blocks (ats b) ≡ Some size = is.whole (ats b) (size_of block.0) block_there ∙ ap (λ o. Some (block_size o)) (sym block.1) in
-          let one : ◌≡◌ {A = Result ℕ ImageFault} (followed blocks leaf bits align b) (or_fault (block_from blocks (pointed_from bits.base (ats b)) size) (BadPointer bits.base (ats b))) =
+          let one : ◌≡◌ {A = Result ℕ ImageFault} (pointer_lead blocks leaf bits align b) (or_fault (block_from blocks (pointed_from bits.base (ats b)) size) (BadPointer bits.base (ats b))) =
           ap (λ a. or_fault (block_from blocks (pointed_from bits.base a) size) (BadPointer bits.base a)) number in
           one
           ∙ ap (λ o. or_fault (block_from blocks o size) (BadPointer bits.base (ats b))) (pointer_falls block_there)
@@ -189,7 +189,7 @@ module _ (blocks : List ImageBlock) (m : Memory) (is : IsWhole blocks m) where
           record {
             k = go.k;
             is_range = ap (λ z. and_then z (λ u. range_from blocks (range_of u t.o t.l) steps)) over ∙ go.is_range;
-            is_read = ap (λ z. after z (λ u. read_from m u t.o t.l steps)) reads ∙ go.is_read;
+            is_read = ap (λ z. on_loaded z (λ u. read_from m u t.o t.l steps)) reads ∙ go.is_read;
           }
 
       by_block : (found : Option ℕ) → block_in f.parts o l t.align ≡ found → resolve_from leaf (next_ref leaf found t) t.o t.l steps ≡ Some x → Ranged range w o l (t ∷ steps)
@@ -200,11 +200,11 @@ module _ (blocks : List ImageBlock) (m : Memory) (is : IsWhole blocks m) where
     ranged [] o l x r f w s e range number base = record { k = range; is_range = refl; is_read = ap Some (sym number) }
     ranged (t ∷ steps) o l x r f w s e range number base =
         by_block t steps r f w o l x s (ranged steps t.o t.l x) range number base (block_in f.parts o l t.align) refl
-        (ap (λ y. resolve_from leaf (next_ref leaf (block_at y o l t.align) t) t.o t.l steps) (sym s.is_flat) ∙ e)
+        (ap (λ y. resolve_from leaf (next_ref leaf (pointer_block y o l t.align) t) t.o t.l steps) (sym s.is_flat) ∙ e)
 
     none_resolves : (steps : List Step) (r : WordRef) (o l : ℕ) (x : Reached) → flat_at leaf r ≡ None → resolve_from leaf (Some r) o l steps ≡ Some x → ⊥
     none_resolves [] r o l x at e = let h = ap (λ y. range_in y r o l) (sym at) ∙ e in cc
-    none_resolves (t ∷ steps) r o l x at e = let h = ap (λ y. resolve_from leaf (next_ref leaf (block_at y o l t.align) t) t.o t.l steps) (sym at) ∙ e in cc
+    none_resolves (t ∷ steps) r o l x at e = let h = ap (λ y. resolve_from leaf (next_ref leaf (pointer_block y o l t.align) t) t.o t.l steps) (sym at) ∙ e in cc
 
     pub read_at : (loc : Loc) (x : Reached) → reached_at leaf loc ≡ Some x → HasRange blocks xs ws m loc
     read_at loc x e = go (flat_at leaf root) refl

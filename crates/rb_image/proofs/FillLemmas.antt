@@ -12,7 +12,7 @@ use Rattle.rb_bytes.proofs.BlockLemmas.{block_bounds, size_at-push}
 use Rattle.rb_bytes.proofs.ByteLemmas.{byte_at-set_same, byte_at-write_le_outside}
 use Rattle.rb_bytes.proofs.MemoryLemmas.{Extends-trans, placed_is, store_within, write_good, written_below}
 use Rattle.rb_image_text.specs.declared.image.ImageBlock.{ImageBlock}
-use Rattle.rb_image_text.specs.Images.{AreBlocks}
+use Rattle.rb_image_text.specs.Images.{AreImageBlocks}
 use Rattle.rb_image_text.specs.Places.{AreInPlace}
 use Rattle.rb_image_text.proofs.PlaceLemmas.{end_next}
 use Rattle.rb_image.specs.Memories.{Stand, BlockStands}
@@ -157,7 +157,7 @@ module _ (old m placed new : Memory) (b : ImageBlock) (ext : Extends old m) (goo
   }
 
 -- ---- all blocks
-pub block_sized : (blocks : List ImageBlock) (i : ℕ) (b : ImageBlock) → AreBlocks blocks → slice_get blocks i ≡ Some b → IsSize (length b.bytes)
+pub block_sized : (blocks : List ImageBlock) (i : ℕ) (b : ImageBlock) → AreImageBlocks blocks → slice_get blocks i ≡ Some b → IsSize (length b.bytes)
 block_sized [] i b are is = cc
 block_sized (c ∷ blocks) zero b are is = subst (λ (x : ImageBlock). IsSize (length x.bytes)) (same_Some c b is) (omega (arith, are.0.some), are.0.few)
 block_sized (c ∷ blocks) (suc i) b are is = block_sized blocks i b are.1 is

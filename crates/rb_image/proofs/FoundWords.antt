@@ -20,7 +20,7 @@ use Rattle.rb_rel.proofs.Lists.{got, get-mapped}
 use Rattle.rb_rel.proofs.Storing.{begins_within}
 use Rattle.rb_image_text.specs.declared.image.ImageBlock.{ImageBlock}
 use Rattle.rb_image.specs.declared.kept.Kept.{Kept}
-use Rattle.rb_image.specs.Blocks.{block_at, size_at, size_in, is_width, word_in, word_of}
+use Rattle.rb_image.specs.Blocks.{block_at, size_at, size_in, is_width, word_in, block_word}
 use Rattle.rb_image.specs.Parts.{kept_at}
 use Rattle.rb_image.specs.Splits.{nothing, word_at}
 use Rattle.rb_image.specs.Values.{KeepsImage}
@@ -79,7 +79,7 @@ module _ (blocks : List ImageBlock) (m : Memory) (keeps : KeepsImage blocks m) w
           let long : length b.bytes ≡ size = same_Some (length b.bytes) size h in
           let n = from_le_bytes (slice_range b.bytes byte (byte + width / 8)) in
           let there : word_in blocks at byte width ≡ Some n =
-          ap (λ o. word_of o byte width) e ∙ sym (word_found b byte width n (width_true width wide) (le_true (byte + width / 8) (length b.bytes) (omega (arith, long, le))) refl) in
+          ap (λ o. block_word o byte width) e ∙ sym (word_found b byte width n (width_true width wide) (le_true (byte + width / 8) (length b.bytes) (omega (arith, long, le))) refl) in
           let loaded = keeps.words at byte width n there in
           record {
             w = n;

@@ -38,9 +38,9 @@ use Rattle.rb_rel.proofs.Lists.{get-mapped}
 use Rattle.rb_rel.proofs.Widths.{positions_typed}
 use Rattle.rb_image_text.specs.declared.image.ImageBlock.{ImageBlock}
 use Rattle.rb_image.specs.declared.kept.Kept.{Kept}
-use Rattle.rb_image.specs.Integers.{bit_in, field_bit, numbered}
-use Rattle.rb_image.specs.Orders.{PartAt, order_of}
-use Rattle.rb_image.specs.Parts.{bits_at, field_word, field_words, holds}
+use Rattle.rb_image.specs.Integers.{bit_in, field_bit, number_of_bits}
+use Rattle.rb_image.specs.Orders.{LocatedPart, order_of}
+use Rattle.rb_image.specs.Parts.{bits_at, field_word, field_words, is_field_word}
 use Rattle.rb_image.proofs.ExaminedParts.{FineKind, IsFine}
 use Rattle.rb_image.proofs.FoundWords.{numbers}
 use Rattle.rb_image.proofs.HeldOnce.{bits_hold, word_holds, held_once, AreOne, HeldAt}
@@ -48,7 +48,7 @@ use Rattle.rb_image.proofs.PlacedSpots.{spot_of, order_spots, part_in_order}
 use Rattle.rb_image.proofs.SpotLemmas.{In}
 
 -- Numbers by bits ----------------------------------------------------------------------------
-pub numbered_fits : (n : ℕ) (f : ℕ → ℕ) → ((i : ℕ) → f i < 2) → numbered n f < 2 ^ n
+pub numbered_fits : (n : ℕ) (f : ℕ → ℕ) → ((i : ℕ) → f i < 2) → number_of_bits n f < 2 ^ n
 numbered_fits zero f small = let z : 2 ^ 0 ≡ 1 = refl in omega (arith, z)
 numbered_fits (suc n) f small =
     let rest = numbered_fits n (λ i. f (suc i)) (λ i. small (suc i)) in
@@ -56,15 +56,15 @@ numbered_fits (suc n) f small =
     let p : 2 ^ (suc n) ≡ 2 * 2 ^ n = omega (arith, pow-add 2 1 n) in
     omega (arith, rest, first, p)
 
-pub numbered_bit : (n : ℕ) (f : ℕ → ℕ) → ((i : ℕ) → f i < 2) → (i : ℕ) → i < n → bit_at (numbered n f) i ≡ f i
+pub numbered_bit : (n : ℕ) (f : ℕ → ℕ) → ((i : ℕ) → f i < 2) → (i : ℕ) → i < n → bit_at (number_of_bits n f) i ≡ f i
 numbered_bit zero f small i lt = absurd (omega (arith, lt))
 numbered_bit (suc n) f small zero lt =
     let first = small 0 in
-    let low : (f 0 + 2 * numbered n (λ i. f (suc i))) % 2 ≡ f 0 = omega (arith, first) in
-    bit_at_lowest (f 0 + 2 * numbered n (λ i. f (suc i))) ∙ low
+    let low : (f 0 + 2 * number_of_bits n (λ i. f (suc i))) % 2 ≡ f 0 = omega (arith, first) in
+    bit_at_lowest (f 0 + 2 * number_of_bits n (λ i. f (suc i))) ∙ low
 numbered_bit (suc n) f small (suc i) lt =
     let first = small 0 in
-    let r = numbered n (λ i. f (suc i)) in
+    let r = number_of_bits n (λ i. f (suc i)) in
     let half : (f 0 + 2 * r) / 2 ≡ r = omega (arith, first) in
     bit_at-suc (f 0 + 2 * r) i ∙ ap (λ k. bit_at k i) half ∙ numbered_bit n (λ i. f (suc i)) (λ i. small (suc i)) i (omega (arith, lt))
 
@@ -96,22 +96,22 @@ if_small : (t : Bool) (a b : ℕ) → a < 2 → b < 2 → (if t then a else b) <
 if_small true a b x y = x
 if_small false a b x y = y
 
-pub field_bit_small : (value : PartAt → ℕ) (ty : Ty) (ss : List PartAt) (path : List ℕ) (i : ℕ) → field_bit value ty ss path i < 2
+pub field_bit_small : (value : LocatedPart → ℕ) (ty : Ty) (ss : List LocatedPart) (path : List ℕ) (i : ℕ) → field_bit value ty ss path i < 2
 field_bit_small value ty [] path i = omega arith
 field_bit_small value ty (s ∷ ss) path i =
     if_small (holds_unit ty path i s.part.l s.part.kind) (bit_in (value s) i s.part.kind) (field_bit value ty ss path i) (bit_small (value s) i s.part.kind) (field_bit_small value ty ss path i)
 
-module _ (value : PartAt → ℕ) (ty : Ty) (path : List ℕ) (i : ℕ) where
-  abbrev test : PartAt → Bool
+module _ (value : LocatedPart → ℕ) (ty : Ty) (path : List ℕ) (i : ℕ) where
+  abbrev test : LocatedPart → Bool
   test s = holds_unit ty path i s.part.l s.part.kind
 
-  record FirstBit (ss : List PartAt) : Type 0 where
-    pub spot : PartAt
+  record FirstBit (ss : List LocatedPart) : Type 0 where
+    pub spot : LocatedPart
     pub there : In spot ss
     pub holds : test spot ≡ true
     pub is : field_bit value ty ss path i ≡ bit_in (value spot) i spot.part.kind
 
-  first_bit : (ss : List PartAt) (s : PartAt) → In s ss → test s ≡ true → FirstBit ss
+  first_bit : (ss : List LocatedPart) (s : LocatedPart) → In s ss → test s ≡ true → FirstBit ss
   first_bit [] s h e = absurd h
   first_bit (x ∷ ss) s h e = go (λ g. first_bit ss s g e) (test x) refl
     where
@@ -125,27 +125,27 @@ module _ (value : PartAt → ℕ) (ty : Ty) (path : List ℕ) (i : ℕ) where
       ]
 
 module _ (m : List ImageBlock) (ws : List Kept) (ats : List ℕ) (path : List ℕ) (j : ℕ) where
-  record FirstWord (ss : List PartAt) : Type 0 where
-    pub spot : PartAt
+  record FirstWord (ss : List LocatedPart) : Type 0 where
+    pub spot : LocatedPart
     pub there : In spot ss
-    pub holds : holds spot.part.kind path j ≡ true
+    pub holds : is_field_word spot.part.kind path j ≡ true
     pub is : field_word m ws ats ss path j ≡ bits_at m ws ats spot
 
-  first_word : (ss : List PartAt) (s : PartAt) → In s ss → holds s.part.kind path j ≡ true → FirstWord ss
+  first_word : (ss : List LocatedPart) (s : LocatedPart) → In s ss → is_field_word s.part.kind path j ≡ true → FirstWord ss
   first_word [] s h e = absurd h
-  first_word (x ∷ ss) s h e = go (λ g. first_word ss s g e) (holds x.part.kind path j) refl
+  first_word (x ∷ ss) s h e = go (λ g. first_word ss s g e) (is_field_word x.part.kind path j) refl
     where
-      go : (In s ss → FirstWord ss) → (b : Bool) → holds x.part.kind path j ≡ b → FirstWord (x ∷ ss)
+      go : (In s ss → FirstWord ss) → (b : Bool) → is_field_word x.part.kind path j ≡ b → FirstWord (x ∷ ss)
       go more true is = record { spot = x; there = inl refl; holds = is; is = ap (λ t. if t then bits_at m ws ats x else field_word m ws ats ss path j) is }
       go more false is = elim h [
-        | inl same ↦ absurd (let z = sym is ∙ ap (λ (y : PartAt). holds y.part.kind path j) (sym same) ∙ e in cc)
+        | inl same ↦ absurd (let z = sym is ∙ ap (λ (y : LocatedPart). is_field_word y.part.kind path j) (sym same) ∙ e in cc)
         | inr g ↦
             let r = more g in
             record { spot = r.spot; there = inr r.there; holds = r.holds; is = ap (λ t. if t then bits_at m ws ats x else field_word m ws ats ss path j) is ∙ r.is }
       ]
 
 -- a part holds a word as rule A6 says
-unit_holds : (s : ℕ) (path : List ℕ) (j l : ℕ) (kind : Kind) → holds kind path j ≡ holds_unit (Named s) path j l kind
+unit_holds : (s : ℕ) (path : List ℕ) (j l : ℕ) (kind : Kind) → is_field_word kind path j ≡ holds_unit (Named s) path j l kind
 unit_holds s path j l (Const c) = refl
 unit_holds s path j l (Bits own a) = refl
 unit_holds s path j l (Word own i) = refl
@@ -200,14 +200,14 @@ module _ (p : Program) (typed : IsTyped p) (agrees : Agrees p) where
         omega (arith, one, a, b)
 
     module _ (r : WordRef) (f : FlatWord) (k : ℕ) (q : Part) (is_word : flat_at leaf r ≡ Some f) (is_part : slice_get f.parts k ≡ Some q) where
-      abbrev spot : PartAt
+      abbrev spot : LocatedPart
       spot = spot_of leaf r f q
 
       there : In spot (order_of leaf)
       there = part_in_order leaf ok.flat low r f k q is_word is_part
 
       -- no other part of the order holds the unit
-      only_spot : (ty : Ty) (path : List ℕ) (i : ℕ) → times_held leaf ty path i ≤ 1 → holds_unit ty path i q.l q.kind ≡ true → (s : PartAt) → In s (order_of leaf) → holds_unit ty path i s.part.l s.part.kind ≡ true → s ≡ spot
+      only_spot : (ty : Ty) (path : List ℕ) (i : ℕ) → times_held leaf ty path i ≤ 1 → holds_unit ty path i q.l q.kind ≡ true → (s : LocatedPart) → In s (order_of leaf) → holds_unit ty path i s.part.l s.part.kind ≡ true → s ≡ spot
       only_spot ty path i one h s at g =
           let x = order_spots leaf s at in
           let a : HeldAt leaf ty path i x.ref x.word s.part = record { number = x.number; is_word = x.is_word; is_part = x.is_part; holds = g } in
@@ -216,7 +216,7 @@ module _ (p : Program) (typed : IsTyped p) (agrees : Agrees p) where
           x.is ∙ ap (λ (y : WordRef). spot_of leaf y x.word s.part) same.ref ∙ ap (λ (y : FlatWord). spot_of leaf r y s.part) same.word ∙ ap (λ (y : Part). spot_of leaf r f y) same.part
 
       module _ (m : List ImageBlock) (ws : List Kept) (ats : List ℕ) where
-        abbrev value : PartAt → ℕ
+        abbrev value : LocatedPart → ℕ
         value s = (bits_at m ws ats s).number
 
         pub bit_is : (path : List ℕ) (bits a : ℕ) → type_at opens path ≡ Some (Int bits) → q.kind ≡ Bits path a → a + q.l ≤ bits → (i : ℕ) → i < q.l
@@ -226,7 +226,7 @@ module _ (p : Program) (typed : IsTyped p) (agrees : Agrees p) where
             let x = first_bit value (Int bits) path (a + i) (order_of leaf) spot there holds in
             let same = only_spot (Int bits) path (a + i) (few path (Int bits) (a + i) is_ty (omega (arith, within, lt))) holds x.spot x.there x.holds in
             let z : a + i - a ≡ i = omega arith in
-            x.is ∙ ap (λ (s : PartAt). bit_in (value s) (a + i) s.part.kind) same ∙ ap (bit_in (value spot) (a + i)) kind ∙ ap (bit_at (value spot)) z
+            x.is ∙ ap (λ (s : LocatedPart). bit_in (value s) (a + i) s.part.kind) same ∙ ap (bit_in (value spot) (a + i)) kind ∙ ap (bit_at (value spot)) z
 
         pub word_is : (path : List ℕ) (s j : ℕ) → type_at opens path ≡ Some (Named s) → q.kind ≡ Word path j → j < length (shape_of p.layouts s)
             → field_word m ws ats (order_of leaf) path j ≡ bits_at m ws ats spot
@@ -237,12 +237,12 @@ module _ (p : Program) (typed : IsTyped p) (agrees : Agrees p) where
             x.is ∙ ap (bits_at m ws ats) same
 
     module _ (m : List ImageBlock) (ws : List Kept) (ats : List ℕ) where
-      abbrev pub bits_value : PartAt → ℕ
+      abbrev pub bits_value : LocatedPart → ℕ
       bits_value s = (bits_at m ws ats s).number
 
       abbrev pub subs_at : Option Ty → List ℕ → List ℕ
       subs_at None path = []
-      subs_at (Some (Int bits)) path = numbered bits (field_bit bits_value (Int bits) (order_of leaf) path) ∷ []
+      subs_at (Some (Int bits)) path = number_of_bits bits (field_bit bits_value (Int bits) (order_of leaf) path) ∷ []
       subs_at (Some (Named s)) path = numbers (field_words (field_word m ws ats (order_of leaf)) path 0 (word_count (flat_layouts p) (Named s)))
 
       -- the words at a path
@@ -250,7 +250,7 @@ module _ (p : Program) (typed : IsTyped p) (agrees : Agrees p) where
       subs path = subs_at (type_at opens path) path
 
       module _ (r : WordRef) (f : FlatWord) (k : ℕ) (q : Part) (is_word : flat_at leaf r ≡ Some f) (is_part : slice_get f.parts k ≡ Some q) where
-        abbrev here : PartAt
+        abbrev here : LocatedPart
         here = spot_of leaf r f q
 
         small : bits_value here < 2 ^ q.l
@@ -259,7 +259,7 @@ module _ (p : Program) (typed : IsTyped p) (agrees : Agrees p) where
         slice_held : (path : List ℕ) (bits a : ℕ) → type_at opens path ≡ Some (Int bits) → q.kind ≡ Bits path a → a + q.l ≤ bits → bits_value here ≡ take_of (slice_index (subs path) 0) a q.l
         slice_held path bits a is_ty kind within =
             let bit = field_bit bits_value (Int bits) (order_of leaf) path in
-            let n = numbered bits bit in
+            let n = number_of_bits bits bit in
             let is : slice_index (subs path) 0 ≡ n = ap (λ o. slice_index (subs_at o path) 0) is_ty in
             same_from_bits_below q.l (bits_value here) (take_of n a q.l) small (take_fits n a q.l) (λ i lt.
             sym (bit_is r f k q is_word is_part m ws ats path bits a is_ty kind within i lt)

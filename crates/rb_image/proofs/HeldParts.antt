@@ -20,7 +20,7 @@ use Rattle.rb_core.proofs.ValueLaws.{is_of_type-Con, subs-Con}
 use Rattle.rb_bytes.specs.Memory.{Memory}
 use Rattle.rb_layout.specs.declared.layout.Layout.{Layout}
 use Rattle.rb_layout.specs.declared.layout.Leaf.{Leaf}
-use Rattle.rb_layout.specs.A9.{HasPointerPart, cons_below, cons_below_root, cons_of}
+use Rattle.rb_layout.specs.A9.{HasPointerPart, cons_below, cons_below_root, pattern_cons}
 use Rattle.rb_layout.specs.Agreement.{Agrees}
 use Rattle.rb_layout.specs.Flattening.{flat_layouts}
 use Rattle.rb_layout.specs.Positions.{Open, open_positions, opens_of, types_or_none}
@@ -39,19 +39,19 @@ use Rattle.rb_image_text.specs.declared.image.ImageBlock.{ImageBlock}
 use Rattle.rb_image.specs.declared.kept.Kept.{Kept}
 use Rattle.rb_image.specs.Fields.{Position, field_in, field_of, with_type}
 use Rattle.rb_image.specs.HeldParts.{GivenPartsAreHeld}
-use Rattle.rb_image.specs.Integers.{field_bit, numbered}
-use Rattle.rb_image.specs.LeafWords.{reached}
+use Rattle.rb_image.specs.Integers.{field_bit, number_of_bits}
+use Rattle.rb_image.specs.LeafWords.{block_addresses}
 use Rattle.rb_image.specs.Memories.{image_memory}
-use Rattle.rb_image.specs.Orders.{PartAt, order_of}
+use Rattle.rb_image.specs.Orders.{LocatedPart, order_of}
 use Rattle.rb_image.specs.Parts.{bits_at, field_word, field_words}
 use Rattle.rb_image.specs.PathParts.{IsPartThere}
 use Rattle.rb_image.specs.Peeking.{words_there}
 use Rattle.rb_image.specs.Rebuilds.{end_of, numbers_of, rebuilt, unless_refused, words_of}
-use Rattle.rb_image.specs.RebuiltValues.{AreRight, IsInner, ValueStands, is_plain}
+use Rattle.rb_image.specs.RebuiltValues.{AreRight, IsInner, ValueStands, is_numberless}
 use Rattle.rb_image.specs.Roots.{kept_from}
 use Rattle.rb_image.specs.TakenApart.{open_words}
 use Rattle.rb_image.specs.Splits.{leaf_at}
-use Rattle.rb_image.specs.Walks.{Seen, Where, arrived, layout_at, leaf_or_none, moved, see, step, steps}
+use Rattle.rb_image.specs.Walks.{Waypoint, Where, arrived, layout_at, leaf_or_none, moved, see, step, steps}
 use Rattle.rb_image.specs.Ways.{refused_below}
 use Rattle.rb_image.proofs.DescendingValues.{Descends-represents}
 use Rattle.rb_image.proofs.ExaminedParts.{then_ok}
@@ -80,7 +80,7 @@ module _ (p : Program) (typed : IsTyped p) (agrees : Agrees p) (blocks : List Im
   -- a pattern of a type, the types of whose constructors have no pointers, but for the one at its head
   record Fits (q : Pat) (ty : Ty) : Type 0 where
     fits : fits_type types q ty ≡ true
-    plain : is_plain q ≡ true
+    plain : is_numberless q ≡ true
     free : (k : ℕ) (c : ConRef) → slice_get (cons_below q) k ≡ Some c → HasPointerPart layouts c.ty → ⊥
 
   -- what stands at the position of a walk, in the last subvalue
@@ -92,7 +92,7 @@ module _ (p : Program) (typed : IsTyped p) (agrees : Agrees p) (blocks : List Im
     matches : matches_of w.here.pat part ≡ true
     inner : (w.last.at ≡ [] → ⊥) → IsInner p w.here.pat w.here.ty
 
-  below_con : (at : ℕ) (c : ConRef) (ps : List Pat) → cons_below (Con at c ps) ≡ flat_map (λ (cs : List ConRef). cs) (map cons_of ps)
+  below_con : (at : ℕ) (c : ConRef) (ps : List Pat) → cons_below (Con at c ps) ≡ flat_map (λ (cs : List ConRef). cs) (map pattern_cons ps)
   below_con at c ps = ap cons_below_root (outs-Con at c ps) ∙ sym (flat_same ps)
 
   inner_fits : (q : Pat) (ty : Ty) → IsInner p q ty → Fits q ty
@@ -103,7 +103,7 @@ module _ (p : Program) (typed : IsTyped p) (agrees : Agrees p) (blocks : List Im
       go (var at x e) k d g = absurd (let z = sym (ap (λ (l : Pat-F Pat). slice_get (cons_below_root l) k) (ap out-Pat e ∙ outs-Var at x)) ∙ g in cc)
       go (num at n e) k d g = absurd (let z = sym (ap (λ (l : Pat-F Pat). slice_get (cons_below_root l) k) (ap out-Pat e ∙ outs-Num at n)) ∙ g in cc)
       go (con at c ps e) k d g =
-          let all : cons_of q ≡ c ∷ flat_map (λ (cs : List ConRef). cs) (map cons_of ps) = ap cons_of e ∙ cons-Con at c ps in
+          let all : pattern_cons q ≡ c ∷ flat_map (λ (cs : List ConRef). cs) (map pattern_cons ps) = ap pattern_cons e ∙ cons-Con at c ps in
           h.free (suc k) d (ap (λ (cs : List ConRef). slice_get cs (suc k)) all ∙ ap (λ (cs : List ConRef). slice_get cs k) (sym (ap cons_below e ∙ below_con at c ps)) ∙ g)
 
   -- Steps ------------------------------------------------------------------------------------
@@ -133,10 +133,10 @@ module _ (p : Program) (typed : IsTyped p) (agrees : Agrees p) (blocks : List Im
       let one : r.0 ≡ pos.ty = same_Some r.0 pos.ty (sym r.1 ∙ ap (λ j. slice_get (types_or_none (fields_in (slice_get types j) c.con)) i) own ∙ both_.1) in
       let inner : IsInner p pos.pat pos.ty = record {
         fits = subst (λ ty. fits_type types pos.pat ty ≡ true) same_ty t.2;
-        plain = plain_at ps (sym (plain-Con at c ps) ∙ ap is_plain (sym form) ∙ x.fit.plain) i pos.pat both_.0;
+        plain = plain_at ps (sym (plain-Con at c ps) ∙ ap is_numberless (sym form) ∙ x.fit.plain) i pos.pat both_.0;
         free = λ k d h.
-            let j = in_one d (map cons_of ps) i (cons_of pos.pat) (get-mapped cons_of ps i pos.pat both_.0) (get_in d (cons_of pos.pat) k h) in
-            let g = in_get d (flat_map (λ (cs : List ConRef). cs) (map cons_of ps)) j in
+            let j = in_one d (map pattern_cons ps) i (pattern_cons pos.pat) (get-mapped pattern_cons ps i pos.pat both_.0) (get_in d (pattern_cons pos.pat) k h) in
+            let g = in_get d (flat_map (λ (cs : List ConRef). cs) (map pattern_cons ps)) j in
             x.fit.free g.0 d (ap (λ q. slice_get (cons_below q) g.0) form ∙ ap (λ (cs : List ConRef). slice_get cs g.0) (below_con at c ps) ∙ g.1);
       } in
       record {
@@ -161,13 +161,13 @@ module _ (p : Program) (typed : IsTyped p) (agrees : Agrees p) (blocks : List Im
   abbrev Stood : Where → List ℕ → Type 0
   Stood w first = Q.Stands p typed agrees blocks m is v w first
 
-  see_root : (t : ℕ) (ws : List Kept) (s : Seen) → ◌≡◌ {A = Sees} (see layouts blocks t ws) (Ok s) → s.at ≡ []
+  see_root : (t : ℕ) (ws : List Kept) (s : Waypoint) → ◌≡◌ {A = Sees} (see layouts blocks t ws) (Ok s) → s.at ≡ []
   see_root t ws s e =
       let layout = layout_at layouts t in
       let r = then_ok (leaf_at layout.tree blocks ws) (λ n. Ok (record { ty = t; words = ws; leaf = leaf_or_none (slice_get layout.leaves n); at = [] })) s e in
-      sym (ap (λ (x : Seen). x.at) (same_Ok (record { ty = t; words = ws; leaf = leaf_or_none (slice_get layout.leaves r.0); at = [] }) s r.2))
+      sym (ap (λ (x : Waypoint). x.at) (same_Ok (record { ty = t; words = ws; leaf = leaf_or_none (slice_get layout.leaves r.0); at = [] }) s r.2))
 
-  arrive_extra : (before : List Seen) (s : Seen) (first : List ℕ) (st : Stood (arrived before s) first) → s.at ≡ [] → Extra (arrived before s) st.u
+  arrive_extra : (before : List Waypoint) (s : Waypoint) (first : List ℕ) (st : Stood (arrived before s) first) → s.at ≡ [] → Extra (arrived before s) st.u
   arrive_extra before s first st none =
       let b = st.b in
       let law = (lawful p agrees typed).provenances in
@@ -212,11 +212,11 @@ module _ (p : Program) (typed : IsTyped p) (agrees : Agrees p) (blocks : List Im
     words_same : (k : ℕ) (o : Open) (e : slice_get (open_positions types st.b.leaf.prov) k ≡ Some o) (ty : Ty) → o.ty ≡ ty → open_words layouts blocks (end_of types layouts blocks w) o.path ty ≡ st.b.subs o.path
     words_same k o e (Int bits) is_int =
         let r = Represents-int types layouts m false bits (st.b.at o.path) (st.b.subs o.path) (subst (λ (ty : Ty). Represents types layouts m false ty (st.b.at o.path) (st.b.subs o.path)) is_int (reps k o e)) in
-        let gathered = λ (l : Leaf). numbered bits (field_bit (λ (part : PartAt). (bits_at blocks w.last.words (reached blocks l w.last.words) part).number) (Int bits) (order_of l) o.path) in
+        let gathered = λ (l : Leaf). number_of_bits bits (field_bit (λ (part : LocatedPart). (bits_at blocks w.last.words (block_addresses blocks l w.last.words) part).number) (Int bits) (order_of l) o.path) in
         ap (λ n. n ∷ []) (ap gathered st.is_leaf
         ∙ integer_is p typed agrees blocks m is w.last.ty st.u st.ws st.from st.b st.inner st.falls st.are_kept reps w.last.words st.kept k o e bits is_int r.0 r.3 r.2) ∙ sym r.2
     words_same k o e (Named s) is_named =
-        let found = λ (l : Leaf). numbers_of (field_words (field_word blocks w.last.words (reached blocks l w.last.words) (order_of l)) o.path 0 (word_count layouts (Named s))) in
+        let found = λ (l : Leaf). numbers_of (field_words (field_word blocks w.last.words (block_addresses blocks l w.last.words) (order_of l)) o.path 0 (word_count layouts (Named s))) in
         ap found st.is_leaf ∙ fields_numbers p typed agrees blocks m is w.last.ty st.u st.ws st.from st.b st.inner st.falls st.are_kept reps w.last.words st.kept k o e s is_named
 
     stands_end : (x : Extra w st.u) → (w.last.at ≡ [] → ⊥) → ValueStands p m blocks (end_of types layouts blocks w) x.part w.here.pat w.here.ty
@@ -276,7 +276,7 @@ given_parts_held p typed agrees image placed are (Named t) v d path part h = go 
         let here = stands_end p typed agrees blocks m whole v end path st.0 x (λ e. let z = sym e ∙ within in cc) in
         let right = rebuilt_words_represent p typed agrees m whole.good blocks (end_of p.types layouts blocks end) x.part end.here.pat end.here.ty here in
         let words : rebuilt p.types layouts blocks end ≡ Ok part.words = sym (ap (words_there p.types layouts image end) within) ∙ h.1.is_words in
-        let given = unless_ok (refused_below blocks end.last.leaf end.last.words (reached blocks end.last.leaf end.last.words) end.last.at (order_of end.last.leaf)) p blocks end part.words words in
+        let given = unless_ok (refused_below blocks end.last.leaf end.last.words (block_addresses blocks end.last.leaf end.last.words) end.last.at (order_of end.last.leaf)) p blocks end part.words words in
         let rep = right_ok p m blocks end.here.ty x.part (words_of p.types layouts blocks (end_of p.types layouts blocks end)) part.words right given in
         record {
           part = x.part;

@@ -10,8 +10,8 @@ use Rattle.rb_bits.proofs.WordLemmas.{bit_at_take, take_fits}
 use Rattle.rb_core.specs.declared.types.Ty.{Ty}
 use Rattle.rb_layout.specs.A6.{holds_unit}
 use Rattle.rb_image.specs.declared.order.Spot.{Spot}
-use Rattle.rb_image.specs.Integers.{bit_in, field_bit, numbered}
-use Rattle.rb_image.specs.Orders.{PartAt}
+use Rattle.rb_image.specs.Integers.{bit_in, field_bit, number_of_bits}
+use Rattle.rb_image.specs.Orders.{LocatedPart}
 use Rattle.rb_image.specs.inner.Viewing.{at_of, spots_of}
 use Rattle.rb_image.proofs.DropLemmas.{drop_item}
 
@@ -24,15 +24,15 @@ take_bit v k =
     let z : k + 0 ≡ k = omega arith in
     sym (small_mod (take_of v k 1) (take_fits v k 1)) ∙ sym (bit_at_lowest (take_of v k 1)) ∙ bit_at_take v k 1 0 (omega arith) ∙ ap (bit_at v) z
 
-numbered_same : (n : ℕ) (f g : ℕ → ℕ) → ((i : ℕ) → f i ≡ g i) → numbered n f ≡ numbered n g
+numbered_same : (n : ℕ) (f g : ℕ → ℕ) → ((i : ℕ) → f i ≡ g i) → number_of_bits n f ≡ number_of_bits n g
 numbered_same zero f g same = refl
-numbered_same (suc n) f g same = ap (λ a. a + 2 * numbered n (λ i. f (suc i))) (same 0) ∙ ap (λ a. g 0 + 2 * a) (numbered_same n (λ i. f (suc i)) (λ i. g (suc i)) (λ i. same (suc i)))
+numbered_same (suc n) f g same = ap (λ a. a + 2 * number_of_bits n (λ i. f (suc i))) (same 0) ∙ ap (λ a. g 0 + 2 * a) (numbered_same n (λ i. f (suc i)) (λ i. g (suc i)) (λ i. same (suc i)))
 
 -- the highest bits of a number, so many of them
 abbrev pub highest : (ℕ → ℕ) → ℕ → ℕ → ℕ
-highest f bits done = numbered done (λ i. f (bits - done + i))
+highest f bits done = number_of_bits done (λ i. f (bits - done + i))
 
-pub highest_all : (f : ℕ → ℕ) (bits : ℕ) → highest f bits bits ≡ numbered bits f
+pub highest_all : (f : ℕ → ℕ) (bits : ℕ) → highest f bits bits ≡ number_of_bits bits f
 highest_all f bits = numbered_same bits (λ i. f (bits - bits + i)) f (λ i. (let z : bits - bits + i ≡ i = omega arith in ap f z))
 
 -- one bit more
@@ -48,7 +48,7 @@ highest_more f bits done lt =
 pub highest_fits : (f : ℕ → ℕ) → ((i : ℕ) → f i < 2) → (bits done : ℕ) → highest f bits done < 2 ^ done
 highest_fits f small bits done = fits done (λ i. f (bits - done + i)) (λ i. small (bits - done + i))
   where
-    fits : (n : ℕ) (g : ℕ → ℕ) → ((i : ℕ) → g i < 2) → numbered n g < 2 ^ n
+    fits : (n : ℕ) (g : ℕ → ℕ) → ((i : ℕ) → g i < 2) → number_of_bits n g < 2 ^ n
     fits zero g s = let z : 2 ^ 0 ≡ 1 = refl in omega (arith, z)
     fits (suc n) g s =
         let rest = fits n (λ i. g (suc i)) (λ i. s (suc i)) in
@@ -67,7 +67,7 @@ highest_narrow f small bits done b lt narrow one =
     omega (arith, fits, up, p, one)
 
 -- One part -----------------------------------------------------------------------------------
-module _ (value : PartAt → ℕ) (ty : Ty) (items : List Spot) (k : ℕ) (spot : Spot) (is : slice_get items k ≡ Some spot) (path : List ℕ) (i : ℕ) where
+module _ (value : LocatedPart → ℕ) (ty : Ty) (items : List Spot) (k : ℕ) (spot : Spot) (is : slice_get items k ≡ Some spot) (path : List ℕ) (i : ℕ) where
   abbrev bit_on : Bool → ℕ
   bit_on t = if t then bit_in (value (at_of spot)) i spot.part.now.kind else field_bit value ty (spots_of (drop (k + 1) items)) path i
 

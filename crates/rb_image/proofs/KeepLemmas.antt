@@ -9,9 +9,9 @@ use Rattle.rb_layout.specs.declared.layout.Leaf.{Leaf}
 use Rattle.rb_layout.specs.declared.layout.FlatWord.{FlatWord}
 use Rattle.rb_layout.specs.declared.layout.Layout.{Layout}
 use Rattle.rb_layout.specs.Words.{begins_at}
-use Rattle.rb_rel.specs.Relation.{IsFound, Placed, Made, Represents, number, built}
+use Rattle.rb_rel.specs.Relation.{IsFound, LeafStands, Made, Represents, number, built}
 use Rattle.rb_image_text.specs.declared.image.ImageBlock.{ImageBlock}
-use Rattle.rb_image_text.specs.Images.{AreBlocks}
+use Rattle.rb_image_text.specs.Images.{AreImageBlocks}
 use Rattle.rb_image_text.specs.Places.{AreInPlace}
 use Rattle.rb_image.specs.Memories.{Stand, image_memory}
 use Rattle.rb_image.proofs.StandLemmas.{load_kept, size_kept}
@@ -26,7 +26,7 @@ module _ (m m' : Memory) (k : KeepsAccesses m m') where
   found_keeps None fs f j ws ats w e = e
   found_keeps (Some b) fs f j ws ats w e = k.loads (ats b) (begins_at fs j) f.width w e
 
-  placed_keeps : (leaf : Leaf) (ws : List ℕ) (clean : Bool) (subs : List ℕ → List ℕ) (ats : ℕ → ℕ) → Placed leaf ws m clean subs ats → Placed leaf ws m' clean subs ats
+  placed_keeps : (leaf : Leaf) (ws : List ℕ) (clean : Bool) (subs : List ℕ → List ℕ) (ats : ℕ → ℕ) → LeafStands leaf ws m clean subs ats → LeafStands leaf ws m' clean subs ats
   placed_keeps leaf ws clean subs ats p = record {
     count = p.count;
     blocks = λ b block is. k.sizes _ _ (p.blocks b block is);
@@ -54,13 +54,13 @@ module _ (m m' : Memory) (k : KeepsAccesses m m') where
     Represents-keeps (number bits x lt) = number bits x lt
     Represents-keeps (built t v ws b below) = built t v ws (made_keeps t v ws b) (λ k o e. Represents-keeps (below k o e))
 
-pub stand_keeps : (blocks : List ImageBlock) (m : Memory) → AreInPlace blocks → AreBlocks blocks → Stand blocks m → KeepsAccesses (image_memory blocks) m
+pub stand_keeps : (blocks : List ImageBlock) (m : Memory) → AreInPlace blocks → AreImageBlocks blocks → Stand blocks m → KeepsAccesses (image_memory blocks) m
 stand_keeps blocks m placed are stand = record {
   sizes = size_kept blocks m stand;
   loads = load_kept blocks m placed are stand;
 }
 
-pub Represents-stand : (types : List DataDecl) (layouts : List Layout) (clean : Bool) (blocks : List ImageBlock) (m : Memory) → AreInPlace blocks → AreBlocks blocks → Stand blocks m
+pub Represents-stand : (types : List DataDecl) (layouts : List Layout) (clean : Bool) (blocks : List ImageBlock) (m : Memory) → AreInPlace blocks → AreImageBlocks blocks → Stand blocks m
     → {ty : Ty} {v : Value} {ws : List ℕ} → Represents types layouts (image_memory blocks) clean ty v ws → Represents types layouts m clean ty v ws
 Represents-stand types layouts clean blocks m placed are stand r =
     Represents-keeps (image_memory blocks) m (stand_keeps blocks m placed are stand) types layouts clean r

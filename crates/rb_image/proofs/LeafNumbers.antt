@@ -12,7 +12,7 @@ use Rattle.rb_core.specs.declared.pattern.Pat.{Pat}
 use Rattle.rb_core.specs.declared.program.Program.{Program}
 use Rattle.rb_core.specs.Layouts.{leaves}
 use Rattle.rb_layout.specs.Agreement.{Agrees}
-use Rattle.rb_layout.specs.Flattening.{Numbering, arm_numbering, arms_count, arms_from, flat_layouts, flat_leaf, numbering}
+use Rattle.rb_layout.specs.Flattening.{LeafNumbering, arm_numbering, arms_count, arms_from, flat_layouts, flat_leaf, numbering}
 use Rattle.rb_layout.specs.Positions.{layout_of}
 use Rattle.rb_layout.specs.Splits.{Under}
 use Rattle.rb_layout.specs.declared.layout.FlatTree.{FlatTree}
@@ -48,19 +48,19 @@ module _ (m : List ImageBlock) (ws : List Kept) where
     arms_numbered [] each k lo hi n e = behind n e
     arms_numbered (a ∷ arms) each k lo hi n e = go (λ l h f. arms_numbered arms each.1 (k + u.of.count) l h n f) (nat_eq u.literal range.number) e
       where
-        u : Under Numbering
+        u : Under LeafNumbering
         u = arm_numbering a
 
         counted : arms_count (map arm_numbering (a ∷ arms)) ≡ u.of.count + arms_count (map arm_numbering arms)
-        counted = sum_by-cons (λ (x : Under Numbering). x.of.count) u (map arm_numbering arms)
+        counted = sum_by-cons (λ (x : Under LeafNumbering). x.of.count) u (map arm_numbering arms)
 
         go : (low ≤ k + u.of.count → k + u.of.count + arms_count (map arm_numbering arms) ≤ high
             → LeadsTo (go_on range (under_number (arms_from (map arm_numbering arms) (k + u.of.count)) other range.number) m ws) n → (low ≤ n) × (n < high))
             → (b : Bool) → LeadsTo (go_on range (if b then Some (u.of.from k) else under_number (arms_from (map arm_numbering arms) (k + u.of.count)) other range.number) m ws) n → (low ≤ n) × (n < high)
         go rest true f =
-            let is : u.of ≡ numbering a.under = ap (λ (x : Under Numbering). x.of) (arm_numbering-is a) in
-            let r = each.0 k n (ap (λ (x : Numbering). leaf_at (x.from k) m ws) (sym is) ∙ f) in
-            let c = ap (λ (x : Numbering). x.count) is in
+            let is : u.of ≡ numbering a.under = ap (λ (x : Under LeafNumbering). x.of) (arm_numbering-is a) in
+            let r = each.0 k n (ap (λ (x : LeafNumbering). leaf_at (x.from k) m ws) (sym is) ∙ f) in
+            let c = ap (λ (x : LeafNumbering). x.count) is in
             let all = counted in
             (omega (arith, r, lo), omega (arith, r, c, all, hi))
         go rest false f = let all = counted in rest (omega (arith, lo)) (omega (arith, all, hi)) f
@@ -73,7 +73,7 @@ module _ (m : List ImageBlock) (ws : List Kept) where
       let r = then_ok (range_at m ws loc) (λ range. walk_arms range (map walk_under (arms_from (map arm_numbering arms) k)) (other_walk None) m ws) n
       (sym (split_walk flat loc (arms_from (map arm_numbering arms) k) None m ws refl) ∙ h) in
       let g = sym (arms_walk r.0 (arms_from (map arm_numbering arms) k) None m ws) ∙ r.2 in
-      let count : (numbering (S.Split loc arms None)).count ≡ arms_count (map arm_numbering arms) + 0 = ap (λ (x : Numbering). x.count) (numbering-Split loc arms) in
+      let count : (numbering (S.Split loc arms None)).count ≡ arms_count (map arm_numbering arms) + 0 = ap (λ (x : LeafNumbering). x.count) (numbering-Split loc arms) in
       arms_numbered r.0 k (k + (numbering (S.Split loc arms None)).count) None (λ i f. absurd cc) arms each k (omega arith) (omega (arith, count)) n g
 
   else_numbered : (loc : Loc) (arms : List Arm) (other : LayTree) → Each (λ (a : Arm). IsNumbered a.under) arms → IsNumbered other → IsNumbered (S.Split loc arms (Some other))
@@ -86,7 +86,7 @@ module _ (m : List ImageBlock) (ws : List Kept) where
       let r = then_ok (range_at m ws loc) (λ range. walk_arms range (map walk_under (arms_from (map arm_numbering arms) k)) (other_walk (Some under)) m ws) n
       (sym (split_walk flat loc (arms_from (map arm_numbering arms) k) (Some under) m ws refl) ∙ h) in
       let g = sym (arms_walk r.0 (arms_from (map arm_numbering arms) k) (Some under) m ws) ∙ r.2 in
-      let count : (numbering (S.Split loc arms (Some other))).count ≡ arms_count (map arm_numbering arms) + (numbering other).count = ap (λ (x : Numbering). x.count) (numbering-Split-else loc arms other) in
+      let count : (numbering (S.Split loc arms (Some other))).count ≡ arms_count (map arm_numbering arms) + (numbering other).count = ap (λ (x : LeafNumbering). x.count) (numbering-Split-else loc arms other) in
       arms_numbered r.0 k (k + (numbering (S.Split loc arms (Some other))).count) (Some under)
       (λ i f. let x = last from i f in (omega (arith, x), omega (arith, x, count)))
       arms each k (omega arith) (omega (arith, count)) n g

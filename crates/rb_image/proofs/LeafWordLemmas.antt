@@ -24,8 +24,8 @@ use Rattle.rb_image.specs.declared.leaf_words.LeafWords.{LeafWords}
 use Rattle.rb_image.specs.declared.order.Spot.{Spot}
 use Rattle.rb_image.specs.Blocks.{size_at, size_in, word_in}
 use Rattle.rb_image.specs.LeafWords.{AreNumbers, HasNumbers, block_numbers, follow_kind, items_or_none, numbers_at, with_found}
-use Rattle.rb_image.specs.Orders.{PartAt, order_of}
-use Rattle.rb_image.specs.Parts.{bits_at, followed, kept_at}
+use Rattle.rb_image.specs.Orders.{LocatedPart, order_of}
+use Rattle.rb_image.specs.Parts.{bits_at, pointer_lead, kept_at}
 use Rattle.rb_image.specs.Splits.{range_of}
 use Rattle.rb_image.specs.inner.Reaching.{IsPartOf, unread, word_read}
 use Rattle.rb_image.specs.inner.Viewing.{at_of, spots_of}
@@ -83,10 +83,10 @@ module _ (m : List ImageBlock) (placed : AreInPlace m) (leaf : Leaf) (x : LeafWo
   spot_read (Some b) j f p is =
       ap (λ n. record { number = n; base = slice_index ats b; place = begins_at (words_in leaf (Some b)) j }) (word_is b j f is)
 
-  pub bits_are : (s : PartAt) → IsPartOf leaf s → range_of (word_read x s.block s) s.part.o s.part.l ≡ bits_at m x.root.items ats s
+  pub bits_are : (s : LocatedPart) → IsPartOf leaf s → range_of (word_read x s.block s) s.part.o s.part.l ≡ bits_at m x.root.items ats s
   bits_are s part =
       let h = order_spots leaf s (get_in s (order_of leaf) part.0 part.1) in
-      subst (λ (t : PartAt). range_of (word_read x t.block t) t.part.o t.part.l ≡ bits_at m x.root.items ats t) (sym h.is)
+      subst (λ (t : LocatedPart). range_of (word_read x t.block t) t.part.o t.part.l ≡ bits_at m x.root.items ats t) (sym h.is)
       (ap (λ w. range_of w s.part.o s.part.l) (spot_read h.ref.block h.ref.word h.word s.part h.is_word))
 
 -- a part that stands in the order is one of the leaf
@@ -194,7 +194,7 @@ unread_set (x ∷ bs) (a ∷ ats) (suc b) at unknown = let rest = unread_set bs 
 -- Pointers -----------------------------------------------------------------------------------
 module _ (m : List ImageBlock) (leaf : Leaf) where
   -- no pointer leads to 0
-  pub found_above : AreInPlace m → (bits : Kept) (align b at : ℕ) → ◌≡◌ {A = Result ℕ ImageFault} (followed m leaf bits align b) (Ok at) → 0 < at
+  pub found_above : AreInPlace m → (bits : Kept) (align b at : ℕ) → ◌≡◌ {A = Result ℕ ImageFault} (pointer_lead m leaf bits align b) (Ok at) → 0 < at
   found_above placed bits align b at e = go at (followed_is m leaf [] bits align b at e).1
     where
       go : (a : ℕ) → {n : ℕ} → size_at m a ≡ Some n → 0 < a
@@ -202,17 +202,17 @@ module _ (m : List ImageBlock) (leaf : Leaf) where
       go (suc a) {n} is = omega arith
 
   module _ (ats : List ℕ) (bits : Kept) (kind : Kind) (align b : ℕ) (is : kind ≡ Pointer align b) where
-    opened_kind : follow_kind m leaf ats bits kind ≡ (if slice_index ats b == 0 then with_found ats b (followed m leaf bits align b) else ats)
+    opened_kind : follow_kind m leaf ats bits kind ≡ (if slice_index ats b == 0 then with_found ats b (pointer_lead m leaf bits align b) else ats)
     opened_kind = ap (follow_kind m leaf ats bits) is
 
     pub follow_known : (slice_index ats b ≡ 0 → ⊥) → ats ≡ follow_kind m leaf ats bits kind
     follow_known known = sym (opened_kind ∙ go (slice_index ats b == 0) refl)
       where
-        go : (t : Bool) → (slice_index ats b == 0) ≡ t → (if t then with_found ats b (followed m leaf bits align b) else ats) ≡ ats
+        go : (t : Bool) → (slice_index ats b == 0) ≡ t → (if t then with_found ats b (pointer_lead m leaf bits align b) else ats) ≡ ats
         go true e = absurd (known (zero_is (slice_index ats b) e))
         go false e = refl
 
-    pub follow_found : slice_index ats b ≡ 0 → (r : Result ℕ ImageFault) → r ≡ followed m leaf bits align b → with_found ats b r ≡ follow_kind m leaf ats bits kind
+    pub follow_found : slice_index ats b ≡ 0 → (r : Result ℕ ImageFault) → r ≡ pointer_lead m leaf bits align b → with_found ats b r ≡ follow_kind m leaf ats bits kind
     follow_found unknown r found =
         ap (with_found ats b) found
-        ∙ sym (opened_kind ∙ ap (λ (t : Bool). if t then with_found ats b (followed m leaf bits align b) else ats) (is_zero (slice_index ats b) unknown))
+        ∙ sym (opened_kind ∙ ap (λ (t : Bool). if t then with_found ats b (pointer_lead m leaf bits align b) else ats) (is_zero (slice_index ats b) unknown))

@@ -13,7 +13,7 @@ use Rattle.rb_image_text.specs.declared.fault.ImageFault.{ImageFault}
 use Rattle.rb_image_text.specs.declared.fault.ImageFault.TheVariants.{Memory as NoMemory}
 use Rattle.rb_image_text.specs.declared.image.ImageBlock.{ImageBlock}
 use Rattle.rb_image.specs.declared.kept.Kept.{Kept}
-use Rattle.rb_image.specs.Orders.{PartAt, order_of}
+use Rattle.rb_image.specs.Orders.{LocatedPart, order_of}
 use Rattle.rb_image.specs.Parts.{At, addresses_of, field_word, look, look_layout, look_leaf, place_at, places_of_leaf}
 use Rattle.rb_image.specs.Splits.{and_then, leaf_at}
 use Rattle.rb_image.specs.Given.{IsGiven}
@@ -74,11 +74,11 @@ module _ (types : List DataDecl) (layouts : List Layout) (m : List ImageBlock) (
             by (Err e) x = absurd x
 
         -- the places that the open positions of its provenance give
-        abbrev pub Below : List DataDecl → List Layout → List Kept → List PartAt → List ℕ → List At
+        abbrev pub Below : List DataDecl → List Layout → List Kept → List LocatedPart → List ℕ → List At
         Below ts ls xs order ats = flat_map (λ (o : Open). place_at ls (field_word m xs ats order) ([] ++ o.path) o.ty) (opens_of ts leaf.prov (Named t))
 
         -- the places that were added are those of the leaf
-        pub places_given : {C : Type 0} (g : C → List At) (c : C) (ts : List DataDecl) (ls : List Layout) (xs : List Kept) (order : List PartAt) (ats found : List ℕ) (before : List At)
+        pub places_given : {C : Type 0} (g : C → List At) (c : C) (ts : List DataDecl) (ls : List Layout) (xs : List Kept) (order : List LocatedPart) (ats found : List ℕ) (before : List At)
             → look types layouts m place ≡ Ok (places_of_leaf types layouts m leaf ws ats) → ts ≡ types → ls ≡ layouts → xs ≡ ws → order ≡ order_of leaf → found ≡ ats → before ≡ []
             → open_positions types leaf.prov ≡ opens_of types leaf.prov (Named t) → g c ≡ before ++ Below ts ls xs order found → IsGiven g (look types layouts m place) (Ok c)
         places_given g c ts ls xs order ats found before is same_types same_layouts same_words same_order same_found none opens added =

@@ -14,7 +14,7 @@ use Rattle.rb_image_text.specs.declared.fault.ImageFault.{ImageFault}
 use Rattle.rb_image_text.specs.declared.image.ImageBlock.{ImageBlock}
 use Rattle.rb_image.specs.Rebuilds.{chosen, match_field, match_fields, matches, or_later}
 use Rattle.rb_image.specs.Splits.{and_then}
-use Rattle.rb_image.specs.Views.{Standing, down}
+use Rattle.rb_image.specs.Views.{LeafPosition, down}
 use Rattle.rb_image.specs.inner.Standing.{first_fault, or_before}
 use Rattle.rb_image.proofs.DropLemmas.{drop_item}
 
@@ -48,11 +48,11 @@ weight_among (q ∷ ps) (suc k) p e =
     let le = weight_among ps k p e in omega (arith, all, le)
 
 module _ (types : List DataDecl) (layouts : List Layout) (m : List ImageBlock) where
-  abbrev Match : Pat → Standing → Result Bool ImageFault
+  abbrev Match : Pat → LeafPosition → Result Bool ImageFault
   Match = matches types layouts m
 
   -- fields from one on that is there
-  pub fields_on : (ps : List Pat) (i : ℕ) (p : Pat) (x y : Standing) → slice_get ps i ≡ Some p → down types x i ≡ Some y
+  pub fields_on : (ps : List Pat) (i : ℕ) (p : Pat) (x y : LeafPosition) → slice_get ps i ≡ Some p → down types x i ≡ Some y
       → match_fields types (map Match (drop i ps)) x i
       ≡ and_then (Match p y) (λ so. if so then match_fields types (map Match (drop (i + 1) ps)) x (i + 1) else Ok false)
   fields_on ps i p x y is there =
@@ -60,7 +60,7 @@ module _ (types : List DataDecl) (layouts : List Layout) (m : List ImageBlock) w
       ∙ ap (λ o. and_then (match_field (Match p) o) (λ so. if so then match_fields types (map Match (drop (i + 1) ps)) x (i + 1) else Ok false)) there
 
   -- Leaves -----------------------------------------------------------------------------------
-  module _ (leaves : List Leaf) (k : ℕ) (leaf : Leaf) (x : Standing) (is : slice_get leaves k ≡ Some leaf) where
+  module _ (leaves : List Leaf) (k : ℕ) (leaf : Leaf) (x : LeafPosition) (is : slice_get leaves k ≡ Some leaf) where
     abbrev later : Result Leaf ImageFault
     later = chosen types layouts m (drop (k + 1) leaves) x
 

@@ -9,7 +9,7 @@ use Rattle.rb_layout.specs.declared.layout.FlatWord.{FlatWord}
 use Rattle.rb_layout.specs.declared.layout.Part.{Part}
 use Rattle.rb_layout.specs.Readable.{AreShort, IsReadable}
 use Rattle.rb_layout.specs.Words.{words_of_block}
-use Rattle.rb_image.specs.Orders.{PartAt, beginning_at, beginning_from, block_order, with_inner, word_order, words_order}
+use Rattle.rb_image.specs.Orders.{LocatedPart, beginning_at, beginning_from, block_order, with_inner, word_order, words_order}
 use Rattle.rb_image.specs.inner.Viewing.{parts_of}
 use Rattle.rb_image.proofs.DropLemmas.{drop_item, drop_past}
 
@@ -35,10 +35,10 @@ from_more parts o n lt = let e : n - o ≡ suc (n - (o + 1)) = omega (arith, lt)
 pub root_short : (leaf : Leaf) → IsReadable leaf → AreShort leaf.root
 root_short leaf readable = readable.words None
 
-module _ (inner : ℕ → List PartAt) (block : Option ℕ) where
+module _ (inner : ℕ → List LocatedPart) (block : Option ℕ) where
   -- one part of a word more, and none
-  module _ (j byte width : ℕ) (items : List (Bor Part)) (i : ℕ) (before : List PartAt) where
-    abbrev pub Rest : ℕ → List PartAt
+  module _ (j byte width : ℕ) (items : List (Bor Part)) (i : ℕ) (before : List LocatedPart) where
+    abbrev pub Rest : ℕ → List LocatedPart
     Rest k = flat_map (with_inner inner block j byte width) (parts_of (drop k items))
 
     pub part_more : (p : Bor Part) → slice_get items i ≡ Some p → before ++ Rest i ≡ (before ++ with_inner inner block j byte width p.now) ++ Rest (i + 1)
@@ -50,7 +50,7 @@ module _ (inner : ℕ → List PartAt) (block : Option ℕ) where
     part_end le = ap (λ ps. before ++ flat_map (with_inner inner block j byte width) (parts_of ps)) (drop_past items i le) ∙ append-nil before
 
   -- one word more
-  pub word_more : (words : List FlatWord) (j byte : ℕ) (f : FlatWord) (before : List PartAt) → slice_get words j ≡ Some f → before ++ words_order inner block j byte (drop j words)
+  pub word_more : (words : List FlatWord) (j byte : ℕ) (f : FlatWord) (before : List LocatedPart) → slice_get words j ≡ Some f → before ++ words_order inner block j byte (drop j words)
       ≡ (before ++ word_order inner block j byte f) ++ words_order inner block (j + 1) (byte + f.width / 8) (drop (j + 1) words)
   word_more words j byte f before is =
       ap (λ fs. before ++ words_order inner block j byte fs) (drop_item words j f is)

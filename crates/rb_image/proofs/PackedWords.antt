@@ -27,7 +27,7 @@ use Rattle.rb_coding.specs.Packing.{made_of, word_made}
 use Rattle.rb_coding.proofs.LeafShowing.{put_fits}
 use Rattle.rb_image.specs.declared.pack.FieldWords.{FieldWords}
 use Rattle.rb_image.specs.PackedWords.{FieldsRepresent, PackedWordsRepresent}
-use Rattle.rb_image.specs.Rebuilds.{packed, words_in}
+use Rattle.rb_image.specs.Rebuilds.{packed, words_at_path}
 use Rattle.rb_image.proofs.NarrowLeaves.{leaves_are_narrow}
 
 -- each part fits, so it is put in its place
@@ -49,7 +49,7 @@ module _ (p : Program) (typed : IsTyped p) (agrees : Agrees p) (m : Memory) (goo
   ok = sound p agrees t layout n leaf typed is_layout is_number
 
   abbrev ss : List ℕ → List ℕ
-  ss = words_in fields
+  ss = words_at_path fields
 
   reps : (k : ℕ) (o : Open) → slice_get (open_positions p.types leaf.prov) k ≡ Some o → (u : Value) × Represents p.types (flat_layouts p) m clean o.ty u (ss o.path)
   reps k o e = let r = represent k o e in (r.0, r.2)

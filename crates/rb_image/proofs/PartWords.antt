@@ -36,9 +36,9 @@ use Rattle.rb_rel.proofs.Represented.{Represents-count}
 use Rattle.rb_image_text.specs.declared.image.ImageBlock.{ImageBlock}
 use Rattle.rb_image.specs.declared.kept.Kept.{Kept}
 use Rattle.rb_image.specs.Falling.{AreKept, HasWord, PointersFall}
-use Rattle.rb_image.specs.Integers.{field_bit, numbered}
-use Rattle.rb_image.specs.LeafWords.{reached}
-use Rattle.rb_image.specs.Orders.{PartAt, order_of}
+use Rattle.rb_image.specs.Integers.{field_bit, number_of_bits}
+use Rattle.rb_image.specs.LeafWords.{block_addresses}
+use Rattle.rb_image.specs.Orders.{LocatedPart, order_of}
 use Rattle.rb_image.specs.Parts.{bits_at, field_word, field_words}
 use Rattle.rb_image.specs.Splits.{nothing, word_at}
 use Rattle.rb_image.proofs.FallingWords.{AreKeptAs, IsKnown, kept_is}
@@ -85,7 +85,7 @@ module _ (p : Program) (typed : IsTyped p) (agrees : Agrees p) (blocks : List Im
     wide = (agrees.a4 t b.layout b.number leaf b.is_layout b.is_number).widths
 
     abbrev ats : List ℕ
-    ats = reached blocks leaf xs
+    ats = block_addresses blocks leaf xs
 
     known : (r : WordRef) (f : FlatWord) → flat_at leaf r ≡ Some f → IsKnown b.ats ats r.block
     known = blocks_reached blocks m is leaf flat wide ws b.subs b.ats from b.placed falls xs kept (low p typed agrees t b.layout b.number leaf b.is_layout b.is_number)
@@ -93,7 +93,7 @@ module _ (p : Program) (typed : IsTyped p) (agrees : Agrees p) (blocks : List Im
     abbrev word : List ℕ → ℕ → Kept
     word = field_word blocks xs ats (order_of leaf)
 
-    abbrev value : PartAt → ℕ
+    abbrev value : LocatedPart → ℕ
     value s = (bits_at blocks xs ats s).number
 
     module _ (k : ℕ) (o : Open) (at : slice_get opens k ≡ Some o) where
@@ -173,7 +173,7 @@ module _ (p : Program) (typed : IsTyped p) (agrees : Agrees p) (blocks : List Im
             ap bit (sym back) ∙ one ∙ ap (λ n. bit_at n (i - a)) number ∙ bit_at_take x a h.part.l (i - a) inside ∙ ap (bit_at x) back
 
         -- the bits that are gathered are those of the part
-        pub integer_is : numbered bits bit ≡ x
+        pub integer_is : number_of_bits bits bit ≡ x
         integer_is =
             let few = field_bit_small value (Int bits) (order_of leaf) o.path in
-            same_from_bits_below bits (numbered bits bit) x (numbered_fits bits bit few) small (λ i lt. numbered_bit bits bit few i lt ∙ bit_same i lt)
+            same_from_bits_below bits (number_of_bits bits bit) x (numbered_fits bits bit few) small (λ i lt. numbered_bit bits bit few i lt ∙ bit_same i lt)

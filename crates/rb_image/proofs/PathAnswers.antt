@@ -18,13 +18,13 @@ use Rattle.rb_image.specs.declared.site.Site.{Site}
 use Rattle.rb_image.specs.declared.walk.Walk.{Walk}
 use Rattle.rb_image.specs.FieldSites.{AreRootSites, AreWords}
 use Rattle.rb_image.specs.Given.{IsGiven}
-use Rattle.rb_image.specs.LeafWords.{reached}
-use Rattle.rb_image.specs.Orders.{PartAt, order_of}
+use Rattle.rb_image.specs.LeafWords.{block_addresses}
+use Rattle.rb_image.specs.Orders.{LocatedPart, order_of}
 use Rattle.rb_image.specs.Parts.{bits_at}
 use Rattle.rb_image.specs.Paths.{IsFaultless, IsPathFault, IsWalked, is_there, part_fault}
-use Rattle.rb_image.specs.Roots.{AllFit, kept_from, shape_of, widths_of}
+use Rattle.rb_image.specs.Roots.{WordsFit, kept_from, layout_widths, widths_of}
 use Rattle.rb_image.specs.Sites.{kept_of}
-use Rattle.rb_image.specs.Walks.{Seen, Where, walked, where_of}
+use Rattle.rb_image.specs.Walks.{Waypoint, Where, walked, where_of}
 use Rattle.rb_image.specs.inner.Checking.{IsFoundOn, all_seen, fault_among, fault_at, fault_of_seen, fault_seen, has_word, is_kept_at, words_of_path}
 use Rattle.rb_image.proofs.PathSubvalues.{walk_stops}
 use Rattle.rb_image.proofs.PathWalks.{Walks}
@@ -34,32 +34,32 @@ use Rattle.rb_image.proofs.WellLeaves.{AreWell}
 
 -- The same words -----------------------------------------------------------------------------
 module _ (on off : ℕ → ℕ → Bool) (same : (base place : ℕ) → on base place ≡ off base place) (m : List ImageBlock) where
-  at_same : (leaf : Leaf) (ws : List Kept) (ats : List ℕ) (s : PartAt) → fault_at on m leaf ws ats s ≡ fault_at off m leaf ws ats s
+  at_same : (leaf : Leaf) (ws : List Kept) (ats : List ℕ) (s : LocatedPart) → fault_at on m leaf ws ats s ≡ fault_at off m leaf ws ats s
   at_same leaf ws ats s =
       let bits = bits_at m ws ats s in
       ap (λ (b : Bool). if is_there ats s.block && b then part_fault m leaf bits s.part.kind else None) (same bits.base bits.place)
 
-  among_same : (leaf : Leaf) (ws : List Kept) (ats : List ℕ) (ss : List PartAt) → fault_among on m leaf ws ats ss ≡ fault_among off m leaf ws ats ss
+  among_same : (leaf : Leaf) (ws : List Kept) (ats : List ℕ) (ss : List LocatedPart) → fault_among on m leaf ws ats ss ≡ fault_among off m leaf ws ats ss
   among_same leaf ws ats [] = refl
   among_same leaf ws ats (s ∷ ss) =
       ap (λ f. option_or f (fault_among on m leaf ws ats ss)) (at_same leaf ws ats s) ∙ ap (option_or (fault_at off m leaf ws ats s)) (among_same leaf ws ats ss)
 
-  seen_same : (ss : List Seen) → fault_of_seen on m ss ≡ fault_of_seen off m ss
+  seen_same : (ss : List Waypoint) → fault_of_seen on m ss ≡ fault_of_seen off m ss
   seen_same [] = refl
   seen_same (s ∷ ss) =
-      ap (λ f. option_or f (fault_of_seen on m ss)) (among_same s.leaf s.words (reached m s.leaf s.words) (order_of s.leaf)) ∙ ap (option_or (fault_seen off m s)) (seen_same ss)
+      ap (λ f. option_or f (fault_of_seen on m ss)) (among_same s.leaf s.words (block_addresses m s.leaf s.words) (order_of s.leaf)) ∙ ap (option_or (fault_seen off m s)) (seen_same ss)
 
 -- Answers ------------------------------------------------------------------------------------
-shape_long : (o : Option Layout) → length (shape_of o) ≡ shape_length o
+shape_long : (o : Option Layout) → length (layout_widths o) ≡ shape_length o
 shape_long None = refl
 shape_long (Some layout) = refl
 
 -- words that fit a data type are as many as it has
-pub root_long : (layouts : List Layout) (t : ℕ) (words : List ℕ) → AllFit (widths_of layouts (Named t)) words → length words ≡ word_count layouts (Named t)
+pub root_long : (layouts : List Layout) (t : ℕ) (words : List ℕ) → WordsFit (widths_of layouts (Named t)) words → length words ≡ word_count layouts (Named t)
 root_long layouts t words fit = fit_long (widths_of layouts (Named t)) words fit ∙ shape_long (layout_of layouts t)
 
 -- the root words stand at their sites
-pub root_stands : (layouts ls : List Layout) (t count : ℕ) (image : Image) (words : List ℕ) (sites : List Site) → AllFit (widths_of layouts (Named t)) image.root
+pub root_stands : (layouts ls : List Layout) (t count : ℕ) (image : Image) (words : List ℕ) (sites : List Site) → WordsFit (widths_of layouts (Named t)) image.root
     → count ≡ word_count ls (Named t) → ls ≡ layouts → words ≡ image.root → AreWords words → AreRootSites count sites → map (kept_of image) sites ≡ kept_from 0 image.root
 root_stands layouts ls t count image words sites fit counted same are few stand =
     stand image (root_long layouts t image.root fit ∙ sym (counted ∙ ap (λ xs. word_count xs (Named t)) same)) (subst AreWords are few)
@@ -95,7 +95,7 @@ module _ (types : List DataDecl) (layouts : List Layout) (image : Image) (t : �
       ]
 
   module _ (w : Walk) (is : IsWalked types layouts image t path w) (found : List WordAt) (here : IsFoundOn layouts image (all_seen (where_of w)) found) where
-    abbrev seen : List Seen
+    abbrev seen : List Waypoint
     seen = all_seen (where_of w)
 
     same_faults : fault_of_seen (has_word found) image.blocks seen ≡ fault_of_seen (is_kept_at (words_of_path layouts image seen)) image.blocks seen

@@ -8,7 +8,7 @@ use Rattle.rb_image_text.specs.declared.fault.ImageFault.{ImageFault}
 use Rattle.rb_image_text.specs.declared.image.ImageBlock.{ImageBlock}
 use Rattle.rb_image.specs.declared.kept.Kept.{Kept}
 use Rattle.rb_image.specs.Values.{IsDeclared}
-use Rattle.rb_image.specs.Walks.{Seen, Where, arrived, moved, open_data, see, step, steps, walked}
+use Rattle.rb_image.specs.Walks.{Waypoint, Where, arrived, moved, open_data, see, step, steps, walked}
 use Rattle.rb_image.specs.inner.Ordering.{AreOrderly}
 use Rattle.rb_image.proofs.ExaminedParts.{then_ok}
 use Rattle.rb_image.proofs.FallLemmas.{same_Ok}
@@ -39,7 +39,7 @@ module _ (types : List DataDecl) (layouts : List Layout) (m : List ImageBlock) w
       steps_closed path 0 (arrived [] r.0) end (inl (see_is layouts m t ws r.0 r.1).at) r.2
 
   module _ (orderly : AreOrderly types layouts) where
-    arrived_typed : (before : List Seen) (t : ℕ) (ws : List Kept) (s : Seen) → t < length types → ◌≡◌ {A = Result Seen ImageFault} (see layouts m t ws) (Ok s) → IsDeclared types (arrived before s).here.ty
+    arrived_typed : (before : List Waypoint) (t : ℕ) (ws : List Kept) (s : Waypoint) → t < length types → ◌≡◌ {A = Result Waypoint ImageFault} (see layouts m t ws) (Ok s) → IsDeclared types (arrived before s).here.ty
     arrived_typed before t ws s small e = subst (λ n. n < length types) (sym (see_is layouts m t ws s e).ty) small
 
     step_typed : (k : ℕ) (w : Where) (i : ℕ) (v : Where) → ◌≡◌ {A = Walks} (step types layouts m k w i) (Ok v) → IsDeclared types v.here.ty

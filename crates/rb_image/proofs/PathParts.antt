@@ -30,15 +30,15 @@ use Rattle.rb_image_text.specs.declared.image.ImageBlock.{ImageBlock}
 use Rattle.rb_image.specs.declared.kept.Kept.{Kept}
 use Rattle.rb_image.specs.Falling.{AreKept, Descends, PointersFall, built, number}
 use Rattle.rb_image.specs.Fields.{Position, field_in, field_of, with_type}
-use Rattle.rb_image.specs.Integers.{field_bit, numbered}
-use Rattle.rb_image.specs.LeafWords.{reached}
+use Rattle.rb_image.specs.Integers.{field_bit, number_of_bits}
+use Rattle.rb_image.specs.LeafWords.{block_addresses}
 use Rattle.rb_image.specs.Memories.{image_memory}
-use Rattle.rb_image.specs.Orders.{PartAt, order_of}
+use Rattle.rb_image.specs.Orders.{LocatedPart, order_of}
 use Rattle.rb_image.specs.Parts.{bits_at, field_word, field_words}
-use Rattle.rb_image.specs.PathParts.{IsEnd, IsOpen, PathsLeadToParts, integer_in}
+use Rattle.rb_image.specs.PathParts.{IsEnd, IsOpenPattern, PathsLeadToParts, integer_in}
 use Rattle.rb_image.specs.Roots.{kept_from}
 use Rattle.rb_image.specs.Splits.{and_then, leaf_at, word_at}
-use Rattle.rb_image.specs.Walks.{Seen, Where, arrived, data_of, layout_at, layout_or_none, leaf_or_none, moved, open_data, open_in, see, step, steps, unless, words_on}
+use Rattle.rb_image.specs.Walks.{Waypoint, Where, arrived, data_of, layout_at, layout_or_none, leaf_or_none, moved, open_data, open_in, see, step, steps, unless, words_on}
 use Rattle.rb_image.proofs.DescendingImages as D
 use Rattle.rb_image.proofs.DescendingImages.{descending_sound}
 use Rattle.rb_image.proofs.DescendingValues.{Descends-represents}
@@ -102,14 +102,14 @@ module _ (types : List DataDecl) where
 
   -- an open position
   abbrev OpensHere : Pat → Type 0
-  OpensHere p = (ty : Ty) → IsOpen (out-Pat p) → In (record { path = []; ty = ty }) (opens_of types p ty)
+  OpensHere p = (ty : Ty) → IsOpenPattern (out-Pat p) → In (record { path = []; ty = ty }) (opens_of types p ty)
 
   open_cases : Cases OpensHere
   open_cases = record {
     wild = λ at ty h. subst (In (record { path = []; ty = ty })) (sym (opens-Wild types at ty)) (inl refl);
     var = λ at x ty h. subst (In (record { path = []; ty = ty })) (sym (opens-Var types at x ty)) (inl refl);
-    num = λ at n ty h. absurd (subst IsOpen (X.outs-Num at n) h);
-    con = λ at c ps each ty h. absurd (subst IsOpen (X.outs-Con at c ps) h);
+    num = λ at n ty h. absurd (subst IsOpenPattern (X.outs-Num at n) h);
+    con = λ at c ps each ty h. absurd (subst IsOpenPattern (X.outs-Con at c ps) h);
   }
 
   pub opens_here : (p : Pat) → OpensHere p
@@ -119,7 +119,7 @@ data_is : (ty : Ty) (t : ℕ) → data_of ty ≡ Some t → ty ≡ Named t
 data_is (Int bits) t e = absurd cc
 data_is (Named s) t e = ap Named (same_Some s t e)
 
-opened : (l : Pat-F Pat) (ty : Ty) (t : ℕ) → open_in l (data_of ty) ≡ Some t → IsOpen l × (ty ≡ Named t)
+opened : (l : Pat-F Pat) (ty : Ty) (t : ℕ) → open_in l (data_of ty) ≡ Some t → IsOpenPattern l × (ty ≡ Named t)
 opened (P.Wild at) ty t e = (tt, data_is ty t e)
 opened (P.Var at x) ty t e = (tt, data_is ty t e)
 opened (P.Num at n) ty t e = absurd cc
@@ -165,7 +165,7 @@ module _ (p : Program) (typed : IsTyped p) (agrees : Agrees p) (blocks : List Im
     pub is_root : w.last.at ≡ [] → w.here.ty ≡ Named w.last.ty
 
   -- Arrivals ---------------------------------------------------------------------------------
-  module _ (before : List Seen) (first : List ℕ) (xs : List Kept) (s : Seen) where
+  module _ (before : List Waypoint) (first : List ℕ) (xs : List Kept) (s : Waypoint) where
     abbrev Arrives : Ty → Value → List ℕ → (ℕ → ℕ) → Type 0
     Arrives (Int bits) u ws from = Unit {0}
     Arrives (Named t) u ws from = AreKeptAs xs ws from → numbers xs ≡ ws → part_at v first ≡ Some u → ◌≡◌ {A = Sees} (see layouts blocks t xs) (Ok s) → Stands (arrived before s) first
@@ -178,7 +178,7 @@ module _ (p : Program) (typed : IsTyped p) (agrees : Agrees p) (blocks : List Im
       leads =
           D.leads p typed agrees blocks m is t u ws from b inner falls are_kept (λ k o e. Descends-represents (below k o e)) (λ k o e. descending_sound p typed agrees blocks m is (below k o e)) xs kept
 
-      abbrev seen : Seen
+      abbrev seen : Waypoint
       seen = record { ty = t; words = xs; leaf = b.leaf; at = [] }
 
       with_leaf : Option Leaf → Sees
@@ -199,7 +199,7 @@ module _ (p : Program) (typed : IsTyped p) (agrees : Agrees p) (blocks : List Im
       arrives count part e =
           let same : seen ≡ s = same_Ok seen s (sym is_seen ∙ e) in
           let root = (lawful p agrees typed).provenances.root t b.layout b.number b.leaf b.is_layout b.is_number in
-          subst (λ (x : Seen). Stands (arrived before x) first) same (record {
+          subst (λ (x : Waypoint). Stands (arrived before x) first) same (record {
             u = u;
             ws = ws;
             from = from;
@@ -250,7 +250,7 @@ module _ (p : Program) (typed : IsTyped p) (agrees : Agrees p) (blocks : List Im
     number : ℕ
     is_open : slice_get (open_positions types st.b.leaf.prov) number ≡ Some (record { path = w.last.at; ty = w.here.ty })
 
-  open_there : (w : Where) (first : List ℕ) (st : Stands w first) → IsOpen (out-Pat w.here.pat) → HasOpen w first st
+  open_there : (w : Where) (first : List ℕ) (st : Stands w first) → IsOpenPattern (out-Pat w.here.pat) → HasOpen w first st
   open_there w first st any =
       let there = st.opens (record { path = []; ty = w.here.ty }) (opens_here types w.here.pat w.here.ty any) in
       let g = in_get _ (open_positions types st.b.leaf.prov) there in
@@ -263,17 +263,17 @@ module _ (p : Program) (typed : IsTyped p) (agrees : Agrees p) (blocks : List Im
       ap (part_at v) (st.is_first ∙ ap (λ (xs : List ℕ). st.to ++ xs) (sym same)) ∙ part_append (Some v) st.to o.path
       ∙ ap (λ (x : Option Value). part_from x o.path) st.is_part ∙ st.b.is_at k o at
 
-  pub enters : (w : Where) (first : List ℕ) (st : Stands w first) (t : ℕ) (us : List Kept) (s : Seen) → open_data w.here ≡ Some t
+  pub enters : (w : Where) (first : List ℕ) (st : Stands w first) (t : ℕ) (us : List Kept) (s : Waypoint) → open_data w.here ≡ Some t
       → ◌≡◌ {A = Finds} (words_on layouts blocks w.last t) (Ok us) → ◌≡◌ {A = Sees} (see layouts blocks t us) (Ok s) → Stands (arrived (w.before ++ w.last ∷ []) s) first
   enters w first st t us s is_data words seen =
       let op = opened (out-Pat w.here.pat) w.here.ty t is_data in
       let has = open_there w first st op.0 in
       let o : Open = record { path = w.last.at; ty = w.here.ty } in
       let reps = λ (k : ℕ) (q : Open) (e : slice_get (open_positions types st.b.leaf.prov) k ≡ Some q). Descends-represents (st.below k q e) in
-      let found = field_words (field_word blocks w.last.words (reached blocks st.b.leaf w.last.words) (order_of st.b.leaf)) w.last.at 0 (word_count layouts (Named t)) in
-      let plain : field_words (field_word blocks w.last.words (reached blocks w.last.leaf w.last.words) (order_of w.last.leaf)) w.last.at 0 (word_count layouts (Named t)) ≡ us = unless_is _ _ us words in
+      let found = field_words (field_word blocks w.last.words (block_addresses blocks st.b.leaf w.last.words) (order_of st.b.leaf)) w.last.at 0 (word_count layouts (Named t)) in
+      let plain : field_words (field_word blocks w.last.words (block_addresses blocks w.last.leaf w.last.words) (order_of w.last.leaf)) w.last.at 0 (word_count layouts (Named t)) ≡ us = unless_is _ _ us words in
       let same : found ≡ us =
-      ap (λ (l : Leaf). field_words (field_word blocks w.last.words (reached blocks l w.last.words) (order_of l)) w.last.at 0 (word_count layouts (Named t))) (sym st.is_leaf) ∙ plain in
+      ap (λ (l : Leaf). field_words (field_word blocks w.last.words (block_addresses blocks l w.last.words) (order_of l)) w.last.at 0 (word_count layouts (Named t))) (sym st.is_leaf) ∙ plain in
       let fk = fields_kept p typed agrees blocks m is w.last.ty st.u st.ws st.from st.b st.inner st.falls st.are_kept reps w.last.words st.kept has.number o has.is_open t op.1 in
       let fn = fields_numbers p typed agrees blocks m is w.last.ty st.u st.ws st.from st.b st.inner st.falls st.are_kept reps w.last.words st.kept has.number o has.is_open t op.1 in
       let part = part_there w first st o has.number has.is_open refl in
@@ -324,7 +324,7 @@ module _ (p : Program) (typed : IsTyped p) (agrees : Agrees p) (blocks : List Im
       let below : Descends types layouts m (Int e.bits) (st.b.at w.last.at) (st.b.subs w.last.at) (st.inner w.last.at) =
       subst (λ (ty : Ty). Descends types layouts m ty (st.b.at w.last.at) (st.b.subs w.last.at) (st.inner w.last.at)) e.is_integer (st.below has.number o has.is_open) in
       let n = integer_in blocks w.last e.bits in
-      let gathered = λ (l : Leaf). numbered e.bits (field_bit (λ (part : PartAt). (bits_at blocks w.last.words (reached blocks l w.last.words) part).number) (Int e.bits) (order_of l) w.last.at) in
+      let gathered = λ (l : Leaf). number_of_bits e.bits (field_bit (λ (part : LocatedPart). (bits_at blocks w.last.words (block_addresses blocks l w.last.words) part).number) (Int e.bits) (order_of l) w.last.at) in
       let same : (x : ℕ) → x < 2 ^ e.bits → st.b.subs w.last.at ≡ x ∷ [] → n ≡ x =
       λ x small subs. ap gathered st.is_leaf
       ∙ integer_is p typed agrees blocks m is w.last.ty st.u st.ws st.from st.b st.inner st.falls st.are_kept reps w.last.words st.kept has.number o has.is_open e.bits e.is_integer x small subs in

@@ -22,7 +22,7 @@ use Rattle.rb_image.specs.Fields.{Position, field_of}
 use Rattle.rb_image.specs.PathSpans.{WalksAreShort, path_types, type_there, types_from}
 use Rattle.rb_image.specs.Spans.{data_span, inner_span, layout_span, span, split_span, tree_span, word_span}
 use Rattle.rb_image.specs.Visits.{own_span}
-use Rattle.rb_image.specs.Walks.{Where, arrived, counted, data_of, layout_at, layout_or_none, open_in, open_span, see, span_at, step, steps_span, walk_span}
+use Rattle.rb_image.specs.Walks.{Where, arrived, count_found, data_of, layout_at, layout_or_none, open_in, open_span, see, span_at, step, steps_span, walk_span}
 use Rattle.rb_image.proofs.SpanRecursion.{spans_recur}
 
 no_splits : tree_span (T.Leaf 0) ≡ 0
@@ -63,7 +63,7 @@ module _ (types : List DataDecl) (layouts : List Layout) (recur : (t : ℕ) → 
       let sum : total (pos.ty ∷ more) ≡ span layouts pos.ty + total more = sum_by-cons (span layouts) pos.ty more in
       omega (arith, first, sum, le)
 
-  found_within : {A : Type 0} (r : Result A ImageFault) (f : A → ℕ) (g : A → List Ty) → ((x : A) → f x ≤ total (g x)) → counted r f ≤ total (if_found r g)
+  found_within : {A : Type 0} (r : Result A ImageFault) (f : A → ℕ) (g : A → List Ty) → ((x : A) → f x ≤ total (g x)) → count_found r f ≤ total (if_found r g)
   found_within (Err fault) f g each = omega arith
   found_within (Ok x) f g each = each x
 
@@ -71,7 +71,7 @@ module _ (types : List DataDecl) (layouts : List Layout) (recur : (t : ℕ) → 
   steps_within [] k w = omega arith
   steps_within (i ∷ path) k w =
       there_within (field_of types w.here.pat i) (if_found (step types layouts m k w i) (λ v. types_from types layouts m (k + 1) v path))
-      (counted (step types layouts m k w i) (λ v. steps_span types layouts m (k + 1) v path))
+      (count_found (step types layouts m k w i) (λ v. steps_span types layouts m (k + 1) v path))
       (found_within (step types layouts m k w i) (λ v. steps_span types layouts m (k + 1) v path) (λ v. types_from types layouts m (k + 1) v path) (λ v. steps_within path (k + 1) v))
 
   walk_within : (t : ℕ) (ws : List Kept) (path : List ℕ) → walk_span types layouts m t ws path ≤ total (path_types types layouts m t ws path)

@@ -11,13 +11,13 @@ use Rattle.rb_image_text.specs.declared.image.ImageBlock.{ImageBlock}
 use Rattle.rb_image_text.specs.Places.{AreInPlace}
 use Rattle.rb_image.specs.declared.kept.Kept.{Kept}
 use Rattle.rb_image.specs.Fields.{Position, field_of}
-use Rattle.rb_image.specs.LeafWords.{reached}
+use Rattle.rb_image.specs.LeafWords.{block_addresses}
 use Rattle.rb_image.specs.Orders.{order_of}
 use Rattle.rb_image.specs.Parts.{At}
 use Rattle.rb_image.specs.Paths.{HasNoPart, HasPathFault, IsEntered, IsKeptAt, IsOnPath, IsStep, part_bits, word_below, words_ahead, words_asked}
 use Rattle.rb_image.specs.Roots.{kept_from, root_at}
 use Rattle.rb_image.specs.Splits.{and_then, or_fault}
-use Rattle.rb_image.specs.Walks.{Seen, Where, arrived, layout_at, moved, open_data, see, settled, step, steps, walked, words_on}
+use Rattle.rb_image.specs.Walks.{Waypoint, Where, arrived, layout_at, moved, open_data, see, settled, step, steps, walked, words_on}
 use Rattle.rb_image.specs.Ways.{refused_below}
 use Rattle.rb_image.specs.inner.Checking.{all_seen}
 use Rattle.rb_image.proofs.AskedLemmas.{fault_named}
@@ -60,12 +60,12 @@ module _ (types : List DataDecl) (layouts : List Layout) (image : Image) (t : �
   -- Subvalues that were passed ---------------------------------------------------------------
 
   -- a subvalue is on the path, and this is its leaf
-  pub record IsGood (s : Seen) : Type 0 where
+  pub record IsGood (s : Waypoint) : Type 0 where
     pub on_path : IsOnPath types layouts image t path (record { ty = s.ty; words = s.words })
     pub is_seen : ◌≡◌ {A = Sees} (see layouts m s.ty s.words) (Ok (record s { at = [] }))
 
   -- and the first step from its leaf is one of the path
-  pub record Begins (s : Seen) : Type 0 where
+  pub record Begins (s : Waypoint) : Type 0 where
     pub field : ℕ
     pub more : List ℕ
     pub before : Where
@@ -74,11 +74,11 @@ module _ (types : List DataDecl) (layouts : List Layout) (image : Image) (t : �
     pub is_step : IsStep types layouts image t path before field here
     pub is_last : before.last ≡ record s { at = [] }
 
-  abbrev pub IsLed : Seen → Type 0
+  abbrev pub IsLed : Waypoint → Type 0
   IsLed s = IsGood s × ((s.at ≡ []) ⊎ Begins s)
 
   abbrev AllLed : Where → Type 0
-  AllLed w = (s : Seen) → In s (all_seen w) → IsLed s
+  AllLed w = (s : Waypoint) → In s (all_seen w) → IsLed s
 
   led_moved : (w : Where) (i : ℕ) (here : Position) → IsStep types layouts image t path w i here → IsLed w.last → IsLed (moved w i here).last
   led_moved w i here step led = (
@@ -105,7 +105,7 @@ module _ (types : List DataDecl) (layouts : List Layout) (image : Image) (t : �
     ]),
   )
 
-  led_new : (ty : ℕ) (ws : List Kept) (s : Seen) → IsOnPath types layouts image t path (record { ty = ty; words = ws }) → ◌≡◌ {A = Sees} (see layouts m ty ws) (Ok s) → IsLed s
+  led_new : (ty : ℕ) (ws : List Kept) (s : Waypoint) → IsOnPath types layouts image t path (record { ty = ty; words = ws }) → ◌≡◌ {A = Sees} (see layouts m ty ws) (Ok s) → IsLed s
   led_new ty ws s on seen =
       let is = see_is layouts m ty ws s seen in (
         record {
@@ -115,7 +115,7 @@ module _ (types : List DataDecl) (layouts : List Layout) (image : Image) (t : �
         inl is.at,
       )
 
-  one_more : (w : Where) (s : Seen) → In s (w.before ++ w.last ∷ []) → In s w.before ⊎ (s ≡ w.last)
+  one_more : (w : Where) (s : Waypoint) → In s (w.before ++ w.last ∷ []) → In s w.before ⊎ (s ≡ w.last)
   one_more w s h = elim (in_append s w.before (w.last ∷ []) h) [
     | inl a ↦ inl a
     | inr b ↦ elim b [ inl e ↦ inr e | inr h ↦ absurd h ]
@@ -128,7 +128,7 @@ module _ (types : List DataDecl) (layouts : List Layout) (image : Image) (t : �
       let is_step : IsStep types layouts image t path w i r.here = record { first = first; rest = rest; is_path = is; is_here = here; is_field = r.is_field } in
       let u = moved w i r.here in
       let led_last : IsLed u.last = led_moved w i r.here is_step (led w.last (in_right w.last w.before (w.last ∷ []) (inl refl))) in
-      let led_before = λ (x : Seen) (g : In x w.before). led x (in_left x w.before (w.last ∷ []) g) in
+      let led_before = λ (x : Waypoint) (g : In x w.before). led x (in_left x w.before (w.last ∷ []) g) in
       elim r.how [
         | inl inside ↦ elim (one_more u s (subst (λ (x : Where). In s (all_seen x)) inside.is h)) [
           | inl a ↦ led_before s a
@@ -158,12 +158,12 @@ module _ (types : List DataDecl) (layouts : List Layout) (image : Image) (t : �
       led_steps rest (first ++ i ∷ []) r.0 end (further first rest i is) (walked_more types layouts m t root first i w r.0 here r.1) (led_step first rest i w r.0 is here led r.1)
       (ap (λ n. steps types layouts m n r.0 rest) (sym (longer first i)) ∙ r.2)
 
-  one_seen : (s x : Seen) → In x (all_seen (arrived [] s)) → x ≡ s
+  one_seen : (s x : Waypoint) → In x (all_seen (arrived [] s)) → x ≡ s
   one_seen s x (inl e) = e
   one_seen s x (inr h) = absurd h
 
   -- the subvalues that were passed are on the path
-  pub passed_led : (end : Where) → Came path (Ok end) → (s : Seen) → In s (all_seen end) → IsLed s
+  pub passed_led : (end : Where) → Came path (Ok end) → (s : Waypoint) → In s (all_seen end) → IsLed s
   passed_led end came =
       let r = then_ok (see layouts m t root) (λ s. steps types layouts m 0 (arrived [] s) path) end came in
       led_steps path [] (arrived [] r.0) end refl (ap (λ (x : Sees). and_then x (λ s. steps types layouts m 0 (arrived [] s) [])) r.1)
@@ -191,7 +191,7 @@ module _ (types : List DataDecl) (layouts : List Layout) (image : Image) (t : �
 
     -- a pointer on the way to what comes next is refused
     way_stops : (w : Where) (i : ℕ) (here : Position) → IsStep types layouts image t path w i here → IsGood (moved w i here).last → (fault : ImageFault)
-        → refused_below m (moved w i here).last.leaf (moved w i here).last.words (reached m (moved w i here).last.leaf (moved w i here).last.words) (moved w i here).last.at (order_of (moved w i here).last.leaf) ≡ Some fault
+        → refused_below m (moved w i here).last.leaf (moved w i here).last.words (block_addresses m (moved w i here).last.leaf (moved w i here).last.words) (moved w i here).last.at (order_of (moved w i here).last.leaf) ≡ Some fault
         → Stops fault
     way_stops w i here is_step good fault e = elim (seen_leaf layouts m well s.ty s.words (record s { at = [] }) good.is_seen) [
       | inl leaf ↦
@@ -199,7 +199,7 @@ module _ (types : List DataDecl) (layouts : List Layout) (image : Image) (t : �
           let g = in_get first.part (order_of s.leaf) first.there in
           let bits = part_bits m s first.part in
           let there : In bits (words_ahead m s) =
-          flat_map_in (word_below m s.leaf s.words (reached m s.leaf s.words) s.at) bits first.part (order_of s.leaf) first.there (below_there m s first.part first.is_read first.leads) in
+          flat_map_in (word_below m s.leaf s.words (block_addresses m s.leaf s.words) s.at) bits first.part (order_of s.leaf) first.there (below_there m s first.part first.is_read first.leads) in
           let k = in_get bits (words_ahead m s) there in
           inl (record {
             base = bits.base;
@@ -230,7 +230,7 @@ module _ (types : List DataDecl) (layouts : List Layout) (image : Image) (t : �
       | inr none ↦ absurd (no_refusal m s none fault e)
     ]
       where
-        s : Seen
+        s : Waypoint
         s = (moved w i here).last
 
     settled_stops : (i : ℕ) (w : Where) (here : Position) → IsStep types layouts image t path w i here → IsGood (moved w i here).last → (o : Option ℕ) → open_data here ≡ o → (fault : ImageFault)

@@ -10,7 +10,7 @@ use Rattle.rb_image_text.specs.declared.image.ImageBlock.{ImageBlock}
 use Rattle.rb_image.specs.declared.kept.Kept.{Kept}
 use Rattle.rb_image.specs.Fields.{Position, field_of}
 use Rattle.rb_image.specs.Splits.{and_then, leaf_at, or_fault}
-use Rattle.rb_image.specs.Walks.{Seen, Where, arrived, layout_at, leaf_or_none, moved, open_data, see, settled, step, steps, unless, walked, words_on}
+use Rattle.rb_image.specs.Walks.{Waypoint, Where, arrived, layout_at, leaf_or_none, moved, open_data, see, settled, step, steps, unless, walked, words_on}
 use Rattle.rb_image.specs.inner.Checking.{all_seen}
 use Rattle.rb_image.proofs.ExaminedParts.{then_ok}
 use Rattle.rb_image.proofs.FallLemmas.{same_Ok}
@@ -20,7 +20,7 @@ abbrev pub Walks : Type 0
 Walks = Result Where ImageFault
 
 abbrev pub Sees : Type 0
-Sees = Result Seen ImageFault
+Sees = Result Waypoint ImageFault
 
 abbrev pub Finds : Type 0
 Finds = Result (List Kept) ImageFault
@@ -39,19 +39,19 @@ same_walk a b e = cc
 
 -- Subvalues ----------------------------------------------------------------------------------
 module _ (layouts : List Layout) (m : List ImageBlock) where
-  pub record IsSeen (t : ℕ) (ws : List Kept) (s : Seen) : Type 0 where
+  pub record IsSeen (t : ℕ) (ws : List Kept) (s : Waypoint) : Type 0 where
     pub ty : s.ty ≡ t
     pub words : s.words ≡ ws
     pub at : s.at ≡ []
 
-  abbrev seen_with : ℕ → List Kept → ℕ → Seen
+  abbrev seen_with : ℕ → List Kept → ℕ → Waypoint
   seen_with t ws n = record { ty = t; words = ws; leaf = leaf_or_none (slice_get (layout_at layouts t).leaves n); at = [] }
 
-  pub see_is : (t : ℕ) (ws : List Kept) (s : Seen) → ◌≡◌ {A = Sees} (see layouts m t ws) (Ok s) → IsSeen t ws s
+  pub see_is : (t : ℕ) (ws : List Kept) (s : Waypoint) → ◌≡◌ {A = Sees} (see layouts m t ws) (Ok s) → IsSeen t ws s
   see_is t ws s e =
       let r = then_ok (leaf_at (layout_at layouts t).tree m ws) (λ n. Ok (seen_with t ws n)) s e in
       let same : seen_with t ws r.0 ≡ s = same_Ok (seen_with t ws r.0) s r.2 in
-      record { ty = ap (λ (x : Seen). x.ty) (sym same); words = ap (λ (x : Seen). x.words) (sym same); at = ap (λ (x : Seen). x.at) (sym same) }
+      record { ty = ap (λ (x : Waypoint). x.ty) (sym same); words = ap (λ (x : Waypoint). x.words) (sym same); at = ap (λ (x : Waypoint). x.at) (sym same) }
 
   -- the fault of its splits
   pub see_err : (t : ℕ) (ws : List Kept) (fault : ImageFault) → ◌≡◌ {A = Sees} (see layouts m t ws) (Err fault)
@@ -72,7 +72,7 @@ module _ (types : List DataDecl) (layouts : List Layout) (m : List ImageBlock) w
   pub record Enters (w : Where) (i : ℕ) (v : Where) (here : Position) : Type 0 where
     pub ty : ℕ
     pub words : List Kept
-    pub next : Seen
+    pub next : Waypoint
     pub is_data : open_data here ≡ Some ty
     pub is_words : ◌≡◌ {A = Finds} (words_on layouts m (moved w i here).last ty) (Ok words)
     pub is_next : ◌≡◌ {A = Sees} (see layouts m ty words) (Ok next)
@@ -102,7 +102,7 @@ module _ (types : List DataDecl) (layouts : List Layout) (m : List ImageBlock) w
       u : Where
       u = moved w i here
 
-      on : Seen → Walks
+      on : Waypoint → Walks
       on s = Ok (arrived (u.before ++ u.last ∷ []) s)
 
   pub stepped : (k : ℕ) (w : Where) (i : ℕ) (v : Where) → ◌≡◌ {A = Walks} (step types layouts m k w i) (Ok v) → Stepped w i v
@@ -146,24 +146,24 @@ module _ (types : List DataDecl) (layouts : List Layout) (m : List ImageBlock) w
   -- What a walk keeps ------------------------------------------------------------------------
 
   -- one of the subvalues is this one, and the path inside its leaf begins with the one here
-  pub record Covers (all : List Seen) (s : Seen) : Type 0 where
+  pub record Covers (all : List Waypoint) (s : Waypoint) : Type 0 where
     pub more : List ℕ
-    pub found : Seen
+    pub found : Waypoint
     pub there : In found all
     pub is : found ≡ record s { at = s.at ++ more }
 
-  pub covered : (all : List Seen) (s : Seen) → In s all → Covers all s
+  pub covered : (all : List Waypoint) (s : Waypoint) → In s all → Covers all s
   covered all s there = record { more = []; found = s; there = there; is = ap (λ (p : List ℕ). record s { at = p }) (sym (append-nil s.at)) }
 
   last_in : (w : Where) → In w.last (all_seen w)
   last_in w = in_right w.last w.before (w.last ∷ []) (inl refl)
 
-  before_in : (w : Where) (s : Seen) → In s w.before → In s (all_seen w)
+  before_in : (w : Where) (s : Waypoint) → In s w.before → In s (all_seen w)
   before_in w s h = in_left s w.before (w.last ∷ []) h
 
   pub record Keeps (w end : Where) : Type 0 where
     pub last : Covers (all_seen end) w.last
-    pub before : (s : Seen) → In s w.before → In s (all_seen end)
+    pub before : (s : Waypoint) → In s w.before → In s (all_seen end)
 
   pub kept : (rest : List ℕ) (k : ℕ) (w end : Where) → ◌≡◌ {A = Walks} (steps types layouts m k w rest) (Ok end) → Keeps w end
   kept [] k w end e =
@@ -212,7 +212,7 @@ module _ (types : List DataDecl) (layouts : List Layout) (m : List ImageBlock) w
 
   -- the subvalue that a step enters
   pub record Entered (end : Where) (t : ℕ) (ws : List Kept) : Type 0 where
-    pub seen : Seen
+    pub seen : Waypoint
     pub is_seen : ◌≡◌ {A = Sees} (see layouts m t ws) (Ok seen)
     pub covers : Covers (all_seen end) seen
 

@@ -13,12 +13,12 @@ use Rattle.rb_image_text.specs.declared.fault.ImageFault.{ImageFault}
 use Rattle.rb_image_text.specs.declared.image.Image.{Image}
 use Rattle.rb_image_text.specs.declared.image.ImageBlock.{ImageBlock}
 use Rattle.rb_image.specs.declared.kept.Kept.{Kept}
-use Rattle.rb_image.specs.LeafWords.{reached}
-use Rattle.rb_image.specs.Orders.{PartAt, behind, block_order, order_of}
+use Rattle.rb_image.specs.LeafWords.{block_addresses}
+use Rattle.rb_image.specs.Orders.{LocatedPart, pointed_parts, block_order, order_of}
 use Rattle.rb_image.specs.Parts.{At, bits_at}
 use Rattle.rb_image.specs.Paths.{HasPathFault, IsKeptAt, IsOnPath, IsPathWord, is_there, part_bits, part_fault, words_ahead, words_asked, word_below, words_below}
 use Rattle.rb_image.specs.Roots.{kept_from}
-use Rattle.rb_image.specs.Walks.{Seen, Where, moved}
+use Rattle.rb_image.specs.Walks.{Waypoint, Where, moved}
 use Rattle.rb_image.specs.Ways.{is_below, leads_below}
 use Rattle.rb_image.specs.inner.Checking.{all_seen, fault_among, fault_at, fault_of_seen, fault_seen, first_ahead, is_kept_at, leads_there, words_of_path, words_seen}
 use Rattle.rb_image.proofs.FallLemmas.{same_Ok}
@@ -78,17 +78,17 @@ below_first i path (Bits own a) e = first_field own i path e
 below_first i path (Word own j) e = first_field own i path e
 below_first i path (Pointer align b) e = e
 
-any_first : (i : ℕ) (path : List ℕ) (ss : List PartAt) → list_any (λ (s : PartAt). is_below (i ∷ path) s.part.kind) ss ≡ true
-    → list_any (λ (s : PartAt). is_below (i ∷ []) s.part.kind) ss ≡ true
+any_first : (i : ℕ) (path : List ℕ) (ss : List LocatedPart) → list_any (λ (s : LocatedPart). is_below (i ∷ path) s.part.kind) ss ≡ true
+    → list_any (λ (s : LocatedPart). is_below (i ∷ []) s.part.kind) ss ≡ true
 any_first i path ss e =
-    let r = in_any (λ (s : PartAt). is_below (i ∷ path) s.part.kind) ss e in
-    any_in (λ (s : PartAt). is_below (i ∷ []) s.part.kind) r.0 ss r.1 (below_first i path r.0.part.kind r.2)
+    let r = in_any (λ (s : LocatedPart). is_below (i ∷ path) s.part.kind) ss e in
+    any_in (λ (s : LocatedPart). is_below (i ∷ []) s.part.kind) r.0 ss r.1 (below_first i path r.0.part.kind r.2)
 
 leads_first : (leaf : Leaf) (i : ℕ) (path : List ℕ) (kind : Kind) → leads_below leaf (i ∷ path) kind ≡ true → leads_below leaf (i ∷ []) kind ≡ true
 leads_first leaf i path kind e = go (is_below (i ∷ path) kind) refl e
   where
-    ss : List PartAt
-    ss = behind (block_order leaf (length leaf.blocks)) kind
+    ss : List LocatedPart
+    ss = pointed_parts (block_order leaf (length leaf.blocks)) kind
 
     or_left : (a b : Bool) → a ≡ true → (a || b) ≡ true
     or_left true b x = refl
@@ -98,13 +98,13 @@ leads_first leaf i path kind e = go (is_below (i ∷ path) kind) refl e
     or_right true b x = refl
     or_right false b x = x
 
-    go : (b : Bool) → is_below (i ∷ path) kind ≡ b → (b || list_any (λ (s : PartAt). is_below (i ∷ path) s.part.kind) ss) ≡ true → leads_below leaf (i ∷ []) kind ≡ true
-    go true is h = or_left (is_below (i ∷ []) kind) (list_any (λ (s : PartAt). is_below (i ∷ []) s.part.kind) ss) (below_first i path kind is)
-    go false is h = or_right (is_below (i ∷ []) kind) (list_any (λ (s : PartAt). is_below (i ∷ []) s.part.kind) ss) (any_first i path ss h)
+    go : (b : Bool) → is_below (i ∷ path) kind ≡ b → (b || list_any (λ (s : LocatedPart). is_below (i ∷ path) s.part.kind) ss) ≡ true → leads_below leaf (i ∷ []) kind ≡ true
+    go true is h = or_left (is_below (i ∷ []) kind) (list_any (λ (s : LocatedPart). is_below (i ∷ []) s.part.kind) ss) (below_first i path kind is)
+    go false is h = or_right (is_below (i ∷ []) kind) (list_any (λ (s : LocatedPart). is_below (i ∷ []) s.part.kind) ss) (any_first i path ss h)
 
 module _ (m : List ImageBlock) (leaf : Leaf) (ws : List Kept) (ats : List ℕ) where
   -- the words on the way to what stands at a path are among those on the way to its first field
-  word_first : (i : ℕ) (path : List ℕ) (s : PartAt) (k : Kept) → In k (word_below m leaf ws ats (i ∷ path) s) → In k (word_below m leaf ws ats (i ∷ []) s)
+  word_first : (i : ℕ) (path : List ℕ) (s : LocatedPart) (k : Kept) → In k (word_below m leaf ws ats (i ∷ path) s) → In k (word_below m leaf ws ats (i ∷ []) s)
   word_first i path s k h = go (leads_there leaf ats (i ∷ path) s) refl h
     where
       go : (b : Bool) → leads_there leaf ats (i ∷ path) s ≡ b → In k (if b then bits_at m ws ats s ∷ [] else []) → In k (word_below m leaf ws ats (i ∷ []) s)
@@ -130,14 +130,14 @@ first_none None b e = (refl, e)
 first_none (Some f) b e = absurd cc
 
 module _ (on : ℕ → ℕ → Bool) (m : List ImageBlock) where
-  record BadAmong (leaf : Leaf) (ws : List Kept) (ats : List ℕ) (ss : List PartAt) (fault : ImageFault) : Type 0 where
-    part : PartAt
+  record BadAmong (leaf : Leaf) (ws : List Kept) (ats : List ℕ) (ss : List LocatedPart) (fault : ImageFault) : Type 0 where
+    part : LocatedPart
     there : In part ss
     is_read : is_there ats part.block ≡ true
     is_on : on (bits_at m ws ats part).base (bits_at m ws ats part).place ≡ true
     is_fault : part_fault m leaf (bits_at m ws ats part) part.part.kind ≡ Some fault
 
-  bad_here : (leaf : Leaf) (ws : List Kept) (ats : List ℕ) (s : PartAt) (ss : List PartAt) (fault : ImageFault) → fault_at on m leaf ws ats s ≡ Some fault → BadAmong leaf ws ats (s ∷ ss) fault
+  bad_here : (leaf : Leaf) (ws : List Kept) (ats : List ℕ) (s : LocatedPart) (ss : List LocatedPart) (fault : ImageFault) → fault_at on m leaf ws ats s ≡ Some fault → BadAmong leaf ws ats (s ∷ ss) fault
   bad_here leaf ws ats s ss fault e = go (is_there ats s.block && on bits.base bits.place) refl e
     where
       bits : Kept
@@ -147,7 +147,7 @@ module _ (on : ℕ → ℕ → Bool) (m : List ImageBlock) where
       go true is h = let x = both (is_there ats s.block) (on bits.base bits.place) is in record { part = s; there = inl refl; is_read = x.0; is_on = x.1; is_fault = h }
       go false is h = absurd cc
 
-  bad_among : (leaf : Leaf) (ws : List Kept) (ats : List ℕ) (ss : List PartAt) (fault : ImageFault) → fault_among on m leaf ws ats ss ≡ Some fault → BadAmong leaf ws ats ss fault
+  bad_among : (leaf : Leaf) (ws : List Kept) (ats : List ℕ) (ss : List LocatedPart) (fault : ImageFault) → fault_among on m leaf ws ats ss ≡ Some fault → BadAmong leaf ws ats ss fault
   bad_among leaf ws ats [] fault e = absurd cc
   bad_among leaf ws ats (s ∷ ss) fault e = elim (first_left (fault_at on m leaf ws ats s) (fault_among on m leaf ws ats ss) fault e) [
     | inl h ↦ bad_here leaf ws ats s ss fault h
@@ -157,7 +157,7 @@ module _ (on : ℕ → ℕ → Bool) (m : List ImageBlock) where
   ]
 
   -- none is found among parts, so none of these has one
-  good_among : (leaf : Leaf) (ws : List Kept) (ats : List ℕ) (ss : List PartAt) → fault_among on m leaf ws ats ss ≡ None → (s : PartAt) → In s ss → is_there ats s.block ≡ true
+  good_among : (leaf : Leaf) (ws : List Kept) (ats : List ℕ) (ss : List LocatedPart) → fault_among on m leaf ws ats ss ≡ None → (s : LocatedPart) → In s ss → is_there ats s.block ≡ true
       → on (bits_at m ws ats s).base (bits_at m ws ats s).place ≡ true → part_fault m leaf (bits_at m ws ats s) s.part.kind ≡ None
   good_among leaf ws ats [] none s h there here = absurd h
   good_among leaf ws ats (x ∷ ss) none s (inr h) there here = good_among leaf ws ats ss (first_none (fault_at on m leaf ws ats x) (fault_among on m leaf ws ats ss) none).1 s h there here
@@ -165,14 +165,14 @@ module _ (on : ℕ → ℕ → Bool) (m : List ImageBlock) where
       let first : fault_at on m leaf ws ats s ≡ None = ap (fault_at on m leaf ws ats) e ∙ (first_none (fault_at on m leaf ws ats x) (fault_among on m leaf ws ats ss) none).0 in
       ap (λ (b : Bool). if b then part_fault m leaf (bits_at m ws ats s) s.part.kind else None) (sym (and_true (is_there ats s.block) (on (bits_at m ws ats s).base (bits_at m ws ats s).place) there here)) ∙ first
 
-  found_in : (ss : List Seen) (fault : ImageFault) → fault_of_seen on m ss ≡ Some fault → (s : Seen) × In s ss × (fault_seen on m s ≡ Some fault)
+  found_in : (ss : List Waypoint) (fault : ImageFault) → fault_of_seen on m ss ≡ Some fault → (s : Waypoint) × In s ss × (fault_seen on m s ≡ Some fault)
   found_in [] fault e = absurd cc
   found_in (s ∷ ss) fault e = elim (first_left (fault_seen on m s) (fault_of_seen on m ss) fault e) [
     | inl h ↦ (s, inl refl, h)
     | inr h ↦ let r = found_in ss fault h in (r.0, inr r.1, r.2)
   ]
 
-  none_in : (ss : List Seen) → fault_of_seen on m ss ≡ None → (s : Seen) → In s ss → fault_seen on m s ≡ None
+  none_in : (ss : List Waypoint) → fault_of_seen on m ss ≡ None → (s : Waypoint) → In s ss → fault_seen on m s ≡ None
   none_in [] e s h = absurd h
   none_in (x ∷ ss) e s (inl is) = ap (fault_seen on m) is ∙ (first_none (fault_seen on m x) (fault_of_seen on m ss) e).0
   none_in (x ∷ ss) e s (inr h) = none_in ss (first_none (fault_seen on m x) (fault_of_seen on m ss) e).1 s h
@@ -182,7 +182,7 @@ module _ (types : List DataDecl) (layouts : List Layout) (image : Image) (t : �
   abbrev m : List ImageBlock
   m = image.blocks
 
-  abbrev all : List Seen
+  abbrev all : List Waypoint
   all = all_seen end
 
   abbrev gathered : List Kept
@@ -195,7 +195,7 @@ module _ (types : List DataDecl) (layouts : List Layout) (image : Image) (t : �
   rest = flat_map (words_seen layouts m) all
 
   -- a word of a subvalue that was passed
-  seen_in : (s : Seen) (k : Kept) → In s all → In k (words_seen layouts m s) → In k gathered
+  seen_in : (s : Waypoint) (k : Kept) → In s all → In k (words_seen layouts m s) → In k gathered
   seen_in s k h g = in_right k (kept_from 0 image.root) rest (flat_map_in (words_seen layouts m) k s all h g)
 
   move : (ks : List Kept) (base place : ℕ) → IsKeptAt ks base place → ((k : Kept) → In k ks → In k gathered) → on base place ≡ true
@@ -203,13 +203,13 @@ module _ (types : List DataDecl) (layouts : List Layout) (image : Image) (t : �
       let s = stands ks base place kept in
       is_kept gathered base place (record { word = s.word; there = to s.word s.there; is_base = s.is_base; is_place = s.is_place })
 
-  ahead_in : (s : Seen) (i : ℕ) (path more : List ℕ) (found : Seen) → s.at ≡ i ∷ path → found ≡ record s { at = s.at ++ more } → (k : Kept) → In k (words_ahead m s) → In k (first_ahead m found found.at)
+  ahead_in : (s : Waypoint) (i : ℕ) (path more : List ℕ) (found : Waypoint) → s.at ≡ i ∷ path → found ≡ record s { at = s.at ++ more } → (k : Kept) → In k (words_ahead m s) → In k (first_ahead m found found.at)
   ahead_in s i path more found is same k h =
-      let first : In k (words_below m s.leaf s.words (reached m s.leaf s.words) (i ∷ path)) =
-      subst (λ (p : List ℕ). In k (words_below m s.leaf s.words (reached m s.leaf s.words) p)) is h in
-      let lead = words_first m s.leaf s.words (reached m s.leaf s.words) i path k first in
+      let first : In k (words_below m s.leaf s.words (block_addresses m s.leaf s.words) (i ∷ path)) =
+      subst (λ (p : List ℕ). In k (words_below m s.leaf s.words (block_addresses m s.leaf s.words) p)) is h in
+      let lead = words_first m s.leaf s.words (block_addresses m s.leaf s.words) i path k first in
       let there : In k (first_ahead m s (s.at ++ more)) = subst (λ (p : List ℕ). In k (first_ahead m s (p ++ more))) (sym is) lead in
-      subst (λ (x : Seen). In k (first_ahead m x x.at)) (sym same) there
+      subst (λ (x : Waypoint). In k (first_ahead m x x.at)) (sym same) there
 
   begins : (xs : List ℕ) (i : ℕ) → (j : ℕ) × (more : List ℕ) × (xs ++ i ∷ [] ≡ j ∷ more)
   begins [] i = (i, [], refl)
@@ -224,7 +224,7 @@ module _ (types : List DataDecl) (layouts : List Layout) (image : Image) (t : �
       let c = e.covers in
       let is = see_is layouts m x.ty x.words e.seen e.is_seen in
       let same : record { ty = c.found.ty; words = c.found.words } ≡ x =
-      ap (λ (s : Seen). record { ty = s.ty; words = s.words }) c.is ∙ ap (λ n. record { ty = n; words = e.seen.words }) is.ty ∙ ap (λ us. record { ty = x.ty; words = us }) is.words in
+      ap (λ (s : Waypoint). record { ty = s.ty; words = s.words }) c.is ∙ ap (λ n. record { ty = n; words = e.seen.words }) is.ty ∙ ap (λ us. record { ty = x.ty; words = us }) is.words in
       move (words_asked layouts m x) base place asked.2 (λ k h. seen_in c.found k c.there
       (in_left k (words_asked layouts m (record { ty = c.found.ty; words = c.found.words })) (first_ahead m c.found c.found.at) (subst (λ (y : At). In k (words_asked layouts m y)) (sym same) h)))
   word_gathered base place (inr (inr p)) =
@@ -255,14 +255,14 @@ module _ (types : List DataDecl) (layouts : List Layout) (image : Image) (t : �
                 | inr b ↦
                     let passed = (moved b.before b.field b.here).last in
                     let to : In s.word (words_ahead m (record x { at = b.field ∷ [] })) = subst (λ (p : List ℕ). In s.word (first_ahead m x p)) b.is_path g in
-                    let same : passed ≡ record x { at = b.field ∷ [] } = ap (λ (y : Seen). record y { at = y.at ++ b.field ∷ [] }) b.is_last in
+                    let same : passed ≡ record x { at = b.field ∷ [] } = ap (λ (y : Waypoint). record y { at = y.at ++ b.field ∷ [] }) b.is_last in
                     inr (inr (record {
                       before = b.before;
                       field = b.field;
                       here = b.here;
                       is_step = b.is_step;
                       is_kept = kept_there (words_ahead m passed) base place
-                          (record { word = s.word; there = subst (λ (y : Seen). In s.word (words_ahead m y)) (sym same) to; is_base = s.is_base; is_place = s.is_place });
+                          (record { word = s.word; there = subst (λ (y : Waypoint). In s.word (words_ahead m y)) (sym same) to; is_base = s.is_base; is_place = s.is_place });
                     }))
               ]
             ]
@@ -277,7 +277,7 @@ module _ (types : List DataDecl) (layouts : List Layout) (image : Image) (t : �
       let f = found_in on m all fault e in
       let s = f.0 in
       let led = passed_led types layouts image t path end came s f.1 in
-      let b = bad_among on m s.leaf s.words (reached m s.leaf s.words) (order_of s.leaf) fault f.2 in
+      let b = bad_among on m s.leaf s.words (block_addresses m s.leaf s.words) (order_of s.leaf) fault f.2 in
       let g = in_get b.part (order_of s.leaf) b.there in
       let bits = part_bits m s b.part in
       record {
@@ -305,11 +305,11 @@ module _ (types : List DataDecl) (layouts : List Layout) (image : Image) (t : �
         let s = leaf.0 in
         let bad = leaf.2 in
         let same : e.seen ≡ s = same_Ok e.seen s (sym e.is_seen ∙ leaf.1) in
-        let c = subst (λ (x : Seen). Covers types layouts m all x) same e.covers in
+        let c = subst (λ (x : Waypoint). Covers types layouts m all x) same e.covers in
         let good : fault_seen on m s ≡ None = ap (fault_seen on m) (sym c.is) ∙ none_in on m all none c.found c.there in
         let here : on (part_bits m s bad.part).base (part_bits m s bad.part).place ≡ true =
         ap (λ b. on b (part_bits m s bad.part).place) bad.is_base ∙ ap (on w.base) bad.is_place ∙ word_gathered w.base w.place w.on_path in
-        let fine = good_among on m s.leaf s.words (reached m s.leaf s.words) (order_of s.leaf) good bad.part (get_in bad.part (order_of s.leaf) bad.number bad.is_part) bad.is_read here in
+        let fine = good_among on m s.leaf s.words (block_addresses m s.leaf s.words) (order_of s.leaf) good bad.part (get_in bad.part (order_of s.leaf) bad.number bad.is_part) bad.is_read here in
         let no = sym fine ∙ bad.is_fault in
         absurd cc
   ]

@@ -18,14 +18,14 @@ use Rattle.rb_image_text.specs.declared.fault.ImageFault.TheVariants.{BadPointer
 use Rattle.rb_image_text.specs.declared.image.Image.{Image}
 use Rattle.rb_image_text.specs.declared.image.ImageBlock.{ImageBlock}
 use Rattle.rb_image.specs.declared.kept.Kept.{Kept}
-use Rattle.rb_image.specs.LeafWords.{reached}
-use Rattle.rb_image.specs.Orders.{PartAt, order_of}
+use Rattle.rb_image.specs.LeafWords.{block_addresses}
+use Rattle.rb_image.specs.Orders.{LocatedPart, order_of}
 use Rattle.rb_image.specs.Paths.{IsCome, IsKeptAt, IsPathWord, is_there, part_bits, word_below, words_ahead}
 use Rattle.rb_image.specs.Peeking.{end_words, words_there}
 use Rattle.rb_image.specs.Rebuilds.{end_of, rebuilt, unless_refused}
-use Rattle.rb_image.specs.Roots.{AllFit, kept_from, widths_of}
+use Rattle.rb_image.specs.Roots.{WordsFit, kept_from, widths_of}
 use Rattle.rb_image.specs.Splits.{or_fault}
-use Rattle.rb_image.specs.Walks.{Seen, Where, moved}
+use Rattle.rb_image.specs.Walks.{Waypoint, Where, moved}
 use Rattle.rb_image.specs.Ways.{fault_of, is_below, leads_below, refusal_of, refused_below}
 use Rattle.rb_image.proofs.LeafLemmas.{some_words}
 use Rattle.rb_image.proofs.PathAnswers.{root_long}
@@ -52,7 +52,7 @@ or_left true b e = refl
 or_left false b e = absurd cc
 
 -- words that fit a data type of the program are some
-pub some_root : (p : Program) → IsTyped p → Agrees p → (t : ℕ) → t < length p.types → (words : List ℕ) → AllFit (widths_of (flat_layouts p) (Named t)) words → 1 ≤ length words
+pub some_root : (p : Program) → IsTyped p → Agrees p → (t : ℕ) → t < length p.types → (words : List ℕ) → WordsFit (widths_of (flat_layouts p) (Named t)) words → 1 ≤ length words
 some_root p typed agrees t small words fit =
     let l = has_layout p typed agrees t small in
     let some = some_words p typed agrees t l.0 l.1 in
@@ -74,25 +74,25 @@ module _ (types : List DataDecl) (layouts : List Layout) (image : Image) (t : �
     abbrev pub none_on : On 0 0
     none_on = inl (root_on image.root some)
 
-    abbrev s : Seen
+    abbrev s : Waypoint
     s = w.last
 
     led : IsLed types layouts image t path s
     led = passed_led types layouts image t path w come s (in_right s w.before (s ∷ []) (inl refl))
 
     -- a part on the way to the end, or below it, is of a word on the path
-    part_on : (i : ℕ) (at : List ℕ) → s.at ≡ i ∷ at → (part : PartAt) → In part (order_of s.leaf) → (reached_there : In (part_bits m s part) (word_below m s.leaf s.words (reached m s.leaf s.words) s.at part))
+    part_on : (i : ℕ) (at : List ℕ) → s.at ≡ i ∷ at → (part : LocatedPart) → In part (order_of s.leaf) → (reached_there : In (part_bits m s part) (word_below m s.leaf s.words (block_addresses m s.leaf s.words) s.at part))
         → On (part_bits m s part).base (part_bits m s part).place
     part_on i at is part there below = elim led.1 [
       | inl none ↦ absurd (let no = sym none ∙ is in cc)
       | inr b ↦
           let k = part_bits m s part in
-          let ahead : In k (words_ahead m s) = flat_map_in (word_below m s.leaf s.words (reached m s.leaf s.words) s.at) k part (order_of s.leaf) there below in
+          let ahead : In k (words_ahead m s) = flat_map_in (word_below m s.leaf s.words (block_addresses m s.leaf s.words) s.at) k part (order_of s.leaf) there below in
           let longer : In k (words_ahead m (record s { at = b.field ∷ b.more })) = subst (λ (p : List ℕ). In k (words_ahead m (record s { at = p }))) b.is_path ahead in
-          let first : In k (words_ahead m (record s { at = b.field ∷ [] })) = words_first m s.leaf s.words (reached m s.leaf s.words) b.field b.more k longer in
+          let first : In k (words_ahead m (record s { at = b.field ∷ [] })) = words_first m s.leaf s.words (block_addresses m s.leaf s.words) b.field b.more k longer in
           let passed = (moved b.before b.field b.here).last in
-          let same : passed ≡ record s { at = b.field ∷ [] } = ap (λ (y : Seen). record y { at = y.at ++ b.field ∷ [] }) b.is_last in
-          let g = in_get k (words_ahead m passed) (subst (λ (y : Seen). In k (words_ahead m y)) (sym same) first) in
+          let same : passed ≡ record s { at = b.field ∷ [] } = ap (λ (y : Waypoint). record y { at = y.at ++ b.field ∷ [] }) b.is_last in
+          let g = in_get k (words_ahead m passed) (subst (λ (y : Waypoint). In k (words_ahead m y)) (sym same) first) in
           inr (inr (record {
             before = b.before;
             field = b.field;
@@ -106,14 +106,14 @@ module _ (types : List DataDecl) (layouts : List Layout) (image : Image) (t : �
     Words = Result (List ℕ) ImageFault
 
     abbrev refused : Option ImageFault
-    refused = refused_below m s.leaf s.words (reached m s.leaf s.words) s.at (order_of s.leaf)
+    refused = refused_below m s.leaf s.words (block_addresses m s.leaf s.words) s.at (order_of s.leaf)
 
     -- the first pointer on the way that is refused
     record First (f : ImageFault) : Type 0 where
-      part : PartAt
+      part : LocatedPart
       there : In part (order_of s.leaf)
       leads : leads_below s.leaf s.at part.part.kind ≡ true
-      is_read : is_there (reached m s.leaf s.words) part.block ≡ true
+      is_read : is_there (block_addresses m s.leaf s.words) part.block ≡ true
       is_fault : refusal_of m s.leaf (part_bits m s part) part.part.kind ≡ Some f
 
     -- what stands at the end inside a leaf
@@ -123,7 +123,7 @@ module _ (types : List DataDecl) (layouts : List Layout) (image : Image) (t : �
       | inr none ↦ turn (λ f g. absurd (no_refusal m s none f g)) (λ free part h below. absurd (subst (In part) none h)) refused refl e
     ]
       where
-        turn : ((f : ImageFault) → refused ≡ Some f → First f) → (refused ≡ None → (part : PartAt) → In part (order_of s.leaf) → leads_below s.leaf s.at part.part.kind ≡ true → is_there (reached m s.leaf s.words) part.block ≡ true)
+        turn : ((f : ImageFault) → refused ≡ Some f → First f) → (refused ≡ None → (part : LocatedPart) → In part (order_of s.leaf) → leads_below s.leaf s.at part.part.kind ≡ true → is_there (block_addresses m s.leaf s.words) part.block ≡ true)
             → (o : Option ImageFault) → refused ≡ o → ◌≡◌ {A = Words} (unless_refused types layouts m o (end_of types layouts m w)) (Err fault) → IsTold On none_on fault
         turn first all (Some f) found g =
             let x = first f found in

@@ -13,13 +13,13 @@ use Rattle.rb_layout.specs.declared.layout.Part.{Part}
 use Rattle.rb_layout.specs.declared.layout.WordRef.{WordRef}
 use Rattle.rb_layout.specs.Flat.{IsAbove, IsFlat}
 use Rattle.rb_layout.specs.Words.{words_in, words_of_block, flat_at, begins_at}
-use Rattle.rb_image.specs.Orders.{PartAt, behind, block_order, by_offset, order_of, with_inner, word_order, words_order}
+use Rattle.rb_image.specs.Orders.{LocatedPart, pointed_parts, block_order, by_offset, order_of, with_inner, word_order, words_order}
 use Rattle.rb_image.proofs.PointerLemmas.{points, points_same}
 use Rattle.rb_image.proofs.SpotLemmas.{In, in_append, in_left, in_right, in_get, get_in, in_flat_map, flat_map_in, in_beginning, beginning_in}
 
 -- Each part that is there is one of the leaf -------------------------------------------------
 -- a part of one of these words, the first of which is word j and begins at a byte
-pub record InWords (block : Option ℕ) (j byte : ℕ) (fs : List FlatWord) (s : PartAt) : Type 0 where
+pub record InWords (block : Option ℕ) (j byte : ℕ) (fs : List FlatWord) (s : LocatedPart) : Type 0 where
   pub i : ℕ
   pub word : FlatWord
   pub number : ℕ
@@ -30,14 +30,14 @@ pub record InWords (block : Option ℕ) (j byte : ℕ) (fs : List FlatWord) (s :
   pub same_byte : s.byte ≡ byte + begins_at fs i
   pub same_width : s.width ≡ word.width
 
-module _ (X : PartAt → Type 0) (inner : ℕ → List PartAt) (go : (b : ℕ) (s : PartAt) → In s (inner b) → X s) where
-  behind_in : (k : Kind) (s : PartAt) → In s (behind inner k) → X s
+module _ (X : LocatedPart → Type 0) (inner : ℕ → List LocatedPart) (go : (b : ℕ) (s : LocatedPart) → In s (inner b) → X s) where
+  behind_in : (k : Kind) (s : LocatedPart) → In s (pointed_parts inner k) → X s
   behind_in (Const c) s h = absurd h
   behind_in (Bits path a) s h = absurd h
   behind_in (Word path j) s h = absurd h
   behind_in (Pointer align b) s h = go b s h
 
-  in_words : (block : Option ℕ) (j byte : ℕ) (fs : List FlatWord) (s : PartAt) → In s (words_order inner block j byte fs) → X s ⊎ InWords block j byte fs s
+  in_words : (block : Option ℕ) (j byte : ℕ) (fs : List FlatWord) (s : LocatedPart) → In s (words_order inner block j byte fs) → X s ⊎ InWords block j byte fs s
   in_words block j byte [] s h = absurd h
   in_words block j byte (f ∷ fs) s h = elim (in_append s (word_order inner block j byte f) (words_order inner block (j + 1) (byte + f.width / 8) fs) h) [
     | inl a ↦ let r = in_flat_map (with_inner inner block j byte f.width) s (by_offset f) a in
@@ -51,11 +51,11 @@ module _ (X : PartAt → Type 0) (inner : ℕ → List PartAt) (go : (b : ℕ) (
                 word = f;
                 number = g.0;
                 is_word = refl;
-                is_part = g.1 ∙ ap Some (sym (ap (λ (x : PartAt). x.part) e));
-                same_block = ap (λ (x : PartAt). x.block) e;
-                same_word = ap (λ (x : PartAt). x.word) e ∙ zj;
-                same_byte = ap (λ (x : PartAt). x.byte) e ∙ zb;
-                same_width = ap (λ (x : PartAt). x.width) e;
+                is_part = g.1 ∙ ap Some (sym (ap (λ (x : LocatedPart). x.part) e));
+                same_block = ap (λ (x : LocatedPart). x.block) e;
+                same_word = ap (λ (x : LocatedPart). x.word) e ∙ zj;
+                same_byte = ap (λ (x : LocatedPart). x.byte) e ∙ zb;
+                same_width = ap (λ (x : LocatedPart). x.width) e;
               })
           | inr b ↦ inl (behind_in r.0.kind s b)
         ]
@@ -79,10 +79,10 @@ module _ (X : PartAt → Type 0) (inner : ℕ → List PartAt) (go : (b : ℕ) (
   ]
 
 -- a part of a word, where it stands
-abbrev pub spot_of : Leaf → WordRef → FlatWord → Part → PartAt
+abbrev pub spot_of : Leaf → WordRef → FlatWord → Part → LocatedPart
 spot_of leaf r f p = record { block = r.block; word = r.word; byte = begins_at (words_in leaf r.block) r.word; width = f.width; part = p }
 
-pub record IsSpot (leaf : Leaf) (s : PartAt) : Type 0 where
+pub record IsSpot (leaf : Leaf) (s : LocatedPart) : Type 0 where
   pub ref : WordRef
   pub word : FlatWord
   pub number : ℕ
@@ -91,7 +91,7 @@ pub record IsSpot (leaf : Leaf) (s : PartAt) : Type 0 where
   pub is : s ≡ spot_of leaf ref word s.part
 
 module _ (leaf : Leaf) where
-  as_spot : (block : Option ℕ) (s : PartAt) → InWords block 0 0 (words_in leaf block) s → IsSpot leaf s
+  as_spot : (block : Option ℕ) (s : LocatedPart) → InWords block 0 0 (words_in leaf block) s → IsSpot leaf s
   as_spot block s h =
       let zj : 0 + h.i ≡ h.i = omega arith in
       let zb : 0 + begins_at (words_in leaf block) h.i ≡ begins_at (words_in leaf block) h.i = omega arith in
@@ -107,23 +107,23 @@ module _ (leaf : Leaf) where
             ∙ ap (λ (x : ℕ). record { block = block; word = h.i; byte = begins_at (words_in leaf block) h.i; width = x; part = s.part }) h.same_width;
       }
 
-  block_spots : (depth b : ℕ) (s : PartAt) → In s (block_order leaf depth b) → IsSpot leaf s
+  block_spots : (depth b : ℕ) (s : LocatedPart) → In s (block_order leaf depth b) → IsSpot leaf s
   block_spots zero b s h = absurd h
   block_spots (suc depth) b s h = elim (in_words (IsSpot leaf) (block_order leaf depth) (λ c t. block_spots depth c t) (Some b) 0 0 (words_in leaf (Some b)) s h) [
     | inl x ↦ x
     | inr y ↦ as_spot (Some b) s y
   ]
 
-  pub order_spots : (s : PartAt) → In s (order_of leaf) → IsSpot leaf s
+  pub order_spots : (s : LocatedPart) → In s (order_of leaf) → IsSpot leaf s
   order_spots s h = elim (in_words (IsSpot leaf) (block_order leaf (length leaf.blocks)) (λ b t. block_spots (length leaf.blocks) b t) None 0 0 leaf.root s h) [
     | inl x ↦ x
     | inr y ↦ as_spot None s y
   ]
 
 -- Each part of the leaf is there -------------------------------------------------------------
-module _ (inner : ℕ → List PartAt) (block : Option ℕ) where
+module _ (inner : ℕ → List LocatedPart) (block : Option ℕ) where
   pub words_have : (j byte : ℕ) (fs : List FlatWord) (i : ℕ) (f : FlatWord) (k : ℕ) (p : Part) → slice_get fs i ≡ Some f → slice_get f.parts k ≡ Some p → p.o < f.width
-      → (word from : ℕ) → word ≡ j + i → from ≡ byte + begins_at fs i → (s : PartAt) → In s (with_inner inner block word from f.width p) → In s (words_order inner block j byte fs)
+      → (word from : ℕ) → word ≡ j + i → from ≡ byte + begins_at fs i → (s : LocatedPart) → In s (with_inner inner block word from f.width p) → In s (words_order inner block j byte fs)
   words_have j byte [] i f k p is at lt word from is_word is_from s h = absurd cc
   words_have j byte (e ∷ fs) zero f k p is at lt word from is_word is_from s h =
       let same = same_Some e f is in
@@ -145,24 +145,24 @@ module _ (leaf : Leaf) (flat : IsFlat leaf) (low : (r : WordRef) (f : FlatWord) 
   record Covered (b : ℕ) : Type 0 where
     depth : ℕ
     above : b < depth
-    all : (s : PartAt) → In s (block_order leaf depth b) → In s (order_of leaf)
+    all : (s : LocatedPart) → In s (block_order leaf depth b) → In s (order_of leaf)
 
   from_root : (b j k align : ℕ) (f : FlatWord) (p : Part) → b < length leaf.blocks → slice_get leaf.root j ≡ Some f → slice_get f.parts k ≡ Some p → p.kind ≡ Pointer align b → Covered b
   from_root b j k align f p lt is at kind = record {
     depth = length leaf.blocks;
     above = lt;
     all = λ s h. words_have (block_order leaf (length leaf.blocks)) None 0 0 leaf.root j f k p is at (low (record { block = None; word = j }) f k p is at) (0 + j) (0 + begins_at leaf.root j) refl refl s
-        (inr (subst (λ (x : Kind). In s (behind (block_order leaf (length leaf.blocks)) x)) (sym kind) h));
+        (inr (subst (λ (x : Kind). In s (pointed_parts (block_order leaf (length leaf.blocks)) x)) (sym kind) h));
   }
 
-  from_block : (b a j k align : ℕ) (f : FlatWord) (p : Part) → b < a → (depth : ℕ) → a < depth → ((s : PartAt) → In s (block_order leaf depth a) → In s (order_of leaf))
+  from_block : (b a j k align : ℕ) (f : FlatWord) (p : Part) → b < a → (depth : ℕ) → a < depth → ((s : LocatedPart) → In s (block_order leaf depth a) → In s (order_of leaf))
       → slice_get (words_in leaf (Some a)) j ≡ Some f → slice_get f.parts k ≡ Some p → p.kind ≡ Pointer align b → Covered b
   from_block b a j k align f p lt zero above all is at kind = absurd (omega (arith, above))
   from_block b a j k align f p lt (suc depth) above all is at kind = record {
     depth = depth;
     above = omega (arith, lt, above);
     all = λ s h. all s (words_have (block_order leaf depth) (Some a) 0 0 (words_in leaf (Some a)) j f k p is at (low (record { block = Some a; word = j }) f k p is at)
-        (0 + j) (0 + begins_at (words_in leaf (Some a)) j) refl refl s (inr (subst (λ (x : Kind). In s (behind (block_order leaf depth) x)) (sym kind) h)));
+        (0 + j) (0 + begins_at (words_in leaf (Some a)) j) refl refl s (inr (subst (λ (x : Kind). In s (pointed_parts (block_order leaf depth) x)) (sym kind) h)));
   }
 
   cover : (fuel b : ℕ) (block : Block) → length leaf.blocks ≤ b + fuel → slice_get leaf.blocks b ≡ Some block → Covered b
@@ -186,7 +186,7 @@ module _ (leaf : Leaf) (flat : IsFlat leaf) (low : (r : WordRef) (f : FlatWord) 
   pub part_in_order : (r : WordRef) (f : FlatWord) (k : ℕ) (p : Part) → flat_at leaf r ≡ Some f → slice_get f.parts k ≡ Some p → In (spot_of leaf r f p) (order_of leaf)
   part_in_order r f k p is at = go r.block r.word is
     where
-      there : (b j : ℕ) (depth : ℕ) → b < depth → ((s : PartAt) → In s (block_order leaf depth b) → In s (order_of leaf)) → slice_get (words_in leaf (Some b)) j ≡ Some f → In (spot_of leaf (record { block = Some b; word = j }) f p) (order_of leaf)
+      there : (b j : ℕ) (depth : ℕ) → b < depth → ((s : LocatedPart) → In s (block_order leaf depth b) → In s (order_of leaf)) → slice_get (words_in leaf (Some b)) j ≡ Some f → In (spot_of leaf (record { block = Some b; word = j }) f p) (order_of leaf)
       there b j zero above all h = absurd (omega (arith, above))
       there b j (suc depth) above all h =
           let zj : j ≡ 0 + j = omega arith in
@@ -212,7 +212,7 @@ BlockSeen seen None = Unit {0}
 BlockSeen seen (Some b) = 1 ≤ seen b
 
 -- each part is of the root, or of a block to which a part before it points, or of a block that was seen before
-abbrev pub AreLed : (ℕ → ℕ) → List PartAt → Type 0
+abbrev pub AreLed : (ℕ → ℕ) → List LocatedPart → Type 0
 AreLed seen [] = Unit {0}
 AreLed seen (s ∷ ss) = BlockSeen seen s.block × AreLed (λ c. points c s.part.kind + seen c) ss
 
@@ -220,18 +220,18 @@ block_more : (seen more : ℕ → ℕ) (o : Option ℕ) → ((c : ℕ) → seen 
 block_more seen more None le h = tt
 block_more seen more (Some b) le h = let a = le b in omega (arith, a, h)
 
-led_more : (seen more : ℕ → ℕ) (ss : List PartAt) → ((c : ℕ) → seen c ≤ more c) → AreLed seen ss → AreLed more ss
+led_more : (seen more : ℕ → ℕ) (ss : List LocatedPart) → ((c : ℕ) → seen c ≤ more c) → AreLed seen ss → AreLed more ss
 led_more seen more [] le h = tt
 led_more seen more (s ∷ ss) le h =
     (block_more seen more s.block le h.0, led_more (λ c. points c s.part.kind + seen c) (λ c. points c s.part.kind + more c) ss (λ c. (let a = le c in omega (arith, a))) h.1)
 
-led_append : (seen : ℕ → ℕ) (xs ys : List PartAt) → AreLed seen xs → AreLed seen ys → AreLed seen (xs ++ ys)
+led_append : (seen : ℕ → ℕ) (xs ys : List LocatedPart) → AreLed seen xs → AreLed seen ys → AreLed seen (xs ++ ys)
 led_append seen [] ys h g = g
 led_append seen (x ∷ xs) ys h g =
     (h.0, led_append (λ c. points c x.part.kind + seen c) xs ys h.1 (led_more seen (λ c. points c x.part.kind + seen c) ys (λ c. omega arith) g))
 
-module _ (inner : ℕ → List PartAt) (good : (b : ℕ) (seen : ℕ → ℕ) → 1 ≤ seen b → AreLed seen (inner b)) where
-  behind_led : (seen : ℕ → ℕ) (k : Kind) → AreLed (λ c. points c k + seen c) (behind inner k)
+module _ (inner : ℕ → List LocatedPart) (good : (b : ℕ) (seen : ℕ → ℕ) → 1 ≤ seen b → AreLed seen (inner b)) where
+  behind_led : (seen : ℕ → ℕ) (k : Kind) → AreLed (λ c. points c k + seen c) (pointed_parts inner k)
   behind_led seen (Const x) = tt
   behind_led seen (Bits path a) = tt
   behind_led seen (Word path j) = tt

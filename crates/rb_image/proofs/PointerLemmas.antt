@@ -23,12 +23,12 @@ use Rattle.rb_layout.specs.declared.layout.Kind.{Kind}
 use Rattle.rb_layout.specs.declared.layout.Kind.TheVariants.{Const, Bits, Word, Pointer}
 use Rattle.rb_layout.specs.Positions.{Open, open_positions}
 use Rattle.rb_layout.specs.Words.{words_of_block}
-use Rattle.rb_layout.specs.Flattening.{Laying, in_turn, item_laid, kind_laid, part_laid, items_laid, parts_of, whole_kind, kind_if_open, type_at, shape_of, inlined, words_of, flat_leaf}
+use Rattle.rb_layout.specs.Flattening.{Laying, in_turn, item_laid, kind_laid, part_laid, items_laid, parts_of, whole_kind, kind_if_open, type_at, shape_of, inlined, inline_words, flat_leaf}
 use Rattle.rb_layout.proofs.Blocks.{get_left, get_right, kinds_of, word_kinds}
 use Rattle.rb_layout.proofs.Computing.{word_laid, inline_laid, const_laid, whole_laid, slice_laid, word_of_laid, pointer_laid, part_laid_is}
 use Rattle.rb_layout.proofs.FlatForms.{Each}
 use Rattle.rb_layout.proofs.WrittenForms.{item-induction}
-use Rattle.rb_image.specs.Orders.{PartAt, beginning_at, beginning_from, behind, block_order, by_offset, order_of, with_inner, word_order, words_order}
+use Rattle.rb_image.specs.Orders.{LocatedPart, beginning_at, beginning_from, pointed_parts, block_order, by_offset, order_of, with_inner, word_order, words_order}
 
 -- Counting -----------------------------------------------------------------------------------
 -- 1 for a pointer to block c
@@ -39,7 +39,7 @@ points c (Word path j) = 0
 points c (Pointer align b) = if b == c then 1 else 0
 
 -- how many of the parts are pointers to block c
-abbrev pub pointing : ℕ → List PartAt → ℕ
+abbrev pub pointing : ℕ → List LocatedPart → ℕ
 pointing c [] = 0
 pointing c (s ∷ ss) = points c s.part.kind + pointing c ss
 
@@ -58,7 +58,7 @@ points_other c align b ne = ap (λ t. if t then 1 else 0) (other_is b c ne)
 counted_on : (a b c : ℕ) → a + (b + c) ≡ a + b + c
 counted_on a b c = omega arith
 
-pub pointing-append : (c : ℕ) (xs ys : List PartAt) → pointing c (xs ++ ys) ≡ pointing c xs + pointing c ys
+pub pointing-append : (c : ℕ) (xs ys : List LocatedPart) → pointing c (xs ++ ys) ≡ pointing c xs + pointing c ys
 pointing-append c [] ys = omega arith
 pointing-append c (x ∷ xs) ys = ap (λ n. points c x.part.kind + n) (pointing-append c xs ys) ∙ counted_on (points c x.part.kind) (pointing c xs) (pointing c ys)
 
@@ -113,14 +113,14 @@ module _ (weigh : Part → ℕ) where
 
 -- Pointers among kinds -----------------------------------------------------------------------
 -- the pointers to block c in a part of this kind and in those behind it
-abbrev pub weigh_kind : ℕ → (ℕ → List PartAt) → Kind → ℕ
-weigh_kind c inner kind = points c kind + pointing c (behind inner kind)
+abbrev pub weigh_kind : ℕ → (ℕ → List LocatedPart) → Kind → ℕ
+weigh_kind c inner kind = points c kind + pointing c (pointed_parts inner kind)
 
-abbrev pub weighed : ℕ → (ℕ → List PartAt) → List Kind → ℕ
+abbrev pub weighed : ℕ → (ℕ → List LocatedPart) → List Kind → ℕ
 weighed c inner [] = 0
 weighed c inner (k ∷ ks) = weigh_kind c inner k + weighed c inner ks
 
-module _ (c : ℕ) (inner : ℕ → List PartAt) where
+module _ (c : ℕ) (inner : ℕ → List LocatedPart) where
   pub weighed-append : (xs ys : List Kind) → weighed c inner (xs ++ ys) ≡ weighed c inner xs + weighed c inner ys
   weighed-append [] ys = omega arith
   weighed-append (x ∷ xs) ys = ap (λ n. weigh_kind c inner x + n) (weighed-append xs ys) ∙ counted_on (weigh_kind c inner x) (weighed c inner xs) (weighed c inner ys)
@@ -265,8 +265,8 @@ unfolding kinds_in
 part_kinds o l None = refl
 part_kinds o l (Some kind) = refl
 
-module _ (c : ℕ) (inner : ℕ → List PartAt) where
-  shape_none : (path : List ℕ) (j : ℕ) (widths : List ℕ) → weighed c inner (word_kinds (words_of path j widths)) ≡ 0
+module _ (c : ℕ) (inner : ℕ → List LocatedPart) where
+  shape_none : (path : List ℕ) (j : ℕ) (widths : List ℕ) → weighed c inner (word_kinds (inline_words path j widths)) ≡ 0
   shape_none path j [] = refl
   shape_none path j (w ∷ widths) = let rest = shape_none path (j + 1) widths in omega (arith, rest)
 

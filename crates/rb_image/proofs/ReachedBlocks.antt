@@ -18,14 +18,14 @@ use Rattle.rb_layout.specs.declared.layout.Kind.TheVariants.{Const, Bits, Word, 
 use Rattle.rb_layout.specs.declared.layout.Leaf.{Leaf}
 use Rattle.rb_layout.specs.declared.layout.Part.{Part}
 use Rattle.rb_layout.specs.declared.layout.WordRef.{WordRef}
-use Rattle.rb_rel.specs.Relation.{HoldsKind, Placed}
+use Rattle.rb_rel.specs.Relation.{HoldsKind, LeafStands}
 use Rattle.rb_image_text.specs.declared.fault.ImageFault.{ImageFault}
 use Rattle.rb_image_text.specs.declared.image.ImageBlock.{ImageBlock}
 use Rattle.rb_image.specs.declared.kept.Kept.{Kept}
 use Rattle.rb_image.specs.Falling.{PointersFall, base_in}
-use Rattle.rb_image.specs.LeafWords.{follow, follow_kind, follow_part, reached, with_found}
-use Rattle.rb_image.specs.Orders.{PartAt, order_of}
-use Rattle.rb_image.specs.Parts.{bits_at, followed}
+use Rattle.rb_image.specs.LeafWords.{follow, follow_kind, follow_part, block_addresses, with_found}
+use Rattle.rb_image.specs.Orders.{LocatedPart, order_of}
+use Rattle.rb_image.specs.Parts.{bits_at, pointer_lead}
 use Rattle.rb_image.proofs.FallingParts.{pointer_counts}
 use Rattle.rb_image.proofs.FallingWords.{AreKeptAs, IsKnown, follows, kept_is, same_is}
 use Rattle.rb_image.proofs.PlacedSpots.{AreLed, BlockSeen, IsSpot, order_led, order_spots, part_in_order, spot_of}
@@ -35,7 +35,7 @@ use Rattle.rb_image.proofs.WholeMemories.{IsWhole}
 
 module _ (blocks : List ImageBlock) (m : Memory) (is : IsWhole blocks m)
     (leaf : Leaf) (flat : IsFlat leaf) (wide : (b : ℕ) (block : Block) (j : ℕ) (f : FlatWord) → slice_get leaf.blocks b ≡ Some block → slice_get block.words j ≡ Some f → IsBlockWidth f.width)
-    (ws : List ℕ) (subs : List ℕ → List ℕ) (ats from : ℕ → ℕ) (placed : Placed leaf ws m false subs ats) (falls : PointersFall leaf from ats)
+    (ws : List ℕ) (subs : List ℕ → List ℕ) (ats from : ℕ → ℕ) (placed : LeafStands leaf ws m false subs ats) (falls : PointersFall leaf from ats)
     (xs : List Kept) (kept : AreKeptAs xs ws from) where
   -- the blocks that were seen have their addresses, and others none or theirs
   record AreKnown (seen : ℕ → ℕ) (known : List ℕ) : Type 0 where
@@ -104,7 +104,7 @@ module _ (blocks : List ImageBlock) (m : Memory) (is : IsWhole blocks m)
     kind_followed bits base (Pointer align b) e h =
         let to : PointsTo leaf r q.l align b = record { word = f; number = n; part = q; is_word = is_word; is_part = is_part; is_length = refl; is_pointer = e } in
         let block = (flat.below r q.l align b to).0 in
-        pointer_known known seen k align b (slice_get_within leaf.blocks b block.0 block.1) (followed blocks leaf bits align b)
+        pointer_known known seen k align b (slice_get_within leaf.blocks b block.0 block.1) (pointer_lead blocks leaf bits align b)
         (follows blocks m is leaf flat wide ws subs ats from placed falls xs kept r q.l align b to bits h base)
 
     spot_followed : BlockSeen seen r.block → AreKnown (λ c. points c q.kind + seen c) (follow_part blocks leaf xs known (spot_of leaf r f q))
@@ -116,14 +116,14 @@ module _ (blocks : List ImageBlock) (m : Memory) (is : IsWhole blocks m)
         (subst (λ w. HoldsKind subs ats (take_of w q.o q.l) q.l q.kind) (sym at.0) (x.2.parts n q is_part))
 
   -- All parts --------------------------------------------------------------------------------
-  all_followed : (ss : List PartAt) (known : List ℕ) (seen : ℕ → ℕ) → AreKnown seen known → AreLed seen ss → ((s : PartAt) → In s ss → IsSpot leaf s)
+  all_followed : (ss : List LocatedPart) (known : List ℕ) (seen : ℕ → ℕ) → AreKnown seen known → AreLed seen ss → ((s : LocatedPart) → In s ss → IsSpot leaf s)
       → (c : ℕ) → 1 ≤ seen c + pointing c ss → slice_index (follow blocks leaf xs known ss) c ≡ ats c
   all_followed [] known seen k led spots c some = k.all c (omega (arith, some))
   all_followed (s ∷ ss) known seen k led spots c some =
       let x = spots s (inl refl) in
-      let seen_block : BlockSeen seen x.ref.block = subst (BlockSeen seen) (ap (λ (y : PartAt). y.block) x.is) led.0 in
+      let seen_block : BlockSeen seen x.ref.block = subst (BlockSeen seen) (ap (λ (y : LocatedPart). y.block) x.is) led.0 in
       let e : AreKnown (λ c. points c s.part.kind + seen c) (follow_part blocks leaf xs known s) =
-      subst (λ (y : PartAt). AreKnown (λ c. points c s.part.kind + seen c) (follow_part blocks leaf xs known y)) (sym x.is) (spot_followed x.ref x.word x.number s.part x.is_word x.is_part known seen k seen_block) in
+      subst (λ (y : LocatedPart). AreKnown (λ c. points c s.part.kind + seen c) (follow_part blocks leaf xs known y)) (sym x.is) (spot_followed x.ref x.word x.number s.part x.is_word x.is_part known seen k seen_block) in
       all_followed ss (follow_part blocks leaf xs known s) (λ c. points c s.part.kind + seen c) e led.1 (λ y h. spots y (inr h)) c (omega (arith, some))
 
   none_known : AreKnown (λ c. 0) (replicate (length leaf.blocks) 0)
@@ -139,7 +139,7 @@ module _ (blocks : List ImageBlock) (m : Memory) (is : IsWhole blocks m)
       zero_at (suc n) (suc c) = zero_at n c
 
   module _ (low : (r : WordRef) (f : FlatWord) (k : ℕ) (q : Part) → flat_at leaf r ≡ Some f → slice_get f.parts k ≡ Some q → q.o < f.width) where
-    block_reached : (b : ℕ) (o : Option Block) (j : ℕ) (f : FlatWord) → slice_get leaf.blocks b ≡ o → slice_get (words_of_block o) j ≡ Some f → slice_index (reached blocks leaf xs) b ≡ ats b
+    block_reached : (b : ℕ) (o : Option Block) (j : ℕ) (f : FlatWord) → slice_get leaf.blocks b ≡ o → slice_get (words_of_block o) j ≡ Some f → slice_index (block_addresses blocks leaf xs) b ≡ ats b
     block_reached b None j f e h = absurd cc
     block_reached b (Some block) j f e h =
         let q = flat.pointed b block e in
@@ -148,10 +148,10 @@ module _ (blocks : List ImageBlock) (m : Memory) (is : IsWhole blocks m)
         let some = pointer_counts b block.align (order_of leaf) (spot_of leaf q.0 pt.word pt.part) there pt.is_pointer in
         all_followed (order_of leaf) (replicate (length leaf.blocks) 0) (λ c. 0) none_known (order_led leaf) (order_spots leaf) b (omega (arith, some))
 
-    ref_reached : (o : Option ℕ) (j : ℕ) (f : FlatWord) → slice_get (words_in leaf o) j ≡ Some f → IsKnown ats (reached blocks leaf xs) o
+    ref_reached : (o : Option ℕ) (j : ℕ) (f : FlatWord) → slice_get (words_in leaf o) j ≡ Some f → IsKnown ats (block_addresses blocks leaf xs) o
     ref_reached None j f e = tt
     ref_reached (Some b) j f e = block_reached b (slice_get leaf.blocks b) j f refl e
 
     -- the blocks that are reached in a leaf that is placed are at their addresses
-    pub blocks_reached : (r : WordRef) (f : FlatWord) → flat_at leaf r ≡ Some f → IsKnown ats (reached blocks leaf xs) r.block
+    pub blocks_reached : (r : WordRef) (f : FlatWord) → flat_at leaf r ≡ Some f → IsKnown ats (block_addresses blocks leaf xs) r.block
     blocks_reached r f e = ref_reached r.block r.word f e

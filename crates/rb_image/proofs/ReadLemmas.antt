@@ -12,7 +12,7 @@ use Rattle.rb_coding.specs.Decoding.{AreOf}
 use Rattle.rb_image_text.specs.declared.fault.ImageFault.{ImageFault}
 use Rattle.rb_image_text.specs.declared.image.Image.{Image}
 use Rattle.rb_image_text.specs.declared.image.ImageBlock.{ImageBlock}
-use Rattle.rb_image_text.specs.Images.{AreBlocks}
+use Rattle.rb_image_text.specs.Images.{AreImageBlocks}
 use Rattle.rb_image_text.specs.Places.{AreInPlace}
 use Rattle.rb_image.specs.Falling.{RootDescends}
 use Rattle.rb_image.specs.Memories.{Stand, image_memory}
@@ -30,7 +30,7 @@ stand_keeps_blocks blocks m good stand = record {
 }
 
 -- the root words represent a value of the image in each memory in which its blocks stand
-pub stands_for : (p : Program) (image : Image) (ty : Ty) → AreInPlace image.blocks → AreBlocks image.blocks → (m : Memory) → Stand image.blocks m
+pub stands_for : (p : Program) (image : Image) (ty : Ty) → AreInPlace image.blocks → AreImageBlocks image.blocks → (m : Memory) → Stand image.blocks m
     → (v : Value) → AreOf p (image_memory image.blocks) ty image.root v → AreOf p m ty image.root v
 stands_for p image ty placed are m stand v is = Represents-stand p.types (flat_layouts p) false image.blocks m placed are stand is
 

@@ -32,12 +32,12 @@ use Rattle.rb_image_text.specs.declared.image.ImageBlock.{ImageBlock}
 use Rattle.rb_image.specs.declared.kept.Kept.{Kept}
 use Rattle.rb_image.specs.declared.pack.FieldWords.{FieldWords}
 use Rattle.rb_image.specs.Fields.{Position, field_of}
-use Rattle.rb_image.specs.Orders.{PartAt, order_of}
-use Rattle.rb_image.specs.Parts.{addresses_of, bits_at, block_from, block_size, examine, examine_kind, examine_part, field_word, field_words, followed, holds, kept_at}
+use Rattle.rb_image.specs.Orders.{LocatedPart, order_of}
+use Rattle.rb_image.specs.Parts.{addresses_of, bits_at, block_from, block_size, examine, examine_kind, examine_part, field_word, field_words, pointer_lead, is_field_word, kept_at}
 use Rattle.rb_image.specs.Paths.{Names}
 use Rattle.rb_image.specs.Rebuilds.{Matching, Rebuilding, chosen, data_words, fields_at, match_con, match_field, match_fields, match_step, matches, or_later, packed, rebuilt_within, same_con, words_along, words_at}
 use Rattle.rb_image.specs.Splits.{and_then, kept_in, leaf_at, or_fault, pointed_from, range_at, range_from, range_of, step_over, word_at}
-use Rattle.rb_image.specs.Views.{Standing, along, down, down_to, from_root, settled, settled_at, step_down, taken_apart, words_here}
+use Rattle.rb_image.specs.Views.{LeafPosition, along, down, down_to, from_root, settled, settled_at, step_down, taken_apart, words_here}
 use Rattle.rb_image.specs.Walks.{layout_at, leaf_or_none, open_data}
 use Rattle.rb_image.specs.Ways.{is_below}
 use Rattle.rb_image.proofs.FallLemmas.{same_Ok}
@@ -85,7 +85,7 @@ below_less path more (Bits own a) e = starts_less own path more e
 below_less path more (Word own j) e = starts_less own path more e
 below_less path more (Pointer align b) e = absurd cc
 
-holds_below : (path : List ℕ) (j : ℕ) (kind : Kind) → holds kind path j ≡ true → is_below path kind ≡ true
+holds_below : (path : List ℕ) (j : ℕ) (kind : Kind) → is_field_word kind path j ≡ true → is_below path kind ≡ true
 holds_below path j (Const c) e = absurd cc
 holds_below path j (Bits own a) e = absurd cc
 holds_below path j (Word own i) e = starts_same own path (both (same_path own path) (i == j) e).0
@@ -209,23 +209,23 @@ module _ (On : ℕ → ℕ → Type 0) (none_on : On 0 0) where
     of_root seen none None h = refl
     of_root seen none (Some b) h = absurd (let z = none b in omega (arith, h, z))
 
-    root_bits : (m : List ImageBlock) (ats : List ℕ) (s : PartAt) → s.block ≡ None → IsOn (bits_at m ws ats s)
+    root_bits : (m : List ImageBlock) (ats : List ℕ) (s : LocatedPart) → s.block ≡ None → IsOn (bits_at m ws ats s)
     root_bits m ats s is = subst (λ (o : Option ℕ). On (kept_at m ws ats o s).base (kept_at m ws ats o s).place) (sym is) (word_on ws on s.word)
 
     module _ (leaf : L.Leaf) where
       refused : (ats : List ℕ) (bits : Kept) (align b : ℕ) (fault : ImageFault) → IsOn bits
-          → ◌≡◌ {A = Addresses} (and_then (followed [] leaf bits align b) (λ at. Ok (slice_set ats b at))) (Err fault) → IsTold fault
+          → ◌≡◌ {A = Addresses} (and_then (pointer_lead [] leaf bits align b) (λ at. Ok (slice_set ats b at))) (Err fault) → IsTold fault
       refused ats bits align b fault here e =
           let at = bits.number * align in
-          let stops : ◌≡◌ {A = Result ℕ ImageFault} (followed [] leaf bits align b) (Err (BadPointer bits.base at)) =
+          let stops : ◌≡◌ {A = Result ℕ ImageFault} (pointer_lead [] leaf bits align b) (Err (BadPointer bits.base at)) =
           ap (λ x. or_fault x (BadPointer bits.base at)) (no_block (pointed_from bits.base at) (block_size (slice_get leaf.blocks b))) in
           let is : ◌≡◌ {A = Addresses} (Err (BadPointer bits.base at)) (Err fault) = sym (ap (λ (r : Result ℕ ImageFault). and_then r (λ a. Ok (slice_set ats b a))) stops) ∙ e in
           pointer_told bits here at fault (same_err {A = List ℕ} (BadPointer bits.base at) fault is)
 
-      not_followed : (ats next : List ℕ) (bits : Kept) (align b : ℕ) → ◌≡◌ {A = Addresses} (and_then (followed [] leaf bits align b) (λ at. Ok (slice_set ats b at))) (Ok next) → ⊥
+      not_followed : (ats next : List ℕ) (bits : Kept) (align b : ℕ) → ◌≡◌ {A = Addresses} (and_then (pointer_lead [] leaf bits align b) (λ at. Ok (slice_set ats b at))) (Ok next) → ⊥
       not_followed ats next bits align b e =
           let at = bits.number * align in
-          let stops : ◌≡◌ {A = Result ℕ ImageFault} (followed [] leaf bits align b) (Err (BadPointer bits.base at)) =
+          let stops : ◌≡◌ {A = Result ℕ ImageFault} (pointer_lead [] leaf bits align b) (Err (BadPointer bits.base at)) =
           ap (λ x. or_fault x (BadPointer bits.base at)) (no_block (pointed_from bits.base at) (block_size (slice_get leaf.blocks b))) in
           let is : ◌≡◌ {A = Addresses} (Err (BadPointer bits.base at)) (Ok next) = sym (ap (λ (r : Result ℕ ImageFault). and_then r (λ a. Ok (slice_set ats b a))) stops) ∙ e in
           cc
@@ -247,7 +247,7 @@ module _ (On : ℕ → ℕ → Type 0) (none_on : On 0 0) where
       no_pointer ats next bits (Word path j) e c = refl
       no_pointer ats next bits (Pointer align b) e c = absurd (not_followed ats next bits align b e)
 
-      examine_told : (ss : List PartAt) (seen : ℕ → ℕ) (ats : List ℕ) → ((c : ℕ) → seen c ≡ 0) → AreLed seen ss → (fault : ImageFault) → ◌≡◌ {A = Addresses} (examine [] leaf ws ats ss) (Err fault) → IsTold fault
+      examine_told : (ss : List LocatedPart) (seen : ℕ → ℕ) (ats : List ℕ) → ((c : ℕ) → seen c ≡ 0) → AreLed seen ss → (fault : ImageFault) → ◌≡◌ {A = Addresses} (examine [] leaf ws ats ss) (Err fault) → IsTold fault
       examine_told [] seen ats none led fault e = absurd cc
       examine_told (s ∷ ss) seen ats none led fault e = go (examine_part [] leaf ws ats s) refl e (λ next n g. examine_told ss (λ c. points c s.part.kind + seen c) next n led.1 fault g)
         where
@@ -260,8 +260,8 @@ module _ (On : ℕ → ℕ → Type 0) (none_on : On 0 0) where
           go (Ok next) is g more =
               more next (λ c. (let zero_here = no_pointer ats next (bits_at [] ws ats s) s.part.kind is c in let zero_seen = none c in omega (arith, zero_here, zero_seen))) g
 
-      all_root : (ss : List PartAt) (seen : ℕ → ℕ) (ats found : List ℕ) → ((c : ℕ) → seen c ≡ 0) → AreLed seen ss → ◌≡◌ {A = Addresses} (examine [] leaf ws ats ss) (Ok found)
-          → (s : PartAt) → In s ss → s.block ≡ None
+      all_root : (ss : List LocatedPart) (seen : ℕ → ℕ) (ats found : List ℕ) → ((c : ℕ) → seen c ≡ 0) → AreLed seen ss → ◌≡◌ {A = Addresses} (examine [] leaf ws ats ss) (Ok found)
+          → (s : LocatedPart) → In s ss → s.block ≡ None
       all_root [] seen ats found none led e s h = absurd h
       all_root (x ∷ ss) seen ats found none led e s h = go (examine_part [] leaf ws ats x) refl e (λ next n g i. all_root ss (λ c. points c x.part.kind + seen c) next found n led.1 g s i)
         where
@@ -269,25 +269,25 @@ module _ (On : ℕ → ℕ → Type 0) (none_on : On 0 0) where
               → ((next : List ℕ) → ((c : ℕ) → points c x.part.kind + seen c ≡ 0) → ◌≡◌ {A = Addresses} (examine [] leaf ws next ss) (Ok found) → In s ss → s.block ≡ None) → s.block ≡ None
           go (Err f) is g more = absurd cc
           go (Ok next) is g more = elim h [
-            | inl same ↦ ap (λ (y : PartAt). y.block) same ∙ of_root seen none x.block led.0
+            | inl same ↦ ap (λ (y : LocatedPart). y.block) same ∙ of_root seen none x.block led.0
             | inr i ↦ more next (λ c. (let zero_here = no_pointer ats next (bits_at [] ws ats x) x.part.kind is c in let zero_seen = none c in omega (arith, zero_here, zero_seen))) g i
           ]
 
   -- Positions --------------------------------------------------------------------------------
   module _ (types : List DataDecl) (layouts : List Layout) (m : List ImageBlock) where
     abbrev Stood : Type 0
-    Stood = Result Standing ImageFault
+    Stood = Result LeafPosition ImageFault
 
     -- the parts at a position and below it are of words on the path
-    abbrev pub AllOn : Standing → Type 0
-    AllOn x = (s : PartAt) → In s (order_of x.leaf) → is_below x.at s.part.kind ≡ true → IsOn (bits_at m x.root x.addresses s)
+    abbrev pub AllOn : LeafPosition → Type 0
+    AllOn x = (s : LocatedPart) → In s (order_of x.leaf) → is_below x.at s.part.kind ≡ true → IsOn (bits_at m x.root x.addresses s)
 
-    field_on : (x : Standing) (path : List ℕ) (j : ℕ) (ss : List PartAt) → ((s : PartAt) → In s ss → holds s.part.kind path j ≡ true → IsOn (bits_at m x.root x.addresses s))
+    field_on : (x : LeafPosition) (path : List ℕ) (j : ℕ) (ss : List LocatedPart) → ((s : LocatedPart) → In s ss → is_field_word s.part.kind path j ≡ true → IsOn (bits_at m x.root x.addresses s))
         → IsOn (field_word m x.root x.addresses ss path j)
     field_on x path j [] each = none_on
-    field_on x path j (s ∷ ss) each = go (field_on x path j ss (λ t h. each t (inr h))) (holds s.part.kind path j) refl
+    field_on x path j (s ∷ ss) each = go (field_on x path j ss (λ t h. each t (inr h))) (is_field_word s.part.kind path j) refl
       where
-        go : IsOn (field_word m x.root x.addresses ss path j) → (b : Bool) → holds s.part.kind path j ≡ b → IsOn (if b then bits_at m x.root x.addresses s else field_word m x.root x.addresses ss path j)
+        go : IsOn (field_word m x.root x.addresses ss path j) → (b : Bool) → is_field_word s.part.kind path j ≡ b → IsOn (if b then bits_at m x.root x.addresses s else field_word m x.root x.addresses ss path j)
         go rest true is = each s (inl refl) is
         go rest false is = rest
 
@@ -296,14 +296,14 @@ module _ (On : ℕ → ℕ → Type 0) (none_on : On 0 0) where
     fields_on word path each j (suc n) k (inl is) = subst IsOn (sym is) (each j)
     fields_on word path each j (suc n) k (inr h) = fields_on word path each (j + 1) n k h
 
-    words_on : (x : Standing) → AllOn x → (t : ℕ) → AreOn (words_here layouts m x t)
+    words_on : (x : LeafPosition) → AllOn x → (t : ℕ) → AreOn (words_here layouts m x t)
     words_on x on t =
         fields_on (field_word m x.root x.addresses (order_of x.leaf)) x.at
         (λ j. field_on x x.at j (order_of x.leaf) (λ s h e. on s h (holds_below x.at j s.part.kind e))) 0 (word_count layouts (Named t))
 
     -- a value that is seen in its own leaf, and the fault that keeps it from being seen
     record Seen (r : Stood) : Type 0 where
-      found : (y : Standing) → ◌≡◌ {A = Stood} r (Ok y) → AllOn y
+      found : (y : LeafPosition) → ◌≡◌ {A = Stood} r (Ok y) → AllOn y
       fault : (f : ImageFault) → ◌≡◌ {A = Stood} r (Err f) → IsTold f
 
     taken_seen : (t : ℕ) (ws : List Kept) → AreOn ws → Seen (taken_apart layouts t ws)
@@ -316,7 +316,7 @@ module _ (On : ℕ → ℕ → Type 0) (none_on : On 0 0) where
             → Seen (and_then a (λ none. Ok (from_root t ws (the_leaf n))))
         on_leaf n (Err f) is = record {
           found = λ y e. absurd cc;
-          fault = λ g e. subst IsTold (same_err {A = Standing} f g e)
+          fault = λ g e. subst IsTold (same_err {A = LeafPosition} f g e)
               (examine_told ws on (the_leaf n) (order_of (the_leaf n)) (λ c. 0) (replicate (length (the_leaf n).blocks) 0) (λ c. refl) (order_led (the_leaf n)) f is);
         }
         on_leaf n (Ok none) is = record {
@@ -328,17 +328,17 @@ module _ (On : ℕ → ℕ → Type 0) (none_on : On 0 0) where
 
         leads : (r : Result ℕ ImageFault) → ◌≡◌ {A = Result ℕ ImageFault} (leaf_at (layout_at layouts t).tree [] ws) r
             → Seen (and_then r (λ n. and_then (addresses_of [] (the_leaf n) ws) (λ none. Ok (from_root t ws (the_leaf n)))))
-        leads (Err f) is = record { found = λ y e. absurd cc; fault = λ g e. subst IsTold (same_err {A = Standing} f g e) (leaf_told ws on (layout_at layouts t).tree f is) }
+        leads (Err f) is = record { found = λ y e. absurd cc; fault = λ g e. subst IsTold (same_err {A = LeafPosition} f g e) (leaf_told ws on (layout_at layouts t).tree f is) }
         leads (Ok n) is = on_leaf n (addresses_of [] (the_leaf n) ws) refl
 
-    settled_seen : (x : Standing) → AllOn x → Seen (settled layouts m x)
+    settled_seen : (x : LeafPosition) → AllOn x → Seen (settled layouts m x)
     settled_seen x on = go (open_data x.here)
       where
         go : (o : Option ℕ) → Seen (settled_at layouts m x o)
         go None = record { found = λ y e. subst AllOn (same_Ok x y e) on; fault = λ f e. absurd cc }
         go (Some t) = taken_seen t (words_here layouts m x t) (words_on x on t)
 
-    down_on : (x : Standing) → AllOn x → (i : ℕ) (o : Option Position) (y : Standing) → down_to x i o ≡ Some y → AllOn y
+    down_on : (x : LeafPosition) → AllOn x → (i : ℕ) (o : Option Position) (y : LeafPosition) → down_to x i o ≡ Some y → AllOn y
     down_on x on i None y e = absurd cc
     down_on x on i (Some pos) y e =
         subst AllOn (same_Some (record x { at = x.at ++ i ∷ []; here = pos }) y e) (λ s h below. on s h (below_less x.at (i ∷ []) s.part.kind below))
@@ -348,17 +348,17 @@ module _ (On : ℕ → ℕ → Type 0) (none_on : On 0 0) where
     Matched = Result Bool ImageFault
 
     abbrev IsTelling : Matching → Type 0
-    IsTelling go = (x : Standing) → AllOn x → (f : ImageFault) → ◌≡◌ {A = Matched} (go x) (Err f) → IsTold f
+    IsTelling go = (x : LeafPosition) → AllOn x → (f : ImageFault) → ◌≡◌ {A = Matched} (go x) (Err f) → IsTold f
 
     abbrev AllTell : List Matching → Type 0
     AllTell [] = Unit {0}
     AllTell (go ∷ gos) = IsTelling go × AllTell gos
 
-    fields_tell : (gos : List Matching) → AllTell gos → (x : Standing) → AllOn x → (i : ℕ) (f : ImageFault) → ◌≡◌ {A = Matched} (match_fields types gos x i) (Err f) → IsTold f
+    fields_tell : (gos : List Matching) → AllTell gos → (x : LeafPosition) → AllOn x → (i : ℕ) (f : ImageFault) → ◌≡◌ {A = Matched} (match_fields types gos x i) (Err f) → IsTold f
     fields_tell [] all x on i f e = absurd cc
     fields_tell (go ∷ gos) all x on i f e = first (down types x i) refl (match_field go (down types x i)) refl e (λ h. fields_tell gos all.1 x on (i + 1) f h)
       where
-        field : (o : Option Standing) → down types x i ≡ o → (g : ImageFault) → ◌≡◌ {A = Matched} (match_field go o) (Err g) → IsTold g
+        field : (o : Option LeafPosition) → down types x i ≡ o → (g : ImageFault) → ◌≡◌ {A = Matched} (match_field go o) (Err g) → IsTold g
         field None is g h = absurd cc
         field (Some y) is g h = all.0 y (down_on x on i (field_of types x.here.pat i) y is) g h
 
@@ -366,13 +366,13 @@ module _ (On : ℕ → ℕ → Type 0) (none_on : On 0 0) where
         rest true h more = more h
         rest false h more = absurd cc
 
-        first : (o : Option Standing) → down types x i ≡ o → (r : Matched) → ◌≡◌ {A = Matched} (match_field go (down types x i)) r
+        first : (o : Option LeafPosition) → down types x i ≡ o → (r : Matched) → ◌≡◌ {A = Matched} (match_field go (down types x i)) r
             → ◌≡◌ {A = Matched} (and_then r (λ so. if so then match_fields types gos x (i + 1) else Ok false)) (Err f)
             → (◌≡◌ {A = Matched} (match_fields types gos x (i + 1)) (Err f) → IsTold f) → IsTold f
         first o is (Err g) found h more = subst IsTold (same_err {A = Bool} g f h) (field (down types x i) refl g found)
         first o is (Ok so) found h more = rest so h more
 
-    con_tells : (c : ConRef) (gos : List Matching) → AllTell gos → (y : Standing) → AllOn y → (l : Pat-F Pat) (f : ImageFault) → ◌≡◌ {A = Matched} (match_con types c gos y l) (Err f) → IsTold f
+    con_tells : (c : ConRef) (gos : List Matching) → AllTell gos → (y : LeafPosition) → AllOn y → (l : Pat-F Pat) (f : ImageFault) → ◌≡◌ {A = Matched} (match_con types c gos y l) (Err f) → IsTold f
     con_tells c gos all y on (P.Wild at) f e = absurd cc
     con_tells c gos all y on (P.Var at v) f e = absurd cc
     con_tells c gos all y on (P.Num at n) f e = absurd cc
@@ -401,7 +401,7 @@ module _ (On : ℕ → ℕ → Type 0) (none_on : On 0 0) where
         turn seen (Err g) is h = seen.fault f (is ∙ ap (λ z. Err z) (same_err {A = Bool} g f h))
         turn seen (Ok y) is h = con_tells c (map (matches types layouts m) ps) (each_tells ps each) y (seen.found y is) (out-Pat y.here.pat) f h
 
-    never : (p : Pat) (b : Bool) → ((x : Standing) → ◌≡◌ {A = Matched} (matches types layouts m p x) (Ok b)) → Tells p
+    never : (p : Pat) (b : Bool) → ((x : LeafPosition) → ◌≡◌ {A = Matched} (matches types layouts m p x) (Ok b)) → Tells p
     never p b is x on f e = absurd (let no : ◌≡◌ {A = Matched} (Ok b) (Err f) = sym (is x) ∙ e in cc)
 
     match_cases : Cases Tells
@@ -425,7 +425,7 @@ module _ (On : ℕ → ℕ → Type 0) (none_on : On 0 0) where
     later_told (Err g) leaf (Ok other) f own more e = absurd cc
     later_told (Err g) leaf (Err h) f own more e = subst IsTold (same_err {A = L.Leaf} g f e) (own g refl)
 
-    chosen_told : (leaves : List L.Leaf) (x : Standing) → AllOn x → (f : ImageFault) → ◌≡◌ {A = Chosen} (chosen types layouts m leaves x) (Err f) → IsTold f
+    chosen_told : (leaves : List L.Leaf) (x : LeafPosition) → AllOn x → (f : ImageFault) → ◌≡◌ {A = Chosen} (chosen types layouts m leaves x) (Err f) → IsTold f
     chosen_told [] x on f e = inr (sym (same_err {A = L.Leaf} Memory f e))
     chosen_told (leaf ∷ leaves) x on f e =
         later_told (matches types layouts m leaf.prov x) leaf (chosen types layouts m leaves x) f (matches_tell leaf.prov x on) (chosen_told leaves x on) e
@@ -435,40 +435,40 @@ module _ (On : ℕ → ℕ → Type 0) (none_on : On 0 0) where
     Words = Result (List ℕ) ImageFault
 
     abbrev RebuildTells : Rebuilding → Type 0
-    RebuildTells go = (t : ℕ) (x : Standing) → AllOn x → (f : ImageFault) → ◌≡◌ {A = Words} (go t x) (Err f) → IsTold f
+    RebuildTells go = (t : ℕ) (x : LeafPosition) → AllOn x → (f : ImageFault) → ◌≡◌ {A = Words} (go t x) (Err f) → IsTold f
 
-    step_seen : (x : Standing) → AllOn x → (i : ℕ) → Seen (step_down types layouts m x i)
+    step_seen : (x : LeafPosition) → AllOn x → (i : ℕ) → Seen (step_down types layouts m x i)
     step_seen x on i = turn (settled_seen x on) (settled layouts m x) refl
       where
-        field : (y : Standing) → AllOn y → (o : Option Standing) → down types y i ≡ o → Seen (or_fault o Memory)
-        field y here None is = record { found = λ z e. absurd cc; fault = λ f e. inr (sym (same_err {A = Standing} Memory f e)) }
+        field : (y : LeafPosition) → AllOn y → (o : Option LeafPosition) → down types y i ≡ o → Seen (or_fault o Memory)
+        field y here None is = record { found = λ z e. absurd cc; fault = λ f e. inr (sym (same_err {A = LeafPosition} Memory f e)) }
         field y here (Some z) is = record { found = λ w e. subst AllOn (same_Ok z w e) (down_on y here i (field_of types y.here.pat i) z is); fault = λ f e. absurd cc }
 
         turn : Seen (settled layouts m x) → (r : Stood) → ◌≡◌ {A = Stood} (settled layouts m x) r → Seen (and_then r (λ y. or_fault (down types y i) Memory))
-        turn seen (Err g) is = record { found = λ z e. absurd cc; fault = λ f e. seen.fault f (is ∙ ap (λ z. Err z) (same_err {A = Standing} g f e)) }
+        turn seen (Err g) is = record { found = λ z e. absurd cc; fault = λ f e. seen.fault f (is ∙ ap (λ z. Err z) (same_err {A = LeafPosition} g f e)) }
         turn seen (Ok y) is = field y (seen.found y is) (down types y i) refl
 
-    along_seen : (path : List ℕ) (x : Standing) → AllOn x → Seen (along types layouts m x path)
+    along_seen : (path : List ℕ) (x : LeafPosition) → AllOn x → Seen (along types layouts m x path)
     along_seen [] x on = record { found = λ y e. subst AllOn (same_Ok x y e) on; fault = λ f e. absurd cc }
     along_seen (i ∷ path) x on = turn (step_seen x on i) (step_down types layouts m x i) refl (along_seen path)
       where
-        turn : Seen (step_down types layouts m x i) → (r : Stood) → ◌≡◌ {A = Stood} (step_down types layouts m x i) r → ((y : Standing) → AllOn y → Seen (along types layouts m y path))
+        turn : Seen (step_down types layouts m x i) → (r : Stood) → ◌≡◌ {A = Stood} (step_down types layouts m x i) r → ((y : LeafPosition) → AllOn y → Seen (along types layouts m y path))
             → Seen (and_then r (λ y. along types layouts m y path))
-        turn seen (Err g) is more = record { found = λ z e. absurd cc; fault = λ f e. seen.fault f (is ∙ ap (λ z. Err z) (same_err {A = Standing} g f e)) }
+        turn seen (Err g) is more = record { found = λ z e. absurd cc; fault = λ f e. seen.fault f (is ∙ ap (λ z. Err z) (same_err {A = LeafPosition} g f e)) }
         turn seen (Ok y) is more = more y (seen.found y is)
 
     module _ (go : Rebuilding) (tells : RebuildTells go) where
-      data_told : (t : ℕ) (x : Standing) → AllOn x → (l : Pat-F Pat) (f : ImageFault) → ◌≡◌ {A = Words} (data_words types layouts m go t x l) (Err f) → IsTold f
+      data_told : (t : ℕ) (x : LeafPosition) → AllOn x → (l : Pat-F Pat) (f : ImageFault) → ◌≡◌ {A = Words} (data_words types layouts m go t x l) (Err f) → IsTold f
       data_told t x on (P.Wild at) f e = absurd cc
       data_told t x on (P.Var at v) f e = absurd cc
       data_told t x on (P.Num at n) f e = inr (sym (same_err {A = List ℕ} Memory f e))
       data_told t x on (P.Con at c ps) f e = tells t x on f e
 
-      words_told : (ty : Ty) (x : Standing) → AllOn x → (f : ImageFault) → ◌≡◌ {A = Words} (words_at types layouts m go ty x) (Err f) → IsTold f
+      words_told : (ty : Ty) (x : LeafPosition) → AllOn x → (f : ImageFault) → ◌≡◌ {A = Words} (words_at types layouts m go ty x) (Err f) → IsTold f
       words_told (Int bits) x on f e = absurd cc
       words_told (Named t) x on f e = data_told t x on (out-Pat x.here.pat) f e
 
-      along_told : (x : Standing) → AllOn x → (path : List ℕ) (f : ImageFault) → ◌≡◌ {A = Words} (words_along types layouts m go x path) (Err f) → IsTold f
+      along_told : (x : LeafPosition) → AllOn x → (path : List ℕ) (f : ImageFault) → ◌≡◌ {A = Words} (words_along types layouts m go x path) (Err f) → IsTold f
       along_told x on path f e = turn (along_seen path x on) (along types layouts m x path) refl e
         where
           turn : Seen (along types layouts m x path) → (r : Stood) → ◌≡◌ {A = Stood} (along types layouts m x path) r → ◌≡◌ {A = Words} (and_then r (λ y. words_at types layouts m go y.here.ty y)) (Err f) → IsTold f
@@ -478,7 +478,7 @@ module _ (On : ℕ → ℕ → Type 0) (none_on : On 0 0) where
       abbrev Fields : Type 0
       Fields = Result (List FieldWords) ImageFault
 
-      fields_told : (os : List Open) (x : Standing) → AllOn x → (f : ImageFault) → ◌≡◌ {A = Fields} (fields_at types layouts m go x os) (Err f) → IsTold f
+      fields_told : (os : List Open) (x : LeafPosition) → AllOn x → (f : ImageFault) → ◌≡◌ {A = Fields} (fields_at types layouts m go x os) (Err f) → IsTold f
       fields_told [] x on f e = absurd cc
       fields_told (o ∷ os) x on f e = first (words_along types layouts m go x o.path) refl e (λ h. fields_told os x on f h)
         where
@@ -511,5 +511,5 @@ module _ (On : ℕ → ℕ → Type 0) (none_on : On 0 0) where
         first (Ok leaf) is h tells = rest leaf tells (fields_at types layouts m (rebuilt_within types layouts m n) x (open_positions types leaf.prov)) refl h
 
     -- what stands at a position in words on the path has its faults there
-    pub position_told : (x : Standing) → AllOn x → (f : ImageFault) → ◌≡◌ {A = Words} (words_at types layouts m (rebuilt_within types layouts m (length layouts)) x.here.ty x) (Err f) → IsTold f
+    pub position_told : (x : LeafPosition) → AllOn x → (f : ImageFault) → ◌≡◌ {A = Words} (words_at types layouts m (rebuilt_within types layouts m (length layouts)) x.here.ty x) (Err f) → IsTold f
     position_told x on f e = words_told (rebuilt_within types layouts m (length layouts)) (rebuild_told (length layouts)) x.here.ty x on f e

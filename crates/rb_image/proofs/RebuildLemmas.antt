@@ -8,10 +8,10 @@ use Rattle.rb_image_text.specs.declared.fault.ImageFault.{ImageFault}
 use Rattle.rb_image_text.specs.declared.image.ImageBlock.{ImageBlock}
 use Rattle.rb_image.specs.Rebuilds.{chosen, fields_at, packed, rebuilt_within}
 use Rattle.rb_image.specs.Splits.{and_then}
-use Rattle.rb_image.specs.Views.{Standing}
+use Rattle.rb_image.specs.Views.{LeafPosition}
 use Rattle.rb_image.specs.Walks.{layout_at, layout_or_none}
 
-module _ (types : List DataDecl) (layouts : List Layout) (m : List ImageBlock) (t : ℕ) (x : Standing) where
+module _ (types : List DataDecl) (layouts : List Layout) (m : List ImageBlock) (t : ℕ) (x : LeafPosition) where
   abbrev pub in_leaf : ℕ → Leaf → Result (List ℕ) ImageFault
   in_leaf n leaf = and_then (fields_at types layouts m (rebuilt_within types layouts m n) x (open_positions types leaf.prov)) (λ fields. Ok (packed leaf fields))
 

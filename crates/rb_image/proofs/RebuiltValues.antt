@@ -33,11 +33,11 @@ use Rattle.rb_image_text.specs.declared.fault.ImageFault.{ImageFault}
 use Rattle.rb_image_text.specs.declared.fault.ImageFault.TheVariants.{Memory as NoMemory}
 use Rattle.rb_image_text.specs.declared.image.ImageBlock.{ImageBlock}
 use Rattle.rb_image.specs.declared.pack.FieldWords.{FieldWords}
-use Rattle.rb_image.specs.Rebuilds.{chosen, data_words, fields_at, packed, rebuilt_within, words_along, words_at, words_in}
-use Rattle.rb_image.specs.RebuiltValues.{AreRight, RebuiltWordsRepresent, ValueStands, is_plain, plain_step}
+use Rattle.rb_image.specs.Rebuilds.{chosen, data_words, fields_at, packed, rebuilt_within, words_along, words_at, words_at_path}
+use Rattle.rb_image.specs.RebuiltValues.{AreRight, RebuiltWordsRepresent, ValueStands, is_numberless, plain_step}
 use Rattle.rb_image.specs.Splits.{and_then}
 use Rattle.rb_image.specs.TakenApart.{open_words}
-use Rattle.rb_image.specs.Views.{Standing}
+use Rattle.rb_image.specs.Views.{LeafPosition}
 use Rattle.rb_image.specs.Walks.{layout_or_none}
 use Rattle.rb_image.proofs.HeldOnce.{same_self}
 use Rattle.rb_image.proofs.PackedWords.{packed_represent}
@@ -54,34 +54,34 @@ module _ (p : Program) (typed : IsTyped p) (agrees : Agrees p) (m : Memory) (goo
   abbrev layouts : List Layout
   layouts = flat_layouts p
 
-  abbrev Stand : Standing → Value → Pat → Ty → Type 0
+  abbrev Stand : LeafPosition → Value → Pat → Ty → Type 0
   Stand x v q ty = ValueStands p m blocks x v q ty
 
   abbrev Right : Ty → Value → Result (List ℕ) ImageFault → Type 0
   Right ty v r = AreRight p m blocks ty v r
 
-  abbrev rebuilt : ℕ → ℕ → Standing → Result (List ℕ) ImageFault
+  abbrev rebuilt : ℕ → ℕ → LeafPosition → Result (List ℕ) ImageFault
   rebuilt n = rebuilt_within types layouts blocks n
 
-  abbrev End : Standing → Value → Open → Type 0
+  abbrev End : LeafPosition → Value → Open → Type 0
   End x v o = Ends p typed agrees m good blocks x v o
 
   -- where constructors are rebuilt rightly
   abbrev Rebuilds : ℕ → Type 0
-  Rebuilds n = (t : ℕ) (x : Standing) (v : Value) (at : ℕ) (c : ConRef) (ps : List Pat) → Stand x v (Con at c ps) (Named t) → Right (Named t) v (rebuilt n t x)
+  Rebuilds n = (t : ℕ) (x : LeafPosition) (v : Value) (at : ℕ) (c : ConRef) (ps : List Pat) → Stand x v (Con at c ps) (Named t) → Right (Named t) v (rebuilt n t x)
 
   -- Positions --------------------------------------------------------------------------------
-  open_right : (y : Standing) (w : Value) (q : Pat) (ty : Ty) → Stand y w q ty → opens_of types q ty ≡ record { path = []; ty = ty } ∷ []
+  open_right : (y : LeafPosition) (w : Value) (q : Pat) (ty : Ty) → Stand y w q ty → opens_of types q ty ≡ record { path = []; ty = ty } ∷ []
       → Represents types layouts m false ty w (open_words layouts blocks y y.at ty)
   open_right y w q ty st alone =
       let f = st.fields 0 (record { path = []; ty = ty }) (ap (λ (os : List Open). slice_get os 0) alone) in
       subst (λ u. Represents types layouts m false ty u (open_words layouts blocks y y.at ty)) (sym (same_Some w f.0 f.1))
       (subst (λ path. Represents types layouts m false ty f.0 (open_words layouts blocks y path ty)) (append-nil y.at) f.2)
 
-  no_number : (q : Pat) (at n : ℕ) → q ≡ Num at n → is_plain q ≡ true → ⊥
-  no_number q at n e h = let z = sym (fold-Num Bool plain_step at n) ∙ sym (ap is_plain e) ∙ h in cc
+  no_number : (q : Pat) (at n : ℕ) → q ≡ Num at n → is_numberless q ≡ true → ⊥
+  no_number q at n e h = let z = sym (fold-Num Bool plain_step at n) ∙ sym (ap is_numberless e) ∙ h in cc
 
-  at_type : (n : ℕ) → Rebuilds n → (y : Standing) (w : Value) (q : Pat) (ty : Ty) → Stand y w q ty → Form q → Right ty w (words_at types layouts blocks (rebuilt n) ty y)
+  at_type : (n : ℕ) → Rebuilds n → (y : LeafPosition) (w : Value) (q : Pat) (ty : Ty) → Stand y w q ty → Form q → Right ty w (words_at types layouts blocks (rebuilt n) ty y)
   at_type n ih y w q (Int bits) st (wild at e) = open_right y w q (Int bits) st (ap (λ r. opens_of types r (Int bits)) e ∙ opens-Wild types at (Int bits))
   at_type n ih y w q (Int bits) st (var at x e) = open_right y w q (Int bits) st (ap (λ r. opens_of types r (Int bits)) e ∙ opens-Var types at x (Int bits))
   at_type n ih y w q (Int bits) st (num at i e) = absurd (no_number q at i e st.inner.plain)
@@ -98,37 +98,37 @@ module _ (p : Program) (typed : IsTyped p) (agrees : Agrees p) (m : Memory) (goo
       subst (λ l. Right (Named t) w (data_words types layouts blocks (rebuilt n) t y l)) (sym (ap out-Pat (st.is_pat ∙ e) ∙ outs-Con at c ps))
       (ih t y w at c ps (subst (λ r. Stand y w r (Named t)) e st))
 
-  words_right : (n : ℕ) → Rebuilds n → (y : Standing) (w : Value) (q : Pat) (ty : Ty) → Stand y w q ty → Right ty w (words_at types layouts blocks (rebuilt n) y.here.ty y)
+  words_right : (n : ℕ) → Rebuilds n → (y : LeafPosition) (w : Value) (q : Pat) (ty : Ty) → Stand y w q ty → Right ty w (words_at types layouts blocks (rebuilt n) y.here.ty y)
   words_right n ih y w q ty st = subst (λ s. Right ty w (words_at types layouts blocks (rebuilt n) s y)) (sym st.is_ty) (at_type n ih y w q ty st (forms q))
 
   -- Fields -----------------------------------------------------------------------------------
-  module _ (n : ℕ) (ih : Rebuilds n) (x : Standing) (v : Value) where
+  module _ (n : ℕ) (ih : Rebuilds n) (x : LeafPosition) (v : Value) where
     abbrev along_to : List ℕ → Result (List ℕ) ImageFault
     along_to path = words_along types layouts blocks (rebuilt n) x path
 
     -- the words of each field are those along its path
     abbrev AreFields : List Open → Result (List FieldWords) ImageFault → Type 0
-    AreFields os (Ok fields) = (k : ℕ) (o : Open) → slice_get os k ≡ Some o → along_to o.path ≡ Ok (words_in fields o.path)
+    AreFields os (Ok fields) = (k : ℕ) (o : Open) → slice_get os k ≡ Some o → along_to o.path ≡ Ok (words_at_path fields o.path)
     AreFields os (Err fault) = fault ≡ NoMemory
 
     along_is : (o : Open) (e : End x v o) → along_to o.path ≡ words_at types layouts blocks (rebuilt n) e.y.here.ty e.y
-    along_is o e = ap (λ (r : Result Standing ImageFault). and_then r (λ y. words_at types layouts blocks (rebuilt n) y.here.ty y)) e.is_along
+    along_is o e = ap (λ (r : Result LeafPosition ImageFault). and_then r (λ y. words_at types layouts blocks (rebuilt n) y.here.ty y)) e.is_along
 
     along_right : (o : Open) (e : End x v o) → Right o.ty e.w (along_to o.path)
     along_right o e = subst (λ (r : Result (List ℕ) ImageFault). Right o.ty e.w r) (sym (along_is o e)) (words_right n ih e.y e.w e.pat o.ty e.stands)
 
-    looked : (o q : Open) (ws : List ℕ) (fields : List FieldWords) → along_to o.path ≡ Ok ws → (b : Bool) → same_path o.path q.path ≡ b → (b ≡ false → along_to q.path ≡ Ok (words_in fields q.path))
-        → along_to q.path ≡ Ok (words_in (record { path = o.path; words = ws } ∷ fields) q.path)
+    looked : (o q : Open) (ws : List ℕ) (fields : List FieldWords) → along_to o.path ≡ Ok ws → (b : Bool) → same_path o.path q.path ≡ b → (b ≡ false → along_to q.path ≡ Ok (words_at_path fields q.path))
+        → along_to q.path ≡ Ok (words_at_path (record { path = o.path; words = ws } ∷ fields) q.path)
     looked o q ws fields is true same rest =
-        ap along_to (sym (path_is o.path q.path same)) ∙ is ∙ ap (λ b. Ok (if b then ws else words_in fields q.path)) (sym same)
-    looked o q ws fields is false same rest = rest refl ∙ ap (λ b. Ok (if b then ws else words_in fields q.path)) (sym same)
+        ap along_to (sym (path_is o.path q.path same)) ∙ is ∙ ap (λ b. Ok (if b then ws else words_at_path fields q.path)) (sym same)
+    looked o q ws fields is false same rest = rest refl ∙ ap (λ b. Ok (if b then ws else words_at_path fields q.path)) (sym same)
 
     one_more : (o : Open) (os : List Open) (ws : List ℕ) → along_to o.path ≡ Ok ws → (r : Result (List FieldWords) ImageFault) → AreFields os r
         → AreFields (o ∷ os) (and_then r (λ fields. Ok (record { path = o.path; words = ws } ∷ fields)))
     one_more o os ws is (Err fault) h = h
     one_more o os ws is (Ok fields) h = each
       where
-        each : (k : ℕ) (q : Open) → slice_get (o ∷ os) k ≡ Some q → along_to q.path ≡ Ok (words_in (record { path = o.path; words = ws } ∷ fields) q.path)
+        each : (k : ℕ) (q : Open) → slice_get (o ∷ os) k ≡ Some q → along_to q.path ≡ Ok (words_at_path (record { path = o.path; words = ws } ∷ fields) q.path)
         each zero q e = looked o q ws fields is (same_path o.path q.path) refl
             (λ differs. absurd (let z = sym differs ∙ ap (λ (r : Open). same_path o.path r.path) (sym (same_Some o q e)) ∙ same_self o.path in cc))
         each (suc k) q e = looked o q ws fields is (same_path o.path q.path) refl (λ differs. h k q e)
@@ -175,7 +175,7 @@ module _ (p : Program) (typed : IsTyped p) (agrees : Agrees p) (m : Memory) (goo
             points = q.2;
           }))
 
-  packs : (n : ℕ) (ih : Rebuilds n) (t : ℕ) (x : Standing) (v : Value) (layout : Layout) (k : ℕ) (leaf : Leaf) → layout_of layouts t ≡ Some layout → leaf_of layout v ≡ Some k
+  packs : (n : ℕ) (ih : Rebuilds n) (t : ℕ) (x : LeafPosition) (v : Value) (layout : Layout) (k : ℕ) (leaf : Leaf) → layout_of layouts t ≡ Some layout → leaf_of layout v ≡ Some k
       → slice_get layout.leaves k ≡ Some leaf → leaf.blocks ≡ [] → ((i : ℕ) (o : Open) → slice_get (open_positions types leaf.prov) i ≡ Some o → End x v o)
       → (r : Result (List FieldWords) ImageFault) → AreFields n ih x v (open_positions types leaf.prov) r → Right (Named t) v (and_then r (λ fields. Ok (packed leaf fields)))
   packs n ih t x v layout k leaf is_layout is_leaf is_number none ends (Err fault) h = h

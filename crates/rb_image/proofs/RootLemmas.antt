@@ -16,7 +16,7 @@ use Rattle.rb_image_text.specs.Places.{AreInPlace}
 use Rattle.rb_image.specs.declared.kept.Kept.{Kept}
 use Rattle.rb_image.specs.Blocks.{block_at}
 use Rattle.rb_image.specs.Parts.{look}
-use Rattle.rb_image.specs.Roots.{AllFit, FitsAt, IsFirstImageFault, IsFirstMisfit, IsSoundImage, WordFits, kept_from, root_at, widths_of}
+use Rattle.rb_image.specs.Roots.{WordsFit, FitsAt, IsFirstImageFault, IsFirstMisfit, IsSoundImage, WordFits, kept_from, root_at, widths_of}
 use Rattle.rb_image.specs.Sound.{IsFault, IsFineResult}
 use Rattle.rb_image.specs.inner.Descending.{SoundnessIsFound}
 use Rattle.rb_image.specs.Splits.{word_at}
@@ -68,7 +68,7 @@ module _ (widths words : List ℕ) where
       let x = present words (length widths) more in
       record { misfit = λ h. fits_as (length widths) None (Some x.0) (past widths (length widths) (omega arith)) x.1 h; before = λ j lt. before j (omega (arith, lt, le)) }
 
-  pub all_fit : (i : ℕ) → length widths ≤ i → FitBefore i → length words ≤ length widths → AllFit widths words
+  pub all_fit : (i : ℕ) → length widths ≤ i → FitBefore i → length words ≤ length widths → WordsFit widths words
   all_fit i le before few j = elim (cases_lt j i) [
     | inl lt ↦ before j lt
     | inr ge ↦ as_fits j None None (past widths j (omega (arith, ge, le))) (past words j (omega (arith, ge, le, few))) tt
@@ -145,7 +145,7 @@ module _ (types : List DataDecl) (layouts : List Layout) (image : Image) (ty : T
   memory_answers = record { sound = tt; fault = inr refl; fine = λ s. refl; first = λ f h. inr refl }
 
 -- root words that fit an integer
-pub integer_answers : (types : List DataDecl) (layouts : List Layout) (image : Image) (bits : ℕ) → AllFit (bits ∷ []) image.root → Answers types layouts image (Int bits) (Ok tt)
+pub integer_answers : (types : List DataDecl) (layouts : List Layout) (image : Image) (bits : ℕ) → WordsFit (bits ∷ []) image.root → Answers types layouts image (Int bits) (Ok tt)
 integer_answers types layouts image bits fit = record { sound = record { fit = fit; sound = tt }; fault = tt; fine = λ s. tt; first = first }
   where
     first : (f : ImageFault) → IsFirstImageFault types layouts image (Int bits) f → IsFault {A = Unit {0}} f (Ok tt)
@@ -153,7 +153,7 @@ integer_answers types layouts image bits fit = record { sound = record { fit = f
     first f (inr x) = x.1
 
 -- root words that fit a data type
-module _ (types : List DataDecl) (layouts : List Layout) (image : Image) (t : ℕ) (fit : AllFit (widths_of layouts (Named t)) image.root) where
+module _ (types : List DataDecl) (layouts : List Layout) (image : Image) (t : ℕ) (fit : WordsFit (widths_of layouts (Named t)) image.root) where
   named_sound : (r : Result (Unit {0}) ImageFault) → SoundnessIsFound (look types layouts image.blocks) (root_at t image.root) r → OnOk r (IsSoundImage types layouts image (Named t))
   named_sound (Ok x) found = record { fit = fit; sound = found }
   named_sound (Err f) found = tt

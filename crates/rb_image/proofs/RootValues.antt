@@ -18,7 +18,7 @@ use Rattle.rb_rel.proofs.Unique.{unique}
 use Rattle.rb_image_text.specs.declared.image.Image.{Image}
 use Rattle.rb_image.specs.Falling.{Descends, RootDescends, SoundImagesDescend, SoundValuesDescend, number}
 use Rattle.rb_image.specs.Memories.{image_memory}
-use Rattle.rb_image.specs.Roots.{AllFit, IsSoundImage, kept_from, root_at, shape_of}
+use Rattle.rb_image.specs.Roots.{WordsFit, IsSoundImage, kept_from, root_at, layout_widths}
 use Rattle.rb_image.specs.Values.{IsDeclared, KeepsImage, SoundImagesHaveValues}
 use Rattle.rb_image.proofs.DescendingValues.{Descends-represents}
 use Rattle.rb_image.proofs.FoundWords.{numbers}
@@ -36,20 +36,20 @@ kept_long : (j : ℕ) (ns : List ℕ) → length (kept_from j ns) ≡ length ns
 kept_long j [] = refl
 kept_long j (n ∷ ns) = ap suc (kept_long (j + 1) ns)
 
-pub fit_long : (widths words : List ℕ) → AllFit widths words → length words ≡ length widths
+pub fit_long : (widths words : List ℕ) → WordsFit widths words → length words ≡ length widths
 fit_long [] [] h = refl
 fit_long [] (x ∷ words) h = absurd (h 0)
 fit_long (w ∷ widths) [] h = absurd (h 0)
 fit_long (w ∷ widths) (x ∷ words) h = ap suc (fit_long widths words (λ i. h (suc i)))
 
-fit_small : (widths words : List ℕ) → AllFit widths words → (j w : ℕ) → slice_get widths j ≡ Some w → slice_index words j < 2 ^ w
+fit_small : (widths words : List ℕ) → WordsFit widths words → (j w : ℕ) → slice_get widths j ≡ Some w → slice_index words j < 2 ^ w
 fit_small [] words h j w e = absurd cc
 fit_small (v ∷ widths) [] h j w e = absurd (h 0)
 fit_small (v ∷ widths) (x ∷ words) h zero w e = subst (λ k. x < 2 ^ k) (same_Some v w e) (h 0)
 fit_small (v ∷ widths) (x ∷ words) h (suc j) w e = fit_small widths words (λ i. h (suc i)) j w e
 
 -- an integer is the one word that there is
-int_value : (types : List DataDecl) (layouts : List Layout) (m : Memory) (bits : ℕ) (words : List ℕ) → AllFit (bits ∷ []) words → (v : Value) × Descends types layouts m (Int bits) v words (λ j. 0)
+int_value : (types : List DataDecl) (layouts : List Layout) (m : Memory) (bits : ℕ) (words : List ℕ) → WordsFit (bits ∷ []) words → (v : Value) × Descends types layouts m (Int bits) v words (λ j. 0)
 int_value types layouts m bits [] h = absurd (h 0)
 int_value types layouts m bits (x ∷ []) h = (Num x, number bits x (λ j. 0) (h 0))
 int_value types layouts m bits (x ∷ y ∷ words) h = absurd (h (suc 0))
@@ -59,7 +59,7 @@ module _ (p : Program) (typed : IsTyped p) (agrees : Agrees p) (image : Image) (
   root_value (Int bits) there s = int_value p.types (flat_layouts p) m bits image.root s.fit
   root_value (Named t) there s =
       let l = has_layout p typed agrees t there in
-      let fit : AllFit l.0.shape image.root = subst (λ o. AllFit (shape_of o) image.root) l.1 s.fit in
+      let fit : WordsFit l.0.shape image.root = subst (λ o. WordsFit (layout_widths o) image.root) l.1 s.fit in
       let fits : Fits p typed agrees image.blocks m keeps (root_at t image.root) = record {
         layout = l.0;
         is_layout = l.1;

@@ -29,7 +29,7 @@ use Rattle.rb_layout.specs.A9.{HasPointerPart}
 use Rattle.rb_layout.specs.Agreement.{Agrees}
 use Rattle.rb_layout.specs.Flat.{IsFlat}
 use Rattle.rb_layout.specs.Flattening.{flat_layouts, type_at}
-use Rattle.rb_layout.specs.Locations.{Reached, block_at, next_ref, range_in, reached_at, ref_in, resolve_from, word_beginning}
+use Rattle.rb_layout.specs.Locations.{Reached, pointer_block, next_ref, range_in, reached_at, ref_in, resolve_from, word_beginning}
 use Rattle.rb_layout.specs.Pointers.{PointsTo}
 use Rattle.rb_layout.specs.Positions.{Open, open_positions}
 use Rattle.rb_layout.specs.Splits.{Test, Is, IsNone}
@@ -45,8 +45,8 @@ use Rattle.rb_image_text.specs.declared.fault.ImageFault.{ImageFault}
 use Rattle.rb_image_text.specs.declared.fault.ImageFault.TheVariants.{BadBits}
 use Rattle.rb_image_text.specs.declared.image.ImageBlock.{ImageBlock}
 use Rattle.rb_image.specs.declared.kept.Kept.{Kept}
-use Rattle.rb_image.specs.Integers.{field_bit, numbered}
-use Rattle.rb_image.specs.Orders.{PartAt, order_of}
+use Rattle.rb_image.specs.Integers.{field_bit, number_of_bits}
+use Rattle.rb_image.specs.Orders.{LocatedPart, order_of}
 use Rattle.rb_image.specs.Parts.{addresses_of, bits_at, examine, examine_kind, examine_part, field_word, field_words}
 use Rattle.rb_image.specs.Rebuilds.{numbers_of}
 use Rattle.rb_image.specs.Splits.{and_then, leaf_at, range_from, range_of, word_at}
@@ -77,7 +77,7 @@ module _ (leaf : Leaf) (none : leaf.blocks ≡ []) where
   no_steps : (r : WordRef) (o l : ℕ) (steps : List Step) (x : Reached) → resolve_from leaf (Some r) o l steps ≡ Some x → steps ≡ []
   no_steps r o l [] x e = refl
   no_steps r o l (s ∷ steps) x e =
-      let nowhere : resolve_from leaf (Some r) o l (s ∷ steps) ≡ None = ap (λ q. resolve_from leaf q s.o s.l steps) (no_next (block_at (flat_at leaf r) o l s.align) s) in
+      let nowhere : resolve_from leaf (Some r) o l (s ∷ steps) ≡ None = ap (λ q. resolve_from leaf q s.o s.l steps) (no_next (pointer_block (flat_at leaf r) o l s.align) s) in
       let z : ◌≡◌ {A = Option Reached} None (Some x) = sym nowhere ∙ e in absurd cc
 
   -- a location that comes to a word begins at one of the root
@@ -125,12 +125,12 @@ module _ (leaf : Leaf) (none : leaf.blocks ≡ []) where
       at_spot known (Some b) j f k q is_word is_part =
           let z : ◌≡◌ {A = Option FlatWord} None (Some f) = ap (λ (bs : List Block). slice_get (words_of_block (slice_get bs b)) j) (sym none) ∙ is_word in absurd cc
 
-      one : (known : List ℕ) (s : PartAt) → IsSpot leaf s → ◌≡◌ {A = Result (List ℕ) ImageFault} (examine_part [] leaf ws known s) (Ok known)
+      one : (known : List ℕ) (s : LocatedPart) → IsSpot leaf s → ◌≡◌ {A = Result (List ℕ) ImageFault} (examine_part [] leaf ws known s) (Ok known)
       one known s x =
-          subst (λ (y : PartAt). ◌≡◌ {A = Result (List ℕ) ImageFault} (examine_part [] leaf ws known y) (Ok known)) (sym x.is)
+          subst (λ (y : LocatedPart). ◌≡◌ {A = Result (List ℕ) ImageFault} (examine_part [] leaf ws known y) (Ok known)) (sym x.is)
           (at_spot known x.ref.block x.ref.word x.word x.number s.part x.is_word x.is_part)
 
-      all_fine : (known : List ℕ) (ss : List PartAt) → ((s : PartAt) → In s ss → IsSpot leaf s) → ◌≡◌ {A = Result (List ℕ) ImageFault} (examine [] leaf ws known ss) (Ok known)
+      all_fine : (known : List ℕ) (ss : List LocatedPart) → ((s : LocatedPart) → In s ss → IsSpot leaf s) → ◌≡◌ {A = Result (List ℕ) ImageFault} (examine [] leaf ws known ss) (Ok known)
       all_fine known [] spots = refl
       all_fine known (s ∷ ss) spots =
           ap (λ (r : Result (List ℕ) ImageFault). and_then r (λ found. examine [] leaf ws found ss)) (one known s (spots s (inl refl)))
@@ -192,7 +192,7 @@ module _ (p : Program) (typed : IsTyped p) (agrees : Agrees p) (m : Memory) (goo
     abbrev path : List ℕ
     path = o.path
 
-    abbrev value : PartAt → ℕ
+    abbrev value : LocatedPart → ℕ
     value s = (bits_at blocks ws known s).number
 
     -- the number in a part's bits, which are of a root word
@@ -263,12 +263,12 @@ module _ (p : Program) (typed : IsTyped p) (agrees : Agrees p) (m : Memory) (goo
           ap bit (sym up) ∙ there ∙ ap (λ x. bit_at x j) (here ∙ ap (λ xs. take_of (slice_index xs 0) a h.part.l) one)
           ∙ bit_at_take n a h.part.l j inside ∙ ap (bit_at n) up
 
-      integer_same : numbered bits bit ∷ [] ≡ b.subs path
+      integer_same : number_of_bits bits bit ∷ [] ≡ b.subs path
       integer_same =
           let r = Represents-int p.types (flat_layouts p) m false bits (b.at path) (b.subs path) (subst (λ (ty : Ty). Represents p.types (flat_layouts p) m false ty (b.at path) (b.subs path)) is_int (open_.below k o at)) in
           let small = field_bit_small value (Int bits) (order_of b.leaf) path in
-          let same : numbered bits bit ≡ r.0 =
-          same_from_bits_below bits (numbered bits bit) r.0 (numbered_fits bits bit small) r.3 (λ i lt. numbered_bit bits bit small i lt ∙ bit_same r.0 r.2 i lt) in
+          let same : number_of_bits bits bit ≡ r.0 =
+          same_from_bits_below bits (number_of_bits bits bit) r.0 (numbered_fits bits bit small) r.3 (λ i lt. numbered_bit bits bit small i lt ∙ bit_same r.0 r.2 i lt) in
           ap (λ n. n ∷ []) same ∙ sym r.2
 
     all_same : (ty : Ty) → o.ty ≡ ty → open_words (flat_layouts p) blocks (from_root t ws b.leaf) path ty ≡ b.subs path

@@ -8,7 +8,7 @@ use Rattle.rb_image_text.specs.declared.image.ImageBlock.{ImageBlock}
 use Rattle.rb_image_text.specs.Places.{AreInPlace}
 use Rattle.rb_image.specs.declared.kept.Kept.{Kept}
 use Rattle.rb_image.specs.declared.site.Site.{Site}
-use Rattle.rb_image.specs.Blocks.{word_in, word_of}
+use Rattle.rb_image.specs.Blocks.{word_in, block_word}
 use Rattle.rb_image.specs.Splits.{nothing, word_at}
 use Rattle.rb_image.specs.WordReads.{read_of}
 use Rattle.rb_image.proofs.RootLemmas.{none_at_zero}
@@ -25,7 +25,7 @@ site_missing f (x ∷ xs) (suc j) e = site_missing f xs j e
 
 -- no block begins at 0
 pub no_word_at_zero : (blocks : List ImageBlock) → AreInPlace blocks → (byte width : ℕ) → word_in blocks 0 byte width ≡ None
-no_word_at_zero blocks placed byte width = ap (λ b. word_of b byte width) (none_at_zero blocks placed)
+no_word_at_zero blocks placed byte width = ap (λ b. block_word b byte width) (none_at_zero blocks placed)
 
 differ : (a b : ℕ) → (a ≡ b → ⊥) → nat_eq a b ≡ false
 differ a b ne = grind (arith, common_steps, ne)

@@ -19,8 +19,8 @@ use Rattle.rb_image.specs.declared.kept.Kept.{Kept}
 use Rattle.rb_image.specs.declared.site.Site.{Site}
 use Rattle.rb_image.specs.Blocks.{word_in}
 use Rattle.rb_image.specs.FieldSites.{AreNarrow, AreSitesOf, HasNarrowParts, IsNarrow}
-use Rattle.rb_image.specs.Orders.{PartAt, order_of}
-use Rattle.rb_image.specs.Parts.{bits_at, field_word, field_words, holds, kept_at}
+use Rattle.rb_image.specs.Orders.{LocatedPart, order_of}
+use Rattle.rb_image.specs.Parts.{bits_at, field_word, field_words, is_field_word, kept_at}
 use Rattle.rb_image.specs.Sites.{kept_of}
 use Rattle.rb_image.specs.Splits.{range_of, word_at}
 use Rattle.rb_image.specs.WordReads.{read_of}
@@ -110,10 +110,10 @@ module _ (image : Image) (placed : AreInPlace image.blocks) where
         none_there 0 ∙ ap (λ n. kept n 0 0) (sym (take_zero p.o p.l)) ∙ ap (λ w. range_of w p.o p.l) (sym (site_missing (kept_of image) sites j is))
     root_there (Some s) j p is = range_there s p.o p.l ∙ ap (λ w. range_of w p.o p.l) (sym (site_there (kept_of image) sites j s is))
 
-    abbrev in_block : ℕ → PartAt → Kept
+    abbrev in_block : ℕ → LocatedPart → Kept
     in_block at s = range_of (kept (unwrap_or (word_in m at s.byte s.width) 0) at s.byte) s.part.o s.part.l
 
-    block_zero : (at : ℕ) (s : PartAt) → at ≡ 0 → kept_of image (nowhere s.byte) ≡ in_block at s
+    block_zero : (at : ℕ) (s : LocatedPart) → at ≡ 0 → kept_of image (nowhere s.byte) ≡ in_block at s
     block_zero at s none =
         none_there s.byte ∙ ap (λ n. kept n 0 s.byte) (sym (take_zero s.part.o s.part.l))
         ∙ ap (λ w. range_of (kept (unwrap_or w 0) 0 s.byte) s.part.o s.part.l) (sym (no_word_at_zero m placed s.byte s.width))
@@ -125,7 +125,7 @@ module _ (image : Image) (placed : AreInPlace image.blocks) where
     zero_not : (at : ℕ) → nat_eq at 0 ≡ false → at ≡ 0 → ⊥
     zero_not at e is = grind (arith, common_steps)
 
-    block_there : (at : ℕ) (s : PartAt) → kept_of image (block_site at s) ≡ in_block at s
+    block_there : (at : ℕ) (s : LocatedPart) → kept_of image (block_site at s) ≡ in_block at s
     block_there at s = go (nat_eq at 0) refl
       where
         go : (b : Bool) → nat_eq at 0 ≡ b → kept_of image (if b then nowhere s.byte else record { base = at; place = s.byte; width = s.width; o = s.part.o; l = s.part.l }) ≡ in_block at s
@@ -133,25 +133,25 @@ module _ (image : Image) (placed : AreInPlace image.blocks) where
         go false e = ap (λ w. range_of (kept (unwrap_or w 0) at s.byte) s.part.o s.part.l) (read_from_block image at s.byte s.width (zero_not at e))
 
     module _ (ats : List ℕ) where
-      part_there : (b : Option ℕ) (s : PartAt) → kept_of image (part_site sites ats b s) ≡ range_of (kept_at m ws ats b s) s.part.o s.part.l
+      part_there : (b : Option ℕ) (s : LocatedPart) → kept_of image (part_site sites ats b s) ≡ range_of (kept_at m ws ats b s) s.part.o s.part.l
       part_there None s = root_there (slice_get sites s.word) s.word s.part refl
       part_there (Some b) s = block_there (slice_index ats b) s
 
-      field_there : (ss : List PartAt) (path : List ℕ) (j : ℕ) → kept_of image (field_site sites ats ss path j) ≡ field_word m ws ats ss path j
+      field_there : (ss : List LocatedPart) (path : List ℕ) (j : ℕ) → kept_of image (field_site sites ats ss path j) ≡ field_word m ws ats ss path j
       field_there [] path j = none_there 0
-      field_there (s ∷ ss) path j = go (holds s.part.kind path j) (field_there ss path j)
+      field_there (s ∷ ss) path j = go (is_field_word s.part.kind path j) (field_there ss path j)
         where
           go : (b : Bool) → kept_of image (field_site sites ats ss path j) ≡ field_word m ws ats ss path j → kept_of image (if b then part_site sites ats s.block s else field_site sites ats ss path j) ≡ if b then bits_at m ws ats s else field_word m ws ats ss path j
           go true rest = part_there s.block s
           go false rest = rest
 
-      sites_there : (ss : List PartAt) (path : List ℕ) (j n : ℕ) → map (kept_of image) (sites_from (field_site sites ats ss path) j n) ≡ field_words (field_word m ws ats ss) path j n
+      sites_there : (ss : List LocatedPart) (path : List ℕ) (j n : ℕ) → map (kept_of image) (sites_from (field_site sites ats ss path) j n) ≡ field_words (field_word m ws ats ss) path j n
       sites_there ss path j zero = refl
       sites_there ss path j (suc n) =
           ap (λ w. w ∷ map (kept_of image) (sites_from (field_site sites ats ss path) (j + 1) n)) (field_there ss path j)
           ∙ ap (λ rest. field_word m ws ats ss path j ∷ rest) (sites_there ss path (j + 1) n)
 
-pub are_sites : (leaf : Leaf) (sites : List Site) (ats path : List ℕ) (count : ℕ) (ss : List PartAt) (found : List Site) → ss ≡ order_of leaf
+pub are_sites : (leaf : Leaf) (sites : List Site) (ats path : List ℕ) (count : ℕ) (ss : List LocatedPart) (found : List Site) → ss ≡ order_of leaf
     → found ≡ sites_from (field_site sites ats ss path) 0 count → AreSitesOf leaf sites ats path count found
 are_sites leaf sites ats path count ss found same is image placed =
     ap (map (kept_of image)) (is ∙ ap (λ xs. sites_from (field_site sites ats xs path) 0 count) same)
@@ -167,20 +167,20 @@ module _ (sites : List Site) (narrow : AreNarrow sites) (ats : List ℕ) where
       let high = lesser_right p.l (s.l - lesser p.o s.l) in
       omega (arith, here, low, high)
 
-  block_narrow : (at : ℕ) (s : PartAt) → s.part.o + s.part.l ≤ 64 → IsNarrow (block_site at s)
+  block_narrow : (at : ℕ) (s : LocatedPart) → s.part.o + s.part.l ≤ 64 → IsNarrow (block_site at s)
   block_narrow at s le = go (nat_eq at 0)
     where
       go : (b : Bool) → IsNarrow (if b then nowhere s.byte else record { base = at; place = s.byte; width = s.width; o = s.part.o; l = s.part.l })
       go true = omega arith
       go false = le
 
-  part_narrow : (b : Option ℕ) (s : PartAt) → s.part.o + s.part.l ≤ 64 → IsNarrow (part_site sites ats b s)
+  part_narrow : (b : Option ℕ) (s : LocatedPart) → s.part.o + s.part.l ≤ 64 → IsNarrow (part_site sites ats b s)
   part_narrow None s le = root_narrow (slice_get sites s.word) s.word s.part refl
   part_narrow (Some b) s le = block_narrow (slice_index ats b) s le
 
-  field_narrow : (ss : List PartAt) (path : List ℕ) (j : ℕ) → ((s : PartAt) → In s ss → s.part.o + s.part.l ≤ 64) → IsNarrow (field_site sites ats ss path j)
+  field_narrow : (ss : List LocatedPart) (path : List ℕ) (j : ℕ) → ((s : LocatedPart) → In s ss → s.part.o + s.part.l ≤ 64) → IsNarrow (field_site sites ats ss path j)
   field_narrow [] path j each = omega arith
-  field_narrow (s ∷ ss) path j each = go (holds s.part.kind path j) (field_narrow ss path j (λ x h. each x (inr h)))
+  field_narrow (s ∷ ss) path j each = go (is_field_word s.part.kind path j) (field_narrow ss path j (λ x h. each x (inr h)))
     where
       go : (b : Bool) → IsNarrow (field_site sites ats ss path j) → IsNarrow (if b then part_site sites ats s.block s else field_site sites ats ss path j)
       go true rest = part_narrow s.block s (each s (inl refl))
@@ -191,10 +191,10 @@ from_narrow site each j zero k s e = absurd cc
 from_narrow site each j (suc n) zero s e = subst IsNarrow (same_Some (site j) s e) (each j)
 from_narrow site each j (suc n) (suc k) s e = from_narrow site each (j + 1) n k s e
 
-order_narrow : (leaf : Leaf) → HasNarrowParts leaf → (s : PartAt) → In s (order_of leaf) → s.part.o + s.part.l ≤ 64
+order_narrow : (leaf : Leaf) → HasNarrowParts leaf → (s : LocatedPart) → In s (order_of leaf) → s.part.o + s.part.l ≤ 64
 order_narrow leaf parts s h = let x = order_spots leaf s h in parts x.ref x.word x.number s.part x.is_word x.is_part
 
-pub are_narrow : (leaf : Leaf) (sites : List Site) (ats path : List ℕ) (count : ℕ) (ss : List PartAt) (found : List Site) → HasNarrowParts leaf → AreNarrow sites → ss ≡ order_of leaf
+pub are_narrow : (leaf : Leaf) (sites : List Site) (ats path : List ℕ) (count : ℕ) (ss : List LocatedPart) (found : List Site) → HasNarrowParts leaf → AreNarrow sites → ss ≡ order_of leaf
     → found ≡ sites_from (field_site sites ats ss path) 0 count → AreNarrow found
 are_narrow leaf sites ats path count ss found parts narrow same is =
     subst AreNarrow (sym (is ∙ ap (λ xs. sites_from (field_site sites ats xs path) 0 count) same))

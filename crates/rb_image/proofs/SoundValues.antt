@@ -32,7 +32,7 @@ use Rattle.rb_layout.specs.declared.layout.Leaf.{Leaf}
 use Rattle.rb_layout.specs.declared.layout.Part.{Part}
 use Rattle.rb_layout.proofs.FlatLaws.{leaf_is_form}
 use Rattle.rb_layout.proofs.OpenPositions.{position-typed, type-open}
-use Rattle.rb_rel.specs.Relation.{HoldsKind, Made, Placed, shape_length, word_count}
+use Rattle.rb_rel.specs.Relation.{HoldsKind, Made, LeafStands, shape_length, word_count}
 use Rattle.rb_rel.proofs.Agreeing.{lawful}
 use Rattle.rb_rel.proofs.Declared.{declared}
 use Rattle.rb_rel.proofs.Existence.{has_layout}
@@ -45,8 +45,8 @@ use Rattle.rb_image_text.specs.declared.image.ImageBlock.{ImageBlock}
 use Rattle.rb_image.specs.declared.kept.Kept.{Kept}
 use Rattle.rb_image.specs.Blocks.{size_at}
 use Rattle.rb_image.specs.Falling.{AreKept, Descends, AddressFalls, PointersFall, base_in, built, number}
-use Rattle.rb_image.specs.Integers.{field_bit, numbered}
-use Rattle.rb_image.specs.Orders.{PartAt, order_of}
+use Rattle.rb_image.specs.Integers.{field_bit, number_of_bits}
+use Rattle.rb_image.specs.Orders.{LocatedPart, order_of}
 use Rattle.rb_image.specs.Parts.{At, addresses_of, bits_at, block_size, field_word, field_words, kept_at, look, look_layout, look_leaf, place_at, places_of_leaf}
 use Rattle.rb_image.specs.Sound.{IsSound, sound}
 use Rattle.rb_image.specs.Splits.{leaf_at, nothing, word_at}
@@ -98,7 +98,7 @@ module _ (p : Program) (typed : IsTyped p) (agrees : Agrees p) (blocks : List Im
     once = let form = leaf_is_form p t layout n leaf is_layout is_number in subst IsPointedOnce form.1 (flat_once types p.layouts form.0)
 
     -- a pointer in the order leads to a block of the leaf
-    within : (s : PartAt) → In s (order_of leaf) → (align b : ℕ) → s.part.kind ≡ Pointer align b → b < length leaf.blocks
+    within : (s : LocatedPart) → In s (order_of leaf) → (align b : ℕ) → s.part.kind ≡ Pointer align b → b < length leaf.blocks
     within s h align b kind =
         let x = order_spots leaf s h in
         let points : PointsTo leaf x.ref s.part.l align b = record { word = x.word; number = x.number; part = s.part; is_word = x.is_word; is_part = x.is_part; is_length = refl; is_pointer = kind } in
@@ -111,7 +111,7 @@ module _ (p : Program) (typed : IsTyped p) (agrees : Agrees p) (blocks : List Im
     module _ (ws : List Kept) (count : length ws ≡ length layout.shape) (small : (j w : ℕ) → slice_get layout.shape j ≡ Some w → slice_index (numbers ws) j < 2 ^ w)
         (ats : List ℕ) (examined : ◌≡◌ {A = Result (List ℕ) ImageFault} (addresses_of blocks leaf ws) (Ok ats))
         (from : ℕ → ℕ) (kept : AreIn ws from) where
-      fine : (s : PartAt) → In s (order_of leaf) → IsFine blocks leaf ws ats s
+      fine : (s : LocatedPart) → In s (order_of leaf) → IsFine blocks leaf ws ats s
       fine = all_fine blocks leaf ws ats (order_of leaf) (replicate (length leaf.blocks) 0) (λ c. 0) (length-replicate (length leaf.blocks) 0) (λ c. (let a = once c in omega (arith, a))) (order_led leaf) within examined
 
       as_pointer : (bits : Kept) (align b : ℕ) (block : Block) (kind : Kind) → kind ≡ Pointer align b → slice_get leaf.blocks b ≡ Some block → FineKind blocks leaf ws ats bits kind
@@ -142,7 +142,7 @@ module _ (p : Program) (typed : IsTyped p) (agrees : Agrees p) (blocks : List Im
       at_type = subs_at p typed agrees t layout n leaf is_layout is_number blocks ws ats
 
       -- the words are placed as the leaf says
-      placed : Placed leaf (numbers ws) m false the_subs (slice_index ats)
+      placed : LeafStands leaf (numbers ws) m false the_subs (slice_index ats)
       placed = record {
         count = length-map ws (λ (w : Kept). w.number) ∙ as_many;
         blocks = λ b block at. keeps.sizes (slice_index ats b) (size_of block) (sized b block at);
@@ -246,7 +246,7 @@ module _ (p : Program) (typed : IsTyped p) (agrees : Agrees p) (blocks : List Im
         open_value : (k : ℕ) (o : Open) → slice_get opens k ≡ Some o → (ty : Ty) → o.ty ≡ ty → type_at opens o.path ≡ Some ty → (v : Value) × Desc ty v (the_subs o.path) (bases o.path)
         open_value k o at (Int bits) is_named is_ty =
             let bit = field_bit (bits_value p typed agrees t layout n leaf is_layout is_number blocks ws ats) (Int bits) (order_of leaf) o.path in
-            let x = numbered bits bit in
+            let x = number_of_bits bits bit in
             let lt = numbered_fits bits bit (field_bit_small (bits_value p typed agrees t layout n leaf is_layout is_number blocks ws ats) (Int bits) (order_of leaf) o.path) in
             (Num x, subst (λ xs. Desc (Int bits) (Num x) xs (bases o.path)) (sym (ap (λ y. at_type y o.path) is_ty)) (number bits x (bases o.path) lt))
         open_value k o at (Named s) is_named is_ty =

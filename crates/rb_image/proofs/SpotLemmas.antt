@@ -11,7 +11,7 @@ use Rattle.rb_layout.specs.declared.layout.Kind.{Kind}
 use Rattle.rb_layout.specs.declared.layout.Kind.TheVariants.{Const, Bits, Word, Pointer}
 use Rattle.rb_layout.specs.declared.layout.Part.{Part}
 use Rattle.rb_layout.specs.Words.{words_in}
-use Rattle.rb_image.specs.Orders.{PartAt, beginning_at, beginning_from, behind, block_order, by_offset, order_of, with_inner, word_order, words_order}
+use Rattle.rb_image.specs.Orders.{LocatedPart, beginning_at, beginning_from, pointed_parts, block_order, by_offset, order_of, with_inner, word_order, words_order}
 
 -- Members ------------------------------------------------------------------------------------
 module _ {A : Type 0} where
@@ -100,26 +100,26 @@ IsInBlock None = ⊥
 IsInBlock (Some b) = Unit {0}
 
 -- a part that stands in one of the words
-pub record StandsIn (fs : List FlatWord) (s : PartAt) : Type 0 where
+pub record StandsIn (fs : List FlatWord) (s : LocatedPart) : Type 0 where
   pub word : FlatWord
   pub is_word : In word fs
   pub is_part : In s.part word.parts
 
-in_behind : (inner : ℕ → List PartAt) → ((b : ℕ) (s : PartAt) → In s (inner b) → IsInBlock s.block) → (k : Kind) (s : PartAt) → In s (behind inner k) → IsInBlock s.block
+in_behind : (inner : ℕ → List LocatedPart) → ((b : ℕ) (s : LocatedPart) → In s (inner b) → IsInBlock s.block) → (k : Kind) (s : LocatedPart) → In s (pointed_parts inner k) → IsInBlock s.block
 in_behind inner go (Const c) s h = absurd h
 in_behind inner go (Bits path a) s h = absurd h
 in_behind inner go (Word path j) s h = absurd h
 in_behind inner go (Pointer align b) s h = go b s h
 
-module _ (inner : ℕ → List PartAt) (go : (b : ℕ) (s : PartAt) → In s (inner b) → IsInBlock s.block) (block : Option ℕ) where
-  in_words : (j byte : ℕ) (fs : List FlatWord) (s : PartAt) → In s (words_order inner block j byte fs) → IsInBlock s.block ⊎ ((s.block ≡ block) × StandsIn fs s)
+module _ (inner : ℕ → List LocatedPart) (go : (b : ℕ) (s : LocatedPart) → In s (inner b) → IsInBlock s.block) (block : Option ℕ) where
+  in_words : (j byte : ℕ) (fs : List FlatWord) (s : LocatedPart) → In s (words_order inner block j byte fs) → IsInBlock s.block ⊎ ((s.block ≡ block) × StandsIn fs s)
   in_words j byte [] s h = absurd h
   in_words j byte (f ∷ fs) s h = elim (in_append s (word_order inner block j byte f) (words_order inner block (j + 1) (byte + f.width / 8) fs) h) [
     | inl a ↦ let r = in_flat_map (with_inner inner block j byte f.width) s (by_offset f) a in
         elim r.2 [
           | inl e ↦ inr (
-            ap (λ (x : PartAt). x.block) e,
-            record { word = f; is_word = inl refl; is_part = subst (λ p. In p f.parts) (sym (ap (λ (x : PartAt). x.part) e)) (in_beginning r.0 f.parts 0 f.width r.1) },
+            ap (λ (x : LocatedPart). x.block) e,
+            record { word = f; is_word = inl refl; is_part = subst (λ p. In p f.parts) (sym (ap (λ (x : LocatedPart). x.part) e)) (in_beginning r.0 f.parts 0 f.width r.1) },
           )
           | inr b ↦ inl (in_behind inner go r.0.kind s b)
         ]
@@ -130,7 +130,7 @@ module _ (inner : ℕ → List PartAt) (go : (b : ℕ) (s : PartAt) → In s (in
   ]
 
 module _ (leaf : Leaf) where
-  in_block_order : (depth b : ℕ) (s : PartAt) → In s (block_order leaf depth b) → IsInBlock s.block
+  in_block_order : (depth b : ℕ) (s : LocatedPart) → In s (block_order leaf depth b) → IsInBlock s.block
   in_block_order zero b s h = absurd h
   in_block_order (suc depth) b s h = elim (in_words (block_order leaf depth) (λ c t. in_block_order depth c t) (Some b) 0 0 (words_in leaf (Some b)) s h) [
     | inl x ↦ x
@@ -138,18 +138,18 @@ module _ (leaf : Leaf) where
   ]
 
   -- a part of the order stands in a block, or in a root word
-  pub in_order : (s : PartAt) → In s (order_of leaf) → IsInBlock s.block ⊎ StandsIn leaf.root s
+  pub in_order : (s : LocatedPart) → In s (order_of leaf) → IsInBlock s.block ⊎ StandsIn leaf.root s
   in_order s h = elim (in_words (block_order leaf (length leaf.blocks)) (λ b t. in_block_order (length leaf.blocks) b t) None 0 0 leaf.root s h) [
     | inl x ↦ inl x
     | inr y ↦ inr y.1
   ]
 
 -- each part of a root word is in it
-module _ (inner : ℕ → List PartAt) (block : Option ℕ) where
-  pub words_in_order : (j byte : ℕ) (fs : List FlatWord) (f : FlatWord) (p : Part) → In f fs → In p f.parts → p.o < f.width → (s : PartAt) × In s (words_order inner block j byte fs) × (s.part ≡ p)
+module _ (inner : ℕ → List LocatedPart) (block : Option ℕ) where
+  pub words_in_order : (j byte : ℕ) (fs : List FlatWord) (f : FlatWord) (p : Part) → In f fs → In p f.parts → p.o < f.width → (s : LocatedPart) × In s (words_order inner block j byte fs) × (s.part ≡ p)
   words_in_order j byte [] f p h g lt = absurd h
   words_in_order j byte (e ∷ fs) f p (inl same) g lt =
-      let s : PartAt = record { block = block; word = j; byte = byte; width = e.width; part = p } in
+      let s : LocatedPart = record { block = block; word = j; byte = byte; width = e.width; part = p } in
       let at : In p (by_offset e) = subst (λ (x : FlatWord). In p (by_offset x)) same (beginning_in p f.parts 0 f.width g (omega arith) (omega (arith, lt))) in
       (s, in_left s (word_order inner block j byte e) (words_order inner block (j + 1) (byte + e.width / 8) fs) (flat_map_in (with_inner inner block j byte e.width) s p (by_offset e) at (inl refl)), refl)
   words_in_order j byte (e ∷ fs) f p (inr h) g lt =

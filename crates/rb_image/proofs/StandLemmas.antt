@@ -10,9 +10,9 @@ use Rattle.rb_bytes.proofs.BlockLemmas.{within_size}
 use Rattle.rb_bytes.proofs.ByteLemmas.{read_le_same, read_le-spelled}
 use Rattle.rb_bytes.proofs.MemoryLemmas.{load_ok, load_within, size_at_extends}
 use Rattle.rb_image_text.specs.declared.image.ImageBlock.{ImageBlock}
-use Rattle.rb_image_text.specs.Images.{AreBlocks}
+use Rattle.rb_image_text.specs.Images.{AreImageBlocks}
 use Rattle.rb_image_text.specs.Places.{AreInPlace}
-use Rattle.rb_image.specs.Blocks.{block_at, is_width, number_in_block, size_in, word_in, word_of}
+use Rattle.rb_image.specs.Blocks.{block_at, is_width, number_in_block, size_in, word_in, block_word}
 use Rattle.rb_image.specs.Blocks.{size_at as size_found}
 use Rattle.rb_image.specs.Memories.{Stand, BlockStands, image_memory}
 use Rattle.rb_image.proofs.AscentLemmas.{ascending}
@@ -20,11 +20,11 @@ use Rattle.rb_image.proofs.BlockLemmas.{le_is}
 use Rattle.rb_image.proofs.SpanLemmas.{size_from, within_good, within_stand}
 
 -- ---- the memory of an image
-pub image_memory_good : (blocks : List ImageBlock) → AreInPlace blocks → AreBlocks blocks → IsGood (image_memory blocks)
+pub image_memory_good : (blocks : List ImageBlock) → AreInPlace blocks → AreImageBlocks blocks → IsGood (image_memory blocks)
 unfolding image_memory
 image_memory_good blocks placed are = within_good 16777216 blocks (omega arith) (ascending blocks placed are)
 
-pub image_memory_stands : (blocks : List ImageBlock) → AreInPlace blocks → AreBlocks blocks → Stand blocks (image_memory blocks)
+pub image_memory_stands : (blocks : List ImageBlock) → AreInPlace blocks → AreImageBlocks blocks → Stand blocks (image_memory blocks)
 unfolding image_memory
 image_memory_stands blocks placed are = within_stand 16777216 blocks (ascending blocks placed are)
 
@@ -68,7 +68,7 @@ size_kept blocks m stand base size is =
     let c = image_memory_size blocks base size is in
     ap (λ a. size_at m.blocks a) (sym c.3) ∙ (stand c.0 c.1 c.2).size ∙ ap Some c.4
 
-pub load_kept : (blocks : List ImageBlock) (m : Memory) → AreInPlace blocks → AreBlocks blocks → Stand blocks m
+pub load_kept : (blocks : List ImageBlock) (m : Memory) → AreInPlace blocks → AreImageBlocks blocks → Stand blocks m
     → (base offset width r : ℕ) → load_of (image_memory blocks) base offset width ≡ Ok r → load_of m base offset width ≡ Ok r
 load_kept blocks m placed are stand base offset width r is =
     let got = load_ok (image_memory blocks) base offset width r is in
@@ -97,7 +97,7 @@ number_is bytes byte count w is =
     let got = chosen (nat_le (byte + count) (length bytes)) (Some (from_le_bytes (slice_range bytes byte (byte + count)))) w is in
     (le_is (byte + count) (length bytes) got.0, same_Some (from_le_bytes (slice_range bytes byte (byte + count))) w got.1)
 
-word_found : (o : Option ImageBlock) (byte width w : ℕ) → word_of o byte width ≡ Some w
+word_found : (o : Option ImageBlock) (byte width w : ℕ) → block_word o byte width ≡ Some w
     → (b : ImageBlock) × (o ≡ Some b) × (byte + width / 8 ≤ length b.bytes) × (from_le_bytes (slice_range b.bytes byte (byte + width / 8)) ≡ w)
 word_found None byte width w is = cc
 word_found (Some b) byte width w is =
@@ -156,10 +156,10 @@ size_stands blocks m stand address n is =
     ap (λ a. size_at m.blocks a) (sym found.2) ∙ (stand found.0 block.0 found.1).size ∙ ap Some block.2
 
 -- ---- for the memory of an image itself
-pub image_word_loaded : (blocks : List ImageBlock) → AreInPlace blocks → AreBlocks blocks → (address byte width w : ℕ)
+pub image_word_loaded : (blocks : List ImageBlock) → AreInPlace blocks → AreImageBlocks blocks → (address byte width w : ℕ)
     → word_in blocks address byte width ≡ Some w → load_of (image_memory blocks) address byte width ≡ Ok w
 image_word_loaded blocks placed are = word_loaded blocks (image_memory blocks) (image_memory_stands blocks placed are)
 
-pub image_size_stands : (blocks : List ImageBlock) → AreInPlace blocks → AreBlocks blocks → (address n : ℕ)
+pub image_size_stands : (blocks : List ImageBlock) → AreInPlace blocks → AreImageBlocks blocks → (address n : ℕ)
     → size_found blocks address ≡ Some n → size_at (image_memory blocks).blocks address ≡ Some n
 image_size_stands blocks placed are = size_stands blocks (image_memory blocks) (image_memory_stands blocks placed are)

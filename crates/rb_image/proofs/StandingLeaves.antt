@@ -34,7 +34,7 @@ use Rattle.rb_image_text.specs.declared.image.ImageBlock.{ImageBlock}
 use Rattle.rb_image.specs.Rebuilds.{Matching, chosen, match_con, match_field, match_fields, match_step, matches, or_later, same_con}
 use Rattle.rb_image.specs.RebuiltValues.{IsInner, ValueStands, plain_step}
 use Rattle.rb_image.specs.Splits.{and_then, or_fault}
-use Rattle.rb_image.specs.Views.{Standing, along, down, step_down}
+use Rattle.rb_image.specs.Views.{LeafPosition, along, down, step_down}
 use Rattle.rb_image.proofs.FallingWords.{same_is}
 use Rattle.rb_image.proofs.StandingParts.{Matched, Settled, Step, all_two, con_fits, head_free, matched, settles, step, sub_inner, two_from}
 
@@ -93,24 +93,24 @@ module _ (p : Program) (typed : IsTyped p) (agrees : Agrees p) (m : Memory) (goo
   abbrev layouts : List Layout
   layouts = flat_layouts p
 
-  abbrev Match : Pat → Standing → Result Bool ImageFault
+  abbrev Match : Pat → LeafPosition → Result Bool ImageFault
   Match = matches types layouts blocks
 
-  abbrev Stand : Standing → Value → Pat → Ty → Type 0
+  abbrev Stand : LeafPosition → Value → Pat → Ty → Type 0
   Stand x v q ty = ValueStands p m blocks x v q ty
 
-  abbrev FieldAt : Standing → ℕ → Ty → Value → Type 0
+  abbrev FieldAt : LeafPosition → ℕ → Ty → Value → Type 0
   FieldAt y j t w = Step p typed agrees m good blocks y j t w
 
   -- A constructor ----------------------------------------------------------------------------
   -- what is known of a value of a type, where a pattern with a constructor at its head is of that type
-  record Headed (x : Standing) (v : Value) (c : ConRef) (qs : List Pat) (s : ℕ) : Type 0 where
+  record Headed (x : LeafPosition) (v : Value) (c : ConRef) (qs : List Pat) (s : ℕ) : Type 0 where
     settled_ : Settled p typed agrees m good blocks x v s
     fits : all_two (fits_type types) qs (types_or_none (fields_of types c))
     own : c.ty ≡ settled_.con.ty
     value : Matched settled_.con settled_.ps v
 
-  headed : (x : Standing) (v : Value) (q : Pat) (s at : ℕ) (c : ConRef) (qs : List Pat) → Stand x v q (Named s) → IsInner p (Con at c qs) (Named s) → Headed x v c qs s
+  headed : (x : LeafPosition) (v : Value) (q : Pat) (s at : ℕ) (c : ConRef) (qs : List Pat) → Stand x v q (Named s) → IsInner p (Con at c qs) (Named s) → Headed x v c qs s
   headed x v q s at c qs st inner =
       let f = con_fits p typed agrees m good blocks at c qs (Named s) inner in
       let own : s ≡ c.ty = same_nat s c.ty f.0 in
@@ -122,7 +122,7 @@ module _ (p : Program) (typed : IsTyped p) (agrees : Agrees p) (m : Memory) (goo
   types_same c d ty con = ap (λ i. types_or_none (fields_in (slice_get types i) c.con)) ty ∙ ap (λ k. types_or_none (fields_in (slice_get types d.ty) k)) con
 
   -- a field of it
-  field : (x : Standing) (v : Value) (s : ℕ) (c : ConRef) (qs : List Pat) (h : Headed x v c qs s) → c.con ≡ h.settled_.con.con → (j : ℕ) (t : Ty) (w : Value)
+  field : (x : LeafPosition) (v : Value) (s : ℕ) (c : ConRef) (qs : List Pat) (h : Headed x v c qs s) → c.con ≡ h.settled_.con.con → (j : ℕ) (t : Ty) (w : Value)
       → slice_get (types_or_none (fields_of types c)) j ≡ Some t → slice_get (subs v) j ≡ Some w → FieldAt h.settled_.y j t w
   field x v s c qs h con j t w et ew =
       step p typed agrees m good blocks h.settled_.y v h.settled_.at h.settled_.con h.settled_.ps s h.settled_.stands j t w
@@ -130,9 +130,9 @@ module _ (p : Program) (typed : IsTyped p) (agrees : Agrees p) (m : Memory) (goo
 
   -- Matching ---------------------------------------------------------------------------------
   abbrev Claim : Pat → Type 0
-  Claim q = (x : Standing) (v : Value) (r : Pat) (ty : Ty) → Stand x v r ty → IsInner p q ty → ◌≡◌ {A = Result Bool ImageFault} (Match q x) (Ok (matches_of q v))
+  Claim q = (x : LeafPosition) (v : Value) (r : Pat) (ty : Ty) → Stand x v r ty → IsInner p q ty → ◌≡◌ {A = Result Bool ImageFault} (Match q x) (Ok (matches_of q v))
 
-  all_match : (y : Standing) (qs : List Pat) → Each Claim qs → (i : ℕ) (ts : List Ty) (ws : List Value) → all_two (fits_type types) qs ts → length ws ≡ length qs
+  all_match : (y : LeafPosition) (qs : List Pat) → Each Claim qs → (i : ℕ) (ts : List Ty) (ws : List Value) → all_two (fits_type types) qs ts → length ws ≡ length qs
       → ((j : ℕ) (q : Pat) (t : Ty) → slice_get qs j ≡ Some q → fits_type types q t ≡ true → IsInner p q t)
       → ((j : ℕ) (t : Ty) (w : Value) → slice_get ts j ≡ Some t → slice_get ws j ≡ Some w → FieldAt y (i + j) t w)
       → ◌≡◌ {A = Result Bool ImageFault} (match_fields types (map Match qs) y i) (Ok (all_pass (map matches_of qs) ws))
@@ -162,9 +162,9 @@ module _ (p : Program) (typed : IsTyped p) (agrees : Agrees p) (m : Memory) (goo
       let y = t.y in
       let fields = match_fields types (map Match qs) y 0 in
       let pass = all_pass (map matches_of qs) l.vs in
-      let go = λ (z : Standing). match_con types c (map Match qs) z (out-Pat z.here.pat) in
+      let go = λ (z : LeafPosition). match_con types c (map Match qs) z (out-Pat z.here.pat) in
       let left : ◌≡◌ {A = Result Bool ImageFault} (Match (Con at c qs) x) (if same_con c d then fields else Ok false) =
-      ap (λ (g : Matching). g x) (fold-Con Matching (match_step types layouts blocks) at c qs) ∙ ap (λ (o : Result Standing ImageFault). and_then o go) t.is_settled
+      ap (λ (g : Matching). g x) (fold-Con Matching (match_step types layouts blocks) at c qs) ∙ ap (λ (o : Result LeafPosition ImageFault). and_then o go) t.is_settled
       ∙ ap (match_con types c (map Match qs) y) (ap out-Pat t.stands.is_pat ∙ outs-Con t.at d t.ps) in
       let right : matches_of (Con at c qs) v ≡ ((c.con == d.con) && pass) = matches-Con v at c qs ∙ ap (is_con c.con (map matches_of qs)) (ap out-Value l.is ∙ V-outs-Con d.con l.vs) in
       let same : same_con c d ≡ (c.con == d.con) = ap (λ b. b && (c.con == d.con)) (ap (λ i. c.ty == i) (sym h.own) ∙ same_is c.ty) in
@@ -176,7 +176,7 @@ module _ (p : Program) (typed : IsTyped p) (agrees : Agrees p) (m : Memory) (goo
       decide true fields pass h = h refl
       decide false fields pass h = refl
 
-      all : (c : ConRef) (qs : List Pat) (x : Standing) (v : Value) (s : ℕ) (h : Headed x v c qs s) → Each Claim qs → c.con ≡ h.settled_.con.con
+      all : (c : ConRef) (qs : List Pat) (x : LeafPosition) (v : Value) (s : ℕ) (h : Headed x v c qs s) → Each Claim qs → c.con ≡ h.settled_.con.con
           → ((j : ℕ) (q : Pat) (t : Ty) → slice_get qs j ≡ Some q → fits_type types q t ≡ true → IsInner p q t)
           → ◌≡◌ {A = Result Bool ImageFault} (match_fields types (map Match qs) h.settled_.y 0) (Ok (all_pass (map matches_of qs) h.value.vs))
       all c qs x v s h each con inners =
@@ -202,14 +202,14 @@ module _ (p : Program) (typed : IsTyped p) (agrees : Agrees p) (m : Memory) (goo
   })
 
   -- The leaf ---------------------------------------------------------------------------------
-  pub record IsChosen (leaves : List Leaf) (x : Standing) (i n : ℕ) : Type 0 where
+  pub record IsChosen (leaves : List Leaf) (x : LeafPosition) (i n : ℕ) : Type 0 where
     pub number : ℕ
     pub leaf : Leaf
     pub is_chosen : ◌≡◌ {A = Result Leaf ImageFault} (chosen types layouts blocks leaves x) (Ok leaf)
     pub is_leaf : slice_get leaves number ≡ Some leaf
     pub is_number : i + number ≡ n
 
-  pub chosen_is : (x : Standing) (v : Value) (leaves : List Leaf) → ((k : ℕ) (leaf : Leaf) → slice_get leaves k ≡ Some leaf → ◌≡◌ {A = Result Bool ImageFault} (Match leaf.prov x) (Ok (matches_of leaf.prov v)))
+  pub chosen_is : (x : LeafPosition) (v : Value) (leaves : List Leaf) → ((k : ℕ) (leaf : Leaf) → slice_get leaves k ≡ Some leaf → ◌≡◌ {A = Result Bool ImageFault} (Match leaf.prov x) (Ok (matches_of leaf.prov v)))
       → (i n : ℕ) → leaf_from leaves v i ≡ Some n → IsChosen leaves x i n
   chosen_is x v [] all i n e = absurd cc
   chosen_is x v (leaf ∷ leaves) all i n e = go (matches_of leaf.prov v) refl (λ h. chosen_is x v leaves (λ k l is. all (suc k) l is) (i + 1) n h)
@@ -236,18 +236,18 @@ module _ (p : Program) (typed : IsTyped p) (agrees : Agrees p) (m : Memory) (goo
           }
 
   -- Positions --------------------------------------------------------------------------------
-  pub record Ends (x : Standing) (v : Value) (o : Open) : Type 0 where
-    pub y : Standing
+  pub record Ends (x : LeafPosition) (v : Value) (o : Open) : Type 0 where
+    pub y : LeafPosition
     pub w : Value
     pub pat : Pat
-    pub is_along : ◌≡◌ {A = Result Standing ImageFault} (along types layouts blocks x o.path) (Ok y)
+    pub is_along : ◌≡◌ {A = Result LeafPosition ImageFault} (along types layouts blocks x o.path) (Ok y)
     pub is_part : part_at v o.path ≡ Some w
     pub stands : ValueStands p m blocks y w pat o.ty
 
   abbrev Comes : Pat → Type 0
-  Comes q = (x : Standing) (v : Value) (r : Pat) (ty : Ty) → Stand x v r ty → IsInner p q ty → matches_of q v ≡ true → (k : ℕ) (o : Open) → slice_get (opens_of types q ty) k ≡ Some o → Ends x v o
+  Comes q = (x : LeafPosition) (v : Value) (r : Pat) (ty : Ty) → Stand x v r ty → IsInner p q ty → matches_of q v ≡ true → (k : ℕ) (o : Open) → slice_get (opens_of types q ty) k ≡ Some o → Ends x v o
 
-  at_once : (x : Standing) (v : Value) (r : Pat) (ty : Ty) → Stand x v r ty → (os : List Open) → os ≡ record { path = []; ty = ty } ∷ [] → (k : ℕ) (o : Open) → slice_get os k ≡ Some o → Ends x v o
+  at_once : (x : LeafPosition) (v : Value) (r : Pat) (ty : Ty) → Stand x v r ty → (os : List Open) → os ≡ record { path = []; ty = ty } ∷ [] → (k : ℕ) (o : Open) → slice_get os k ≡ Some o → Ends x v o
   at_once x v r ty st os is k o e =
       subst (Ends x v) (alone (record { path = []; ty = ty }) o os k is e) (record { y = x; w = v; pat = r; is_along = refl; is_part = refl; stands = st })
 
@@ -269,14 +269,14 @@ module _ (p : Program) (typed : IsTyped p) (agrees : Agrees p) (m : Memory) (goo
       let n = each_at Comes qs each i.field q.0 q.1 g.z u.0 g.pat i.ty g.stands
       (sub_inner p typed agrees m good blocks at c qs (Named s) inner i.field q.0 i.ty q.1 (subst (λ ty. fits_type types q.0 ty ≡ true) one f.2)) u.2
       i.number i.place (ap (λ (f : Ty → List Open). slice_get (f i.ty) i.number) (sym q.2) ∙ i.is_place) in
-      let down_ : ◌≡◌ {A = Result Standing ImageFault} (step_down types layouts blocks x i.field) (Ok g.z) =
-      ap (λ (r : Result Standing ImageFault). and_then r (λ y. or_fault (down types y i.field) NoMemory)) t.is_settled ∙ ap (λ (o : Option Standing). or_fault o NoMemory) g.is_down in
+      let down_ : ◌≡◌ {A = Result LeafPosition ImageFault} (step_down types layouts blocks x i.field) (Ok g.z) =
+      ap (λ (r : Result LeafPosition ImageFault). and_then r (λ y. or_fault (down types y i.field) NoMemory)) t.is_settled ∙ ap (λ (o : Option LeafPosition). or_fault o NoMemory) g.is_down in
       let z : i.field ≡ 0 + i.field = omega arith in
       subst (Ends x v) (ap (λ j. below j i.place) z ∙ sym i.is) (record {
         y = n.y;
         w = n.w;
         pat = n.pat;
-        is_along = ap (λ (r : Result Standing ImageFault). and_then r (λ y. along types layouts blocks y i.place.path)) down_ ∙ n.is_along;
+        is_along = ap (λ (r : Result LeafPosition ImageFault). and_then r (λ y. along types layouts blocks y i.place.path)) down_ ∙ n.is_along;
         is_part = ap (λ (u : Option Value). part_from u i.place.path) there ∙ n.is_part;
         stands = n.stands;
       })

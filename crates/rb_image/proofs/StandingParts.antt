@@ -25,7 +25,7 @@ use Rattle.rb_core.proofs.PatternLaws.{Each, fold-Con, fold-Num, fold-Var, fold-
 use Rattle.rb_bytes.specs.Memory.{Memory, IsGood}
 use Rattle.rb_layout.specs.declared.layout.Layout.{Layout}
 use Rattle.rb_layout.specs.declared.layout.Leaf.{Leaf}
-use Rattle.rb_layout.specs.A9.{HasPointerPart, cons_below_root, cons_of, cons_step}
+use Rattle.rb_layout.specs.A9.{HasPointerPart, cons_below_root, pattern_cons, cons_step}
 use Rattle.rb_layout.specs.Agreement.{Agrees}
 use Rattle.rb_layout.specs.Flattening.{flat_layouts}
 use Rattle.rb_layout.specs.Positions.{Open, below, layout_of, opens_below, opens_of, root_type, types_or_none}
@@ -40,9 +40,9 @@ use Rattle.rb_image_text.specs.declared.image.ImageBlock.{ImageBlock}
 use Rattle.rb_image.specs.declared.kept.Kept.{Kept}
 use Rattle.rb_image.specs.Fields.{field_in, field_of, with_type}
 use Rattle.rb_image.specs.Rebuilds.{numbers_of}
-use Rattle.rb_image.specs.RebuiltValues.{IsInner, ValueStands, is_plain, plain_step}
+use Rattle.rb_image.specs.RebuiltValues.{IsInner, ValueStands, is_numberless, plain_step}
 use Rattle.rb_image.specs.TakenApart.{open_words}
-use Rattle.rb_image.specs.Views.{Standing, down, down_to, from_root, settled, settled_at, words_here}
+use Rattle.rb_image.specs.Views.{LeafPosition, down, down_to, from_root, settled, settled_at, words_here}
 use Rattle.rb_image.specs.Walks.{data_of, open_data, open_in}
 use Rattle.rb_image.proofs.SeenValues.{values_are_seen}
 use Rattle.rb_image.proofs.SpotLemmas.{In, get_in, in_get, in_right}
@@ -97,10 +97,10 @@ pass_two [] (v ∷ vs) e = absurd cc
 pass_two (p ∷ ps) [] e = absurd cc
 pass_two (p ∷ ps) (v ∷ vs) e = let h = both (matches_of p v) (all_pass (map matches_of ps) vs) e in (h.0, pass_two ps vs h.1)
 
-pub plain_at : (ps : List Pat) → list_all (λ so. so) (map is_plain ps) ≡ true → (j : ℕ) (q : Pat) → slice_get ps j ≡ Some q → is_plain q ≡ true
+pub plain_at : (ps : List Pat) → list_all (λ so. so) (map is_numberless ps) ≡ true → (j : ℕ) (q : Pat) → slice_get ps j ≡ Some q → is_numberless q ≡ true
 plain_at [] h j q e = absurd cc
-plain_at (p ∷ ps) h zero q e = ap is_plain (sym (same_Some p q e)) ∙ (both (is_plain p) (list_all (λ so. so) (map is_plain ps)) h).0
-plain_at (p ∷ ps) h (suc j) q e = plain_at ps (both (is_plain p) (list_all (λ so. so) (map is_plain ps)) h).1 j q e
+plain_at (p ∷ ps) h zero q e = ap is_numberless (sym (same_Some p q e)) ∙ (both (is_numberless p) (list_all (λ so. so) (map is_numberless ps)) h).0
+plain_at (p ∷ ps) h (suc j) q e = plain_at ps (both (is_numberless p) (list_all (λ so. so) (map is_numberless ps)) h).1 j q e
 
 pub in_one : (c : ConRef) (css : List (List ConRef)) (j : ℕ) (cs : List ConRef) → slice_get css j ≡ Some cs → In c cs → In c (flat_map (λ ds. ds) css)
 in_one c [] j cs e h = absurd cc
@@ -112,10 +112,10 @@ in_one c (ds ∷ css) zero cs e h = left ds (flat_map (λ es. es) css) (subst (I
     left (x ∷ xs) ys (inr g) = inr (left xs ys g)
 in_one c (ds ∷ css) (suc j) cs e h = in_right c ds (flat_map (λ es. es) css) (in_one c css j cs e h)
 
-pub cons-Con : (at : ℕ) (c : ConRef) (ps : List Pat) → cons_of (Con at c ps) ≡ c ∷ flat_map (λ cs. cs) (map cons_of ps)
+pub cons-Con : (at : ℕ) (c : ConRef) (ps : List Pat) → pattern_cons (Con at c ps) ≡ c ∷ flat_map (λ cs. cs) (map pattern_cons ps)
 cons-Con at c ps = fold-Con (List ConRef) cons_step at c ps
 
-pub plain-Con : (at : ℕ) (c : ConRef) (ps : List Pat) → is_plain (Con at c ps) ≡ list_all (λ so. so) (map is_plain ps)
+pub plain-Con : (at : ℕ) (c : ConRef) (ps : List Pat) → is_numberless (Con at c ps) ≡ list_all (λ so. so) (map is_numberless ps)
 plain-Con at c ps = fold-Con Bool plain_step at c ps
 
 -- an open position of a field is one of the constructor
@@ -135,13 +135,13 @@ below_among (g ∷ fs) (s ∷ ts) i (suc j) f t k o ef et e =
 
 -- Provenances --------------------------------------------------------------------------------
 abbrev Plain : Pat → Type 0
-Plain q = may_be_below (fold-Pat Below below_step q) ≡ true → is_plain q ≡ true
+Plain q = may_be_below (fold-Pat Below below_step q) ≡ true → is_numberless q ≡ true
 
-all_plain : (ps : List Pat) → Each Plain ps → list_all may_be_below (map (fold-Pat Below below_step) ps) ≡ true → list_all (λ so. so) (map is_plain ps) ≡ true
+all_plain : (ps : List Pat) → Each Plain ps → list_all may_be_below (map (fold-Pat Below below_step) ps) ≡ true → list_all (λ so. so) (map is_numberless ps) ≡ true
 all_plain [] each h = refl
 all_plain (q ∷ ps) each h =
     let b = both (may_be_below (fold-Pat Below below_step q)) (list_all may_be_below (map (fold-Pat Below below_step) ps)) h in
-    and_true (is_plain q) (list_all (λ so. so) (map is_plain ps)) (each.0 b.0) (all_plain ps each.1 b.1)
+    and_true (is_numberless q) (list_all (λ so. so) (map is_numberless ps)) (each.0 b.0) (all_plain ps each.1 b.1)
 
 plain_below : (q : Pat) → Plain q
 plain_below = induction Plain (record {
@@ -155,12 +155,12 @@ either_right : (a b : Bool) → b ≡ true → either a b ≡ true
 either_right true b e = refl
 either_right false b e = e
 
-pub plain_provenance : (q : Pat) → is_provenance q ≡ true → is_plain q ≡ true
+pub plain_provenance : (q : Pat) → is_provenance q ≡ true → is_numberless q ≡ true
 plain_provenance q h = plain_below q (either_right (fold-Pat Below below_step q).wild (fold-Pat Below below_step q).provenance h)
 
-pub flat_same : (ps : List Pat) → flat_map (λ (cs : List ConRef). cs) (map cons_of ps) ≡ flat_map cons_of ps
+pub flat_same : (ps : List Pat) → flat_map (λ (cs : List ConRef). cs) (map pattern_cons ps) ≡ flat_map pattern_cons ps
 flat_same [] = refl
-flat_same (q ∷ ps) = ap (λ cs. cons_of q ++ cs) (flat_same ps)
+flat_same (q ∷ ps) = ap (λ cs. pattern_cons q ++ cs) (flat_same ps)
 
 -- Values -------------------------------------------------------------------------------------
 data ValueForm (v : Value) : Type 0 where
@@ -192,7 +192,7 @@ module _ (p : Program) (typed : IsTyped p) (agrees : Agrees p) (m : Memory) (goo
   abbrev pub layouts : List Layout
   layouts = flat_layouts p
 
-  abbrev Stand : Standing → Value → Pat → Ty → Type 0
+  abbrev Stand : LeafPosition → Value → Pat → Ty → Type 0
   Stand x v q ty = ValueStands p m blocks x v q ty
 
   -- Patterns ---------------------------------------------------------------------------------
@@ -213,14 +213,14 @@ module _ (p : Program) (typed : IsTyped p) (agrees : Agrees p) (m : Memory) (goo
       fits = fits;
       plain = plain_at ps (sym (plain-Con at c ps) ∙ inner.plain) j q e;
       free = λ k d h.
-          let i = in_one d (map cons_of ps) j (cons_of q) (get-mapped cons_of ps j q e) (get_in d (cons_of q) k h) in
-          let g = in_get d (c ∷ flat_map (λ (cs : List ConRef). cs) (map cons_of ps)) (inr i) in
+          let i = in_one d (map pattern_cons ps) j (pattern_cons q) (get-mapped pattern_cons ps j q e) (get_in d (pattern_cons q) k h) in
+          let g = in_get d (c ∷ flat_map (λ (cs : List ConRef). cs) (map pattern_cons ps)) (inr i) in
           inner.free g.0 d (ap (λ (cs : List ConRef). slice_get cs g.0) (cons-Con at c ps) ∙ g.1);
     }
 
   -- Fields -----------------------------------------------------------------------------------
-  pub record Step (x : Standing) (j : ℕ) (t : Ty) (w : Value) : Type 0 where
-    pub z : Standing
+  pub record Step (x : LeafPosition) (j : ℕ) (t : Ty) (w : Value) : Type 0 where
+    pub z : LeafPosition
     pub pat : Pat
     pub is_down : down types x j ≡ Some z
     pub stands : ValueStands p m blocks z w pat t
@@ -228,7 +228,7 @@ module _ (p : Program) (typed : IsTyped p) (agrees : Agrees p) (m : Memory) (goo
   named_is : (c : ConRef) (s : ℕ) → is_named c.ty (Named s) ≡ true → s ≡ c.ty
   named_is c s e = same_nat s c.ty e
 
-  pub step : (x : Standing) (v : Value) (at : ℕ) (c : ConRef) (ps : List Pat) (s : ℕ) → Stand x v (Con at c ps) (Named s)
+  pub step : (x : LeafPosition) (v : Value) (at : ℕ) (c : ConRef) (ps : List Pat) (s : ℕ) → Stand x v (Con at c ps) (Named s)
       → (j : ℕ) (t : Ty) (w : Value) → slice_get (types_or_none (fields_of types c)) j ≡ Some t → slice_get (subs v) j ≡ Some w → Step x j t w
   step x v at c ps s st j t w et ew =
       let ts = types_or_none (fields_of types c) in
@@ -244,7 +244,7 @@ module _ (p : Program) (typed : IsTyped p) (agrees : Agrees p) (m : Memory) (goo
       let one_type : r.0 ≡ t = same_Some r.0 t (sym r.1 ∙ ap (λ i. slice_get (types_or_none (fields_in (slice_get types i) c.con)) j) (named_is c s fits.0) ∙ et) in
       let h = two_from matches_of ps l.vs l.pass j q.0 q.1 in
       let one_value : h.0 ≡ w = same_Some h.0 w (sym h.1 ∙ there) in
-      let z : Standing = record x { at = x.at ++ j ∷ []; here = record { pat = q.0; ty = t } } in
+      let z : LeafPosition = record x { at = x.at ++ j ∷ []; here = record { pat = q.0; ty = t } } in
       record {
         z = z;
         pat = q.0;
@@ -268,8 +268,8 @@ module _ (p : Program) (typed : IsTyped p) (agrees : Agrees p) (m : Memory) (goo
       }
 
   -- Own leaves -------------------------------------------------------------------------------
-  pub record Settled (x : Standing) (v : Value) (s : ℕ) : Type 0 where
-    pub y : Standing
+  pub record Settled (x : LeafPosition) (v : Value) (s : ℕ) : Type 0 where
+    pub y : LeafPosition
     pub at : ℕ
     pub con : ConRef
     pub ps : List Pat
@@ -283,7 +283,7 @@ module _ (p : Program) (typed : IsTyped p) (agrees : Agrees p) (m : Memory) (goo
   same_Named a c e = cc
 
   cons_free : (s : ℕ) (layout : Layout) (n : ℕ) (leaf : Leaf) → layout_of layouts s ≡ Some layout → slice_get layout.leaves n ≡ Some leaf → (HasPointerPart layouts s → ⊥)
-      → (at : ℕ) (c : ConRef) (ps : List Pat) → leaf.prov ≡ Con at c ps → c.ty ≡ s → (k : ℕ) (d : ConRef) → slice_get (c ∷ flat_map (λ (cs : List ConRef). cs) (map cons_of ps)) k ≡ Some d
+      → (at : ℕ) (c : ConRef) (ps : List Pat) → leaf.prov ≡ Con at c ps → c.ty ≡ s → (k : ℕ) (d : ConRef) → slice_get (c ∷ flat_map (λ (cs : List ConRef). cs) (map pattern_cons ps)) k ≡ Some d
       → HasPointerPart layouts d.ty → ⊥
   cons_free s layout n leaf is_layout is_number free at c ps form own zero d e = subst (λ i. HasPointerPart layouts i → ⊥) (sym own ∙ ap (λ (r : ConRef). r.ty) (same_Some c d e)) free
   cons_free s layout n leaf is_layout is_number free at c ps form own (suc k) d e =
@@ -308,16 +308,16 @@ module _ (p : Program) (typed : IsTyped p) (agrees : Agrees p) (m : Memory) (goo
       root : root_type (out-Pat leaf.prov) ≡ Named s
       root = law.root s layout n leaf is_layout is_number
 
-      by_form : Form leaf.prov → (k : ℕ) (d : ConRef) → slice_get (cons_of leaf.prov) k ≡ Some d → HasPointerPart layouts d.ty → ⊥
+      by_form : Form leaf.prov → (k : ℕ) (d : ConRef) → slice_get (pattern_cons leaf.prov) k ≡ Some d → HasPointerPart layouts d.ty → ⊥
       by_form (wild at e) k d h = absurd (int_named s (sym (ap root_type (ap out-Pat e ∙ outs-Wild at)) ∙ root))
       by_form (var at y e) k d h = absurd (int_named s (sym (ap root_type (ap out-Pat e ∙ outs-Var at y)) ∙ root))
       by_form (num at i e) k d h = absurd (int_named s (sym (ap root_type (ap out-Pat e ∙ outs-Num at i)) ∙ root))
       by_form (con at c ps e) k d h =
           cons_free s layout n leaf is_layout is_number free at c ps e (same_Named c.ty s (sym (ap root_type (ap out-Pat e ∙ outs-Con at c ps)) ∙ root)) k d
-          (ap (λ (cs : List ConRef). slice_get cs k) (sym (cons-Con at c ps) ∙ sym (ap cons_of e)) ∙ h)
+          (ap (λ (cs : List ConRef). slice_get cs k) (sym (cons-Con at c ps) ∙ sym (ap pattern_cons e)) ∙ h)
 
   -- a value of a type without pointers that stands open
-  open_settles : (x : Standing) (v : Value) (q : Pat) (s : ℕ) → Stand x v q (Named s) → (HasPointerPart layouts s → ⊥)
+  open_settles : (x : LeafPosition) (v : Value) (q : Pat) (s : ℕ) → Stand x v q (Named s) → (HasPointerPart layouts s → ⊥)
       → opens_of types q (Named s) ≡ record { path = []; ty = Named s } ∷ [] → open_data x.here ≡ Some s → Settled x v s
   open_settles x v q s st free alone is_open =
       let f = st.fields 0 (record { path = []; ty = Named s }) (ap (λ (os : List Open). slice_get os 0) alone) in
@@ -341,7 +341,7 @@ module _ (p : Program) (typed : IsTyped p) (agrees : Agrees p) (m : Memory) (goo
       }) in
       by_form x v s ws leaf root (ap (settled_at layouts blocks x) is_open ∙ seen.is_seen) stands (forms leaf.prov)
     where
-      by_form : (x : Standing) (v : Value) (s : ℕ) (ws : List Kept) (leaf : Leaf) → root_type (out-Pat leaf.prov) ≡ Named s → settled layouts blocks x ≡ Ok (from_root s ws leaf)
+      by_form : (x : LeafPosition) (v : Value) (s : ℕ) (ws : List Kept) (leaf : Leaf) → root_type (out-Pat leaf.prov) ≡ Named s → settled layouts blocks x ≡ Ok (from_root s ws leaf)
           → ((at : ℕ) (c : ConRef) (ps : List Pat) → leaf.prov ≡ Con at c ps → Stand (from_root s ws leaf) v leaf.prov (Named s)) → Form leaf.prov → Settled x v s
       by_form x v s ws leaf root is stands (wild at e) = absurd (int_named s (sym (ap root_type (ap out-Pat e ∙ outs-Wild at)) ∙ root))
       by_form x v s ws leaf root is stands (var at y e) = absurd (int_named s (sym (ap root_type (ap out-Pat e ∙ outs-Var at y)) ∙ root))
@@ -349,17 +349,17 @@ module _ (p : Program) (typed : IsTyped p) (agrees : Agrees p) (m : Memory) (goo
       by_form x v s ws leaf root is stands (con at c ps e) =
           record { y = from_root s ws leaf; at = at; con = c; ps = ps; is_settled = is; stands = subst (λ q. Stand (from_root s ws leaf) v q (Named s)) e (stands at c ps e) }
 
-  open_is : (x : Standing) (q : Pat) (s : ℕ) (l : Pat-F Pat) → x.here.pat ≡ q → x.here.ty ≡ Named s → out-Pat q ≡ l → open_data x.here ≡ open_in l (Some s)
+  open_is : (x : LeafPosition) (q : Pat) (s : ℕ) (l : Pat-F Pat) → x.here.pat ≡ q → x.here.ty ≡ Named s → out-Pat q ≡ l → open_data x.here ≡ open_in l (Some s)
   open_is x q s l is_pat is_ty out = ap (λ (r : Pat). open_in (out-Pat r) (data_of x.here.ty)) is_pat ∙ ap (λ (r : Pat-F Pat). open_in r (data_of x.here.ty)) out ∙ ap (λ ty. open_in l (data_of ty)) is_ty
 
   -- one comes to the constructor of a value of a type without pointers
-  pub settles : (x : Standing) (v : Value) (q : Pat) (s : ℕ) → Stand x v q (Named s) → (HasPointerPart layouts s → ⊥) → Settled x v s
+  pub settles : (x : LeafPosition) (v : Value) (q : Pat) (s : ℕ) → Stand x v q (Named s) → (HasPointerPart layouts s → ⊥) → Settled x v s
   settles x v q s st free = go (forms q)
     where
       go : Form q → Settled x v s
       go (wild at e) = open_settles x v q s st free (ap (λ r. opens_of types r (Named s)) e ∙ opens-Wild types at (Named s)) (open_is x q s (P.Wild at) st.is_pat st.is_ty (ap out-Pat e ∙ outs-Wild at))
       go (var at y e) = open_settles x v q s st free (ap (λ r. opens_of types r (Named s)) e ∙ opens-Var types at y (Named s)) (open_is x q s (P.Var at y) st.is_pat st.is_ty (ap out-Pat e ∙ outs-Var at y))
-      go (num at n e) = absurd (let z = sym (fold-Num Bool plain_step at n) ∙ sym (ap is_plain e) ∙ st.inner.plain in cc)
+      go (num at n e) = absurd (let z = sym (fold-Num Bool plain_step at n) ∙ sym (ap is_numberless e) ∙ st.inner.plain in cc)
       go (con at c ps e) = record {
         y = x;
         at = at;

@@ -8,9 +8,9 @@ use Rattle.rb_image_text.specs.declared.fault.ImageFault.{ImageFault}
 use Rattle.rb_image_text.specs.declared.image.ImageBlock.{ImageBlock}
 use Rattle.rb_image.specs.declared.kept.Kept.{Kept}
 use Rattle.rb_image.specs.declared.order.Spot.{Spot}
-use Rattle.rb_image.specs.Parts.{addresses_of, bits_at, field_word, holds}
+use Rattle.rb_image.specs.Parts.{addresses_of, bits_at, field_word, is_field_word}
 use Rattle.rb_image.specs.Splits.{and_then, leaf_at}
-use Rattle.rb_image.specs.Views.{Standing, from_root, taken_apart}
+use Rattle.rb_image.specs.Views.{LeafPosition, from_root, taken_apart}
 use Rattle.rb_image.specs.Walks.{layout_at, layout_or_none, leaf_or_none}
 use Rattle.rb_image.specs.inner.Viewing.{at_of, spots_of}
 use Rattle.rb_image.proofs.DropLemmas.{drop_item}
@@ -20,13 +20,13 @@ module _ (m : List ImageBlock) (ws : List Kept) (ats : List ℕ) (items : List S
   abbrev word_on : Bool → Kept
   word_on t = if t then bits_at m ws ats (at_of spot) else field_word m ws ats (spots_of (drop (k + 1) items)) path j
 
-  first : field_word m ws ats (spots_of (drop k items)) path j ≡ word_on (holds spot.part.now.kind path j)
+  first : field_word m ws ats (spots_of (drop k items)) path j ≡ word_on (is_field_word spot.part.now.kind path j)
   first = ap (λ ss. field_word m ws ats (spots_of ss) path j) (drop_item items k spot is)
 
-  pub word_taken : holds spot.part.now.kind path j ≡ true → field_word m ws ats (spots_of (drop k items)) path j ≡ bits_at m ws ats (at_of spot)
+  pub word_taken : is_field_word spot.part.now.kind path j ≡ true → field_word m ws ats (spots_of (drop k items)) path j ≡ bits_at m ws ats (at_of spot)
   word_taken held = first ∙ ap word_on held
 
-  pub word_passed : holds spot.part.now.kind path j ≡ false → field_word m ws ats (spots_of (drop k items)) path j ≡ field_word m ws ats (spots_of (drop (k + 1) items)) path j
+  pub word_passed : is_field_word spot.part.now.kind path j ≡ false → field_word m ws ats (spots_of (drop k items)) path j ≡ field_word m ws ats (spots_of (drop (k + 1) items)) path j
   word_passed held = first ∙ ap word_on held
 
 -- A value that is taken apart ----------------------------------------------------------------
@@ -34,7 +34,7 @@ module _ (layouts : List Layout) (t : ℕ) (ws : List Kept) (layout : Layout) (i
   layout_is : layout_at layouts t ≡ layout
   layout_is = ap layout_or_none is
 
-  abbrev from_number : Layout → ℕ → Result Standing ImageFault
+  abbrev from_number : Layout → ℕ → Result LeafPosition ImageFault
   from_number l n = let leaf = leaf_or_none (slice_get l.leaves n) in and_then (addresses_of [] leaf ws) (λ none. Ok (from_root t ws leaf))
 
   there : taken_apart layouts t ws ≡ and_then (leaf_at layout.tree [] ws) (from_number layout)

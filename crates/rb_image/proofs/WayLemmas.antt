@@ -31,7 +31,7 @@ use Rattle.rb_image.specs.declared.walk.Passed.{Passed}
 use Rattle.rb_image.specs.FieldSites.{words_of_field}
 use Rattle.rb_image.specs.Fields.{Position, field_in, field_of, with_type}
 use Rattle.rb_image.specs.Given.{IsGiven}
-use Rattle.rb_image.specs.LeafWords.{reached}
+use Rattle.rb_image.specs.LeafWords.{block_addresses}
 use Rattle.rb_image.specs.Orders.{order_of}
 use Rattle.rb_image.specs.Parts.{field_word, field_words}
 use Rattle.rb_image.specs.Sites.{kept_of}
@@ -129,7 +129,7 @@ module _ (layouts : List Layout) (image : Image) where
       let order = order_of leaf in
       let root = x.visited.words.root.items in
       let known = x.visited.words.addresses.items in
-      let ats = reached m leaf root in
+      let ats = block_addresses m leaf root in
       let words = field_words (field_word m root ats order) x.at 0 (word_count layouts (Named t)) in
       let free : refused_below m leaf root ats x.at order ≡ None =
       ap (λ xs. refused_below m leaf root xs x.at order) (sym passed.addresses) ∙ ap (λ p. first_refused m p x.visited) (sym same_path) ∙ none in

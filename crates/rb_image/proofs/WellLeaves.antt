@@ -21,11 +21,11 @@ use Rattle.rb_rel.proofs.Lists.{and_true}
 use Rattle.rb_image_text.specs.declared.fault.ImageFault.{ImageFault}
 use Rattle.rb_image_text.specs.declared.image.ImageBlock.{ImageBlock}
 use Rattle.rb_image.specs.declared.kept.Kept.{Kept}
-use Rattle.rb_image.specs.LeafWords.{reached}
-use Rattle.rb_image.specs.Orders.{PartAt, order_of}
+use Rattle.rb_image.specs.LeafWords.{block_addresses}
+use Rattle.rb_image.specs.Orders.{LocatedPart, order_of}
 use Rattle.rb_image.specs.Paths.{is_there, part_bits, part_fault, word_below}
 use Rattle.rb_image.specs.Splits.{leaf_at}
-use Rattle.rb_image.specs.Walks.{Seen, layout_at, layout_or_none, leaf_or_none, see}
+use Rattle.rb_image.specs.Walks.{Waypoint, layout_at, layout_or_none, leaf_or_none, see}
 use Rattle.rb_image.specs.Ways.{leads_below, refusal_of, refused_below}
 use Rattle.rb_image.proofs.ExaminedParts.{then_ok}
 use Rattle.rb_image.proofs.FallLemmas.{same_Ok}
@@ -63,22 +63,22 @@ module _ (layouts : List Layout) (m : List ImageBlock) (well : AreWell layouts) 
   in_layout t (Some layout) is n = leaf_found layout (λ k leaf at. well t layout k leaf is at) n (slice_get layout.leaves n) refl
 
   -- the leaf of a subvalue that was come to is one of its layout, or none
-  pub seen_leaf : (t : ℕ) (ws : List Kept) (s : Seen) → ◌≡◌ {A = Result Seen ImageFault} (see layouts m t ws) (Ok s) → IsWell s.leaf ⊎ (order_of s.leaf ≡ [])
+  pub seen_leaf : (t : ℕ) (ws : List Kept) (s : Waypoint) → ◌≡◌ {A = Result Waypoint ImageFault} (see layouts m t ws) (Ok s) → IsWell s.leaf ⊎ (order_of s.leaf ≡ [])
   seen_leaf t ws s e =
       let r = then_ok (leaf_at (layout_at layouts t).tree m ws) (λ n. Ok (record { ty = t; words = ws; leaf = leaf_or_none (slice_get (layout_at layouts t).leaves n); at = [] })) s e in
       let same = same_Ok (record { ty = t; words = ws; leaf = leaf_or_none (slice_get (layout_at layouts t).leaves r.0); at = [] }) s r.2 in
-      subst (λ (x : Seen). IsWell x.leaf ⊎ (order_of x.leaf ≡ [])) same (in_layout t (layout_of layouts t) refl r.0)
+      subst (λ (x : Waypoint). IsWell x.leaf ⊎ (order_of x.leaf ≡ [])) same (in_layout t (layout_of layouts t) refl r.0)
 
-module _ (m : List ImageBlock) (s : Seen) where
+module _ (m : List ImageBlock) (s : Waypoint) where
   -- where there are no parts, none is refused
-  pub no_refusal : order_of s.leaf ≡ [] → (fault : ImageFault) → refused_below m s.leaf s.words (reached m s.leaf s.words) s.at (order_of s.leaf) ≡ Some fault → ⊥
-  no_refusal none fault e = let h = sym (ap (refused_below m s.leaf s.words (reached m s.leaf s.words) s.at) none) ∙ e in cc
+  pub no_refusal : order_of s.leaf ≡ [] → (fault : ImageFault) → refused_below m s.leaf s.words (block_addresses m s.leaf s.words) s.at (order_of s.leaf) ≡ Some fault → ⊥
+  no_refusal none fault e = let h = sym (ap (refused_below m s.leaf s.words (block_addresses m s.leaf s.words) s.at) none) ∙ e in cc
 
   -- a part that is there and leads below is one of the words below
-  pub below_there : (part : PartAt) → is_there (reached m s.leaf s.words) part.block ≡ true → leads_below s.leaf s.at part.part.kind ≡ true
-      → In (part_bits m s part) (word_below m s.leaf s.words (reached m s.leaf s.words) s.at part)
+  pub below_there : (part : LocatedPart) → is_there (block_addresses m s.leaf s.words) part.block ≡ true → leads_below s.leaf s.at part.part.kind ≡ true
+      → In (part_bits m s part) (word_below m s.leaf s.words (block_addresses m s.leaf s.words) s.at part)
   below_there part there leads =
-      let both = and_true (is_there (reached m s.leaf s.words) part.block) (leads_below s.leaf s.at part.part.kind) there leads in
+      let both = and_true (is_there (block_addresses m s.leaf s.words) part.block) (leads_below s.leaf s.at part.part.kind) there leads in
       subst (λ (t : Bool). In (part_bits m s part) (if t then part_bits m s part ∷ [] else [])) (sym both) (inl refl)
 
 -- a pointer that is refused is the fault of its part

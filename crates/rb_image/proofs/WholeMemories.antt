@@ -6,7 +6,7 @@ use Rattle.std.proofs.lemmas.Option.{same_Some}
 use Rattle.rb_bytes.specs.Memory.{Memory, IsGood}
 use Rattle.rb_bytes.specs.Memory as M
 use Rattle.rb_image_text.specs.declared.image.ImageBlock.{ImageBlock}
-use Rattle.rb_image_text.specs.Images.{AreBlocks}
+use Rattle.rb_image_text.specs.Images.{AreImageBlocks}
 use Rattle.rb_image_text.specs.Places.{AreInPlace}
 use Rattle.rb_image.specs.Blocks.{block_at, size_at, size_in}
 use Rattle.rb_image.specs.Memories.{image_memory}
@@ -33,7 +33,7 @@ block_found (x ∷ blocks) (suc j) c e = go (nat_eq x.at c.at) (block_found bloc
     go true r = (x, refl)
     go false r = r
 
-module _ (blocks : List ImageBlock) (placed : AreInPlace blocks) (are : AreBlocks blocks) where
+module _ (blocks : List ImageBlock) (placed : AreInPlace blocks) (are : AreImageBlocks blocks) where
   no_others : (at size : ℕ) → M.size_at (image_memory blocks).blocks at ≡ Some size → size_at blocks at ≡ Some size
   no_others at size e =
       let c = image_memory_size blocks at size e in

@@ -33,10 +33,10 @@ abbrev pub word_from : ImageBlock → ℕ → ℕ → Option ℕ
 word_from b byte width = if is_width width then number_in_block b.bytes byte (width / 8) else None
 
 -- the word of `width` bits from a byte of a block on; none where there is no block, or no such word in it
-abbrev pub word_of : Option ImageBlock → ℕ → ℕ → Option ℕ
-word_of None byte width = None
-word_of (Some b) byte width = word_from b byte width
+abbrev pub block_word : Option ImageBlock → ℕ → ℕ → Option ℕ
+block_word None byte width = None
+block_word (Some b) byte width = word_from b byte width
 
 -- the word of `width` bits from a byte on of the block that begins at an address, where it lies in it
 abbrev pub word_in : List ImageBlock → ℕ → ℕ → ℕ → Option ℕ
-word_in blocks address byte width = word_of (block_at blocks address) byte width
+word_in blocks address byte width = block_word (block_at blocks address) byte width

@@ -23,7 +23,7 @@ use Rattle.rb_layout.specs.Positions.{Open, open_positions}
 use Rattle.rb_layout.specs.Words.{flat_at}
 use Rattle.rb_rel.specs.Relation.{Made, Represents}
 use Rattle.rb_image_text.specs.declared.image.Image.{Image}
-use Rattle.rb_image_text.specs.Images.{AreBlocks}
+use Rattle.rb_image_text.specs.Images.{AreImageBlocks}
 use Rattle.rb_image_text.specs.Places.{AreInPlace}
 use Rattle.rb_image.specs.Memories.{Stand, image_memory}
 use Rattle.rb_image.specs.Roots.{IsSoundImage}
@@ -84,13 +84,13 @@ RootDescends p image ty v = Descends p.types (flat_layouts p) (image_memory imag
 -- an image is sound for a type where its root words represent a value of it and all pointers fall
 abbrev pub DescendingImagesAreSound : Type 0
 DescendingImagesAreSound =
-    (p : Program) → IsTyped p → Agrees p → (image : Image) → AreInPlace image.blocks → AreBlocks image.blocks
+    (p : Program) → IsTyped p → Agrees p → (image : Image) → AreInPlace image.blocks → AreImageBlocks image.blocks
     → (ty : Ty) (v : Value) → RootDescends p image ty v → IsSoundImage p.types (flat_layouts p) image ty
 
 -- where an image is sound for a type of the program, its root words represent a value of it and all pointers fall
 abbrev pub SoundImagesDescend : Type 0
 SoundImagesDescend =
-    (p : Program) → IsTyped p → Agrees p → (image : Image) → AreInPlace image.blocks → AreBlocks image.blocks
+    (p : Program) → IsTyped p → Agrees p → (image : Image) → AreInPlace image.blocks → AreImageBlocks image.blocks
     → (ty : Ty) → IsDeclared p.types ty → IsSoundImage p.types (flat_layouts p) image ty → (v : Value)
     × RootDescends p image ty v
 
@@ -98,7 +98,7 @@ SoundImagesDescend =
 -- memory of exactly these blocks, too, and all pointers fall there
 abbrev pub SoundValuesDescend : Type 0
 SoundValuesDescend =
-    (p : Program) → IsTyped p → Agrees p → (image : Image) → AreInPlace image.blocks → AreBlocks image.blocks
+    (p : Program) → IsTyped p → Agrees p → (image : Image) → AreInPlace image.blocks → AreImageBlocks image.blocks
     → (ty : Ty) → IsDeclared p.types ty → IsSoundImage p.types (flat_layouts p) image ty → (m : Memory) → IsGood m
     → Stand image.blocks m
     → (v : Value) → Represents p.types (flat_layouts p) m false ty v image.root → RootDescends p image ty v

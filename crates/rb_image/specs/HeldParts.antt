@@ -7,7 +7,7 @@ use Rattle.rb_core.specs.TypedPrograms.{IsTyped}
 use Rattle.rb_layout.specs.Agreement.{Agrees}
 use Rattle.rb_layout.specs.Flattening.{flat_layouts}
 use Rattle.rb_image_text.specs.declared.image.Image.{Image}
-use Rattle.rb_image_text.specs.Images.{AreBlocks}
+use Rattle.rb_image_text.specs.Images.{AreImageBlocks}
 use Rattle.rb_image_text.specs.Places.{AreInPlace}
 use Rattle.rb_image.specs.declared.peek.Peeked.{Peeked}
 use Rattle.rb_image.specs.Falling.{RootDescends}
@@ -19,6 +19,6 @@ use Rattle.std.specs.Prelude.{ℕ, List}
 -- there
 abbrev pub GivenPartsAreHeld : Type 0
 GivenPartsAreHeld =
-    (p : Program) → IsTyped p → Agrees p → (image : Image) → AreInPlace image.blocks → AreBlocks image.blocks
+    (p : Program) → IsTyped p → Agrees p → (image : Image) → AreInPlace image.blocks → AreImageBlocks image.blocks
     → (ty : Ty) (v : Value) → RootDescends p image ty v → (path : List ℕ) (part : Peeked)
     → IsPart p.types (flat_layouts p) image ty path part → IsPartThere p image v path part.ty part.words

@@ -18,8 +18,8 @@ use Rattle.rb_image_text.specs.declared.image.ImageBlock.{ImageBlock}
 use Rattle.rb_image.specs.declared.kept.Kept.{Kept}
 use Rattle.rb_image.specs.declared.leaf_words.LeafWords.{LeafWords}
 use Rattle.rb_image.specs.Blocks.{word_in}
-use Rattle.rb_image.specs.Orders.{PartAt, order_of}
-use Rattle.rb_image.specs.Parts.{bits_at, followed}
+use Rattle.rb_image.specs.Orders.{LocatedPart, order_of}
+use Rattle.rb_image.specs.Parts.{bits_at, pointer_lead}
 
 -- Addresses ----------------------------------------------------------------------------------
 
@@ -35,22 +35,22 @@ follow_kind m leaf ats bits (Const c) = ats
 follow_kind m leaf ats bits (Bits path a) = ats
 follow_kind m leaf ats bits (Word path j) = ats
 follow_kind m leaf ats bits (Pointer align b) =
-    if slice_index ats b == 0 then with_found ats b (followed m leaf bits align b) else ats
+    if slice_index ats b == 0 then with_found ats b (pointer_lead m leaf bits align b) else ats
 
 -- the addresses of a leaf's blocks, with that of the block to which part s points, unless it was known or the pointer
 -- is refused
-abbrev pub follow_part : List ImageBlock → Leaf → List Kept → List ℕ → PartAt → List ℕ
+abbrev pub follow_part : List ImageBlock → Leaf → List Kept → List ℕ → LocatedPart → List ℕ
 follow_part m leaf ws ats s = follow_kind m leaf ats (bits_at m ws ats s) s.part.kind
 
 -- the addresses of a leaf's blocks, with those of the blocks to which these parts point, one part after the other
-abbrev pub follow : List ImageBlock → Leaf → List Kept → List ℕ → List PartAt → List ℕ
+abbrev pub follow : List ImageBlock → Leaf → List Kept → List ℕ → List LocatedPart → List ℕ
 follow m leaf ws ats [] = ats
 follow m leaf ws ats (s ∷ ss) = follow m leaf ws (follow_part m leaf ws ats s) ss
 
 -- the addresses of a leaf's blocks by number, on these words of its root; 0 for a block to which no pointer leads, as
 -- where a pointer on the way is refused
-abbrev pub reached : List ImageBlock → Leaf → List Kept → List ℕ
-reached m leaf ws = follow m leaf ws (replicate (length leaf.blocks) 0) (order_of leaf)
+abbrev pub block_addresses : List ImageBlock → Leaf → List Kept → List ℕ
+block_addresses m leaf ws = follow m leaf ws (replicate (length leaf.blocks) 0) (order_of leaf)
 
 -- Words --------------------------------------------------------------------------------------
 

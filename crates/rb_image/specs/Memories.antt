@@ -23,7 +23,12 @@ bytes_from from (b ∷ bs) to =
 -- the memory of so many bytes that has these blocks and no others
 abbrev pub memory_within : ℕ → List ImageBlock → Memory
 memory_within limit blocks =
-    record { limit = limit; next = end_from least_region blocks; blocks = map span_of blocks; bytes = bytes_from 0 blocks limit }
+    record {
+      limit = limit;
+      next = end_from least_region blocks;
+      blocks = map span_of blocks;
+      bytes = bytes_from 0 blocks limit;
+    }
 
 -- the memory of an image with these blocks, and no others: as many bytes as the greatest region has
 unfoldable pub image_memory : List ImageBlock → Memory

@@ -11,7 +11,7 @@ use Rattle.rb_layout.specs.declared.layout.Part.{Part}
 use Rattle.rb_layout.specs.Words.{words_in}
 
 -- a part, and the word that it is of: root word number `word`, or the word of a block that begins at a byte
-pub record PartAt : Type 0 where
+pub record LocatedPart : Type 0 where
   pub block : Option ℕ
   pub word : ℕ
   pub byte : ℕ
@@ -33,37 +33,37 @@ by_offset f = beginning_from f.parts 0 f.width
 
 -- the parts that come right behind a part of this kind: those of the block to which it points, as `inner` gives them;
 -- none behind a part that is no pointer
-abbrev pub behind : (ℕ → List PartAt) → Kind → List PartAt
-behind inner (Const c) = []
-behind inner (Bits path a) = []
-behind inner (Word path j) = []
-behind inner (Pointer align b) = inner b
+abbrev pub pointed_parts : (ℕ → List LocatedPart) → Kind → List LocatedPart
+pointed_parts inner (Const c) = []
+pointed_parts inner (Bits path a) = []
+pointed_parts inner (Word path j) = []
+pointed_parts inner (Pointer align b) = inner b
 
 -- part p of word j of a block or the root, which begins at a byte there, and behind it the parts of the block to
 -- which it points
-abbrev pub with_inner : (ℕ → List PartAt) → Option ℕ → ℕ → ℕ → ℕ → Part → List PartAt
+abbrev pub with_inner : (ℕ → List LocatedPart) → Option ℕ → ℕ → ℕ → ℕ → Part → List LocatedPart
 with_inner inner block j byte width p =
-    record { block = block; word = j; byte = byte; width = width; part = p } ∷ behind inner p.kind
+    record { block = block; word = j; byte = byte; width = width; part = p } ∷ pointed_parts inner p.kind
 
 -- the parts of word j of a block or the root, which begins at a byte there, by offset; behind each those of the block
 -- to which it points
-abbrev pub word_order : (ℕ → List PartAt) → Option ℕ → ℕ → ℕ → FlatWord → List PartAt
+abbrev pub word_order : (ℕ → List LocatedPart) → Option ℕ → ℕ → ℕ → FlatWord → List LocatedPart
 word_order inner block j byte f = flat_map (with_inner inner block j byte f.width) (by_offset f)
 
 -- the parts of words of a block or the root, the first of which is word j and begins at a byte; behind each part
 -- those of the block to which it points
-abbrev pub words_order : (ℕ → List PartAt) → Option ℕ → ℕ → ℕ → List FlatWord → List PartAt
+abbrev pub words_order : (ℕ → List LocatedPart) → Option ℕ → ℕ → ℕ → List FlatWord → List LocatedPart
 words_order inner block j byte [] = []
 words_order inner block j byte (f ∷ fs) =
     word_order inner block j byte f ++ words_order inner block (j + 1) (byte + f.width / 8) fs
 
 -- the parts of the block with a number, and of those that it leads to through fewer than `depth` pointers; none at
 -- depth 0, or where there is no such block
-abbrev pub block_order : Leaf → ℕ → ℕ → List PartAt
+abbrev pub block_order : Leaf → ℕ → ℕ → List LocatedPart
 block_order leaf zero b = []
 block_order leaf (suc depth) b = words_order (block_order leaf depth) (Some b) 0 0 (words_in leaf (Some b))
 
 -- all parts of a leaf by word and offset; those of a pointer's block come right behind the pointer, which leads to a
 -- block of a lower number than its own
-abbrev pub order_of : Leaf → List PartAt
+abbrev pub order_of : Leaf → List LocatedPart
 order_of leaf = words_order (block_order leaf (length leaf.blocks)) None 0 0 leaf.root

@@ -16,13 +16,13 @@ use Rattle.rb_layout.specs.Flattening.{flat_layouts}
 use Rattle.rb_layout.specs.Positions.{Open, layout_of, leaf_of, open_positions}
 use Rattle.rb_rel.specs.Relation.{Represents}
 use Rattle.rb_image.specs.declared.pack.FieldWords.{FieldWords}
-use Rattle.rb_image.specs.Rebuilds.{packed, words_in}
+use Rattle.rb_image.specs.Rebuilds.{packed, words_at_path}
 
 -- the words of each field at an open position of a leaf represent the part of the value there
 abbrev pub FieldsRepresent : Program → Memory → Bool → Value → Leaf → List FieldWords → Type 0
 FieldsRepresent p m clean v leaf fields = (k : ℕ) (o : Open) → slice_get (open_positions p.types leaf.prov) k ≡ Some o
     → (u : Value) × (part_at v o.path ≡ Some u)
-    × Represents p.types (flat_layouts p) m clean o.ty u (words_in fields o.path)
+    × Represents p.types (flat_layouts p) m clean o.ty u (words_at_path fields o.path)
 
 -- where the words of its fields represent the parts of a value, those that they make in its leaf represent the value,
 -- and cleanly where the fields' do

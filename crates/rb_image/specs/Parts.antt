@@ -24,14 +24,14 @@ use Rattle.rb_image_text.specs.declared.image.ImageBlock.{ImageBlock}
 use Rattle.rb_image.specs.declared.kept.Kept.{Kept}
 use Rattle.rb_image.specs.declared.kept.Place.{Place}
 use Rattle.rb_image.specs.Blocks.{size_at, word_in}
-use Rattle.rb_image.specs.Orders.{PartAt, order_of}
+use Rattle.rb_image.specs.Orders.{LocatedPart, order_of}
 use Rattle.rb_image.specs.Splits.{and_then, nothing, or_fault, pointed_from, range_of, word_at, leaf_at}
 
 -- Parts --------------------------------------------------------------------------------------
 
 -- the word that part s is of: a root word where it is in no block, else one of the block with this number, by the
 -- addresses of the leaf's blocks; its number is 0 where no such word is there
-abbrev pub kept_at : List ImageBlock → List Kept → List ℕ → Option ℕ → PartAt → Kept
+abbrev pub kept_at : List ImageBlock → List Kept → List ℕ → Option ℕ → LocatedPart → Kept
 kept_at m ws ats None s = word_at ws s.word
 kept_at m ws ats (Some b) s =
     record {
@@ -41,7 +41,7 @@ kept_at m ws ats (Some b) s =
     }
 
 -- the bits of part s, and where they are kept: a range of the word that the part is of
-abbrev pub bits_at : List ImageBlock → List Kept → List ℕ → PartAt → Kept
+abbrev pub bits_at : List ImageBlock → List Kept → List ℕ → LocatedPart → Kept
 bits_at m ws ats s = range_of (kept_at m ws ats s.block s) s.part.o s.part.l
 
 -- the size in bytes of a leaf's block, 0 where there is none
@@ -61,8 +61,8 @@ block_from m (Some at) size = if_size at size (size_at m at)
 
 -- the address to which the bits of a pointer to the leaf's block b lead, or `BadPointer` where no block of the size
 -- of that begins there, or, from within a block, it is not below that
-abbrev pub followed : List ImageBlock → Leaf → Kept → ℕ → ℕ → Result ℕ ImageFault
-followed m leaf bits align b =
+abbrev pub pointer_lead : List ImageBlock → Leaf → Kept → ℕ → ℕ → Result ℕ ImageFault
+pointer_lead m leaf bits align b =
     let at = bits.number * align in
     or_fault (block_from m (pointed_from bits.base at) (block_size (slice_get leaf.blocks b))) (BadPointer bits.base at)
 
@@ -73,14 +73,15 @@ abbrev pub examine_kind : List ImageBlock → Leaf → List ℕ → Kept → Kin
 examine_kind m leaf ats bits (Bits path a) = Ok ats
 examine_kind m leaf ats bits (Word path j) = Ok ats
 examine_kind m leaf ats bits (Const c) = if bits.number == c then Ok ats else Err (BadBits bits.base bits.place)
-examine_kind m leaf ats bits (Pointer align b) = and_then (followed m leaf bits align b) (λ at. Ok (slice_set ats b at))
+examine_kind m leaf ats bits (Pointer align b) = and_then (pointer_lead m leaf bits align b)
+    (λ at. Ok (slice_set ats b at))
 
 -- the addresses of a leaf's blocks once part s is examined, where ws are the words of the root, or the part's fault
-abbrev pub examine_part : List ImageBlock → Leaf → List Kept → List ℕ → PartAt → Result (List ℕ) ImageFault
+abbrev pub examine_part : List ImageBlock → Leaf → List Kept → List ℕ → LocatedPart → Result (List ℕ) ImageFault
 examine_part m leaf ws ats s = examine_kind m leaf ats (bits_at m ws ats s) s.part.kind
 
 -- the addresses of a leaf's blocks once these parts are examined, one after the other, or the first fault of one
-abbrev pub examine : List ImageBlock → Leaf → List Kept → List ℕ → List PartAt → Result (List ℕ) ImageFault
+abbrev pub examine : List ImageBlock → Leaf → List Kept → List ℕ → List LocatedPart → Result (List ℕ) ImageFault
 examine m leaf ws ats [] = Ok ats
 examine m leaf ws ats (s ∷ ss) = and_then (examine_part m leaf ws ats s) (λ found. examine m leaf ws found ss)
 
@@ -105,17 +106,17 @@ abbrev pub ats_of : List Place → List At
 ats_of places = map at_of places
 
 -- whether a part of this kind is word j of the field at a path
-abbrev pub holds : Kind → List ℕ → ℕ → Bool
-holds (Const c) path j = false
-holds (Bits own a) path j = false
-holds (Word own i) path j = same_path own path && (i == j)
-holds (Pointer align b) path j = false
+abbrev pub is_field_word : Kind → List ℕ → ℕ → Bool
+is_field_word (Const c) path j = false
+is_field_word (Bits own a) path j = false
+is_field_word (Word own i) path j = same_path own path && (i == j)
+is_field_word (Pointer align b) path j = false
 
 -- word j of the field at a path: the bits of the first of these parts that holds it; the number 0 where none does
-abbrev pub field_word : List ImageBlock → List Kept → List ℕ → List PartAt → List ℕ → ℕ → Kept
+abbrev pub field_word : List ImageBlock → List Kept → List ℕ → List LocatedPart → List ℕ → ℕ → Kept
 field_word m ws ats [] path j = nothing
 field_word m ws ats (s ∷ ss) path j =
-    if holds s.part.kind path j then bits_at m ws ats s else field_word m ws ats ss path j
+    if is_field_word s.part.kind path j then bits_at m ws ats s else field_word m ws ats ss path j
 
 -- n words of the field at a path, from word j on, where `word` gives each of them
 abbrev pub field_words : (List ℕ → ℕ → Kept) → List ℕ → ℕ → ℕ → List Kept

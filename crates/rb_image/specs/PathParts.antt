@@ -18,34 +18,35 @@ use Rattle.rb_rel.specs.Relation.{Represents}
 use Rattle.rb_image_text.specs.declared.fault.ImageFault.{ImageFault}
 use Rattle.rb_image_text.specs.declared.image.Image.{Image}
 use Rattle.rb_image_text.specs.declared.image.ImageBlock.{ImageBlock}
-use Rattle.rb_image_text.specs.Images.{AreBlocks}
+use Rattle.rb_image_text.specs.Images.{AreImageBlocks}
 use Rattle.rb_image_text.specs.Places.{AreInPlace}
 use Rattle.rb_image.specs.declared.kept.Kept.{Kept}
 use Rattle.rb_image.specs.Falling.{RootDescends}
-use Rattle.rb_image.specs.Integers.{field_bit, numbered}
+use Rattle.rb_image.specs.Integers.{field_bit, number_of_bits}
 use Rattle.rb_image.specs.Memories.{image_memory}
-use Rattle.rb_image.specs.Orders.{PartAt, order_of}
+use Rattle.rb_image.specs.Orders.{LocatedPart, order_of}
 use Rattle.rb_image.specs.Paths.{part_bits}
 use Rattle.rb_image.specs.Roots.{kept_from}
-use Rattle.rb_image.specs.Walks.{Seen, Where, walked}
+use Rattle.rb_image.specs.Walks.{Waypoint, Where, walked}
 
 -- any value may stand at a position that has this pattern, which is a wildcard or a name
-abbrev pub IsOpen : Pat-F Pat → Type 0
-IsOpen (P.Wild at) = Unit {0}
-IsOpen (P.Var at x) = Unit {0}
-IsOpen (P.Num at n) = ⊥
-IsOpen (P.Con at c ps) = ⊥
+abbrev pub IsOpenPattern : Pat-F Pat → Type 0
+IsOpenPattern (P.Wild at) = Unit {0}
+IsOpenPattern (P.Var at x) = Unit {0}
+IsOpenPattern (P.Num at n) = ⊥
+IsOpenPattern (P.Con at c ps) = ⊥
 
 -- the integer of so many bits that stands in the leaf of subvalue s, at the path inside it along which one goes on
-abbrev pub integer_in : List ImageBlock → Seen → ℕ → ℕ
+abbrev pub integer_in : List ImageBlock → Waypoint → ℕ → ℕ
 integer_in m s bits =
-    numbered bits (field_bit (λ (part : PartAt). (part_bits m s part).number) (Int bits) (order_of s.leaf) s.at)
+    number_of_bits bits
+    (field_bit (λ (part : LocatedPart). (part_bits m s part).number) (Int bits) (order_of s.leaf) s.at)
 
 -- an integer stands at the end of walk w, and its one word is all of `words`
 pub record IsIntegerEnd (m : List ImageBlock) (w : Where) (words : List ℕ) : Type 0 where
   pub bits : ℕ
   pub is_integer : w.here.ty ≡ Int bits
-  pub is_open : IsOpen (out-Pat w.here.pat)
+  pub is_open : IsOpenPattern (out-Pat w.here.pat)
   pub is_word : words ≡ integer_in m w.last bits ∷ []
 
 -- these are the words of what stands at the end of walk w: of a subvalue of a data type, to whose own leaf one came,
@@ -63,7 +64,7 @@ pub record IsPartThere (p : Program) (image : Image) (v : Value) (path : List �
 -- where an image holds a value, the words at the end of a path represent the part of the value there
 abbrev pub PathsLeadToParts : Type 0
 PathsLeadToParts =
-    (p : Program) → IsTyped p → Agrees p → (image : Image) → AreInPlace image.blocks → AreBlocks image.blocks
+    (p : Program) → IsTyped p → Agrees p → (image : Image) → AreInPlace image.blocks → AreImageBlocks image.blocks
     → (t : ℕ) (v : Value) → RootDescends p image (Named t) v → (path : List ℕ) (w : Where)
     → ◌≡◌ {A = Result Where ImageFault} (walked p.types (flat_layouts p) image.blocks t (kept_from 0 image.root)
     path) (Ok w)

@@ -21,11 +21,11 @@ use Rattle.rb_image.specs.declared.kept.Kept.{Kept}
 use Rattle.rb_image.specs.declared.walk.Walk.{Walk}
 use Rattle.rb_image.specs.Asked.{asked_by}
 use Rattle.rb_image.specs.Fields.{Position, field_of}
-use Rattle.rb_image.specs.LeafWords.{reached}
-use Rattle.rb_image.specs.Orders.{PartAt, order_of}
+use Rattle.rb_image.specs.LeafWords.{block_addresses}
+use Rattle.rb_image.specs.Orders.{LocatedPart, order_of}
 use Rattle.rb_image.specs.Parts.{At, bits_at}
 use Rattle.rb_image.specs.Roots.{kept_from, root_at}
-use Rattle.rb_image.specs.Walks.{Seen, Where, layout_at, moved, open_data, see, walked, where_of, words_on}
+use Rattle.rb_image.specs.Walks.{Waypoint, Where, layout_at, moved, open_data, see, walked, where_of, words_on}
 use Rattle.rb_image.specs.Ways.{leads_below, refusal_of}
 
 -- one of these words is kept in the block that begins at `base`, from byte `place` on; at base 0 it is the root word
@@ -46,7 +46,7 @@ is_there ats None = true
 is_there ats (Some b) = not (slice_index ats b == 0)
 
 -- the word of a part, if it holds what stands at a path or below it, or its pointer leads to a word that does
-abbrev pub word_below : List ImageBlock → Leaf → List Kept → List ℕ → List ℕ → PartAt → List Kept
+abbrev pub word_below : List ImageBlock → Leaf → List Kept → List ℕ → List ℕ → LocatedPart → List Kept
 word_below m leaf ws ats path s =
     if is_there ats s.block && leads_below leaf path s.part.kind then bits_at m ws ats s ∷ [] else []
 
@@ -69,21 +69,21 @@ Names fault base place = (fault ≡ BadBits base place) ⊎ ((address : ℕ) × 
 
 module _ (m : List ImageBlock) where
   -- the words that hold what one goes on to from a subvalue, and those whose pointers lead to them
-  abbrev pub words_ahead : Seen → List Kept
-  words_ahead s = words_below m s.leaf s.words (reached m s.leaf s.words) s.at
+  abbrev pub words_ahead : Waypoint → List Kept
+  words_ahead s = words_below m s.leaf s.words (block_addresses m s.leaf s.words) s.at
 
   -- the bits of a part of the leaf of a subvalue, with where they are kept: of a root word, or of a word of a block
   -- to which the leaf's pointers lead; the number 0 where no pointer leads there
-  abbrev pub part_bits : Seen → PartAt → Kept
-  part_bits s part = bits_at m s.words (reached m s.leaf s.words) part
+  abbrev pub part_bits : Waypoint → LocatedPart → Kept
+  part_bits s part = bits_at m s.words (block_addresses m s.leaf s.words) part
 
   -- a part of the leaf of subvalue s, the word of which is there, has this fault, and that word is kept at `base`
   -- and `place`
-  pub record HasBadPart (s : Seen) (base place : ℕ) (fault : ImageFault) : Type 0 where
+  pub record HasBadPart (s : Waypoint) (base place : ℕ) (fault : ImageFault) : Type 0 where
     pub number : ℕ
-    pub part : PartAt
+    pub part : LocatedPart
     pub is_part : slice_get (order_of s.leaf) number ≡ Some part
-    pub is_read : is_there (reached m s.leaf s.words) part.block ≡ true
+    pub is_read : is_there (block_addresses m s.leaf s.words) part.block ≡ true
     pub is_base : (part_bits s part).base ≡ base
     pub is_place : (part_bits s part).place ≡ place
     pub is_fault : part_fault m s.leaf (part_bits s part) part.part.kind ≡ Some fault
@@ -94,7 +94,7 @@ module _ (layouts : List Layout) (m : List ImageBlock) where
   words_asked x = asked_by (layout_at layouts x.ty).tree m x.words
 
   -- r is what is seen of the value at a place: its leaf is found there, or r is the fault of its splits
-  abbrev pub IsSeen : At → Result Seen ImageFault → Type 0
+  abbrev pub IsSeen : At → Result Waypoint ImageFault → Type 0
   IsSeen x r = see layouts m x.ty x.words ≡ r
 
   -- a word has a fault in a subvalue: a split has no arm for its bits, or passes a pointer in it that is refused; or
@@ -102,7 +102,7 @@ module _ (layouts : List Layout) (m : List ImageBlock) where
   abbrev pub IsAtFault : At → ℕ → ℕ → ImageFault → Type 0
   IsAtFault x base place fault =
       (IsSeen x (Err fault) × IsKeptAt (words_asked x) base place × Names fault base place)
-      ⊎ ((s : Seen) × IsSeen x (Ok s) × HasBadPart m s base place fault)
+      ⊎ ((s : Waypoint) × IsSeen x (Ok s) × HasBadPart m s base place fault)
 
 -- Paths --------------------------------------------------------------------------------------
 
@@ -124,7 +124,7 @@ module _ (types : List DataDecl) (layouts : List Layout) (image : Image) (t : �
     pub is_field : field_of types w.here.pat i ≡ Some pos
 
   -- from subvalue s one goes on to the place x: its words stand at the path of the leaf of s along which one goes on
-  abbrev pub LeadsTo : Seen → At → Type 0
+  abbrev pub LeadsTo : Waypoint → At → Type 0
   LeadsTo s x = ◌≡◌ {A = Result (List Kept) ImageFault} (words_on layouts image.blocks s x.ty) (Ok x.words)
 
   -- a step of the path leads to a subvalue of a data type, which stands at the place x

@@ -13,7 +13,7 @@ use Rattle.rb_image.specs.declared.peek.Peeked.{Peeked}
 use Rattle.rb_image.specs.PathSpans.{path_span}
 use Rattle.rb_image.specs.Paths.{HasNoPart, HasPathFault, IsCome, IsFaultless, IsOnPath, IsPathWord, Names}
 use Rattle.rb_image.specs.Rebuilds.{numbers_of, rebuilt}
-use Rattle.rb_image.specs.Roots.{AllFit, IsFirstMisfit, kept_from, widths_of}
+use Rattle.rb_image.specs.Roots.{WordsFit, IsFirstMisfit, kept_from, widths_of}
 use Rattle.rb_image.specs.Walks.{Where}
 
 module _ (types : List DataDecl) (layouts : List Layout) (image : Image) where
@@ -43,7 +43,7 @@ module _ (types : List DataDecl) (layouts : List Layout) (image : Image) where
 
   -- the root words fit the type, and `part` is what stands at the path from the value there
   abbrev pub IsPart : Ty → List ℕ → Peeked → Type 0
-  IsPart ty path part = AllFit (widths_of layouts ty) image.root × IsPartOf ty path part
+  IsPart ty path part = WordsFit (widths_of layouts ty) image.root × IsPartOf ty path part
 
   -- a word on the path has this fault, for which what stands at the end of the path cannot be rebuilt: the leaf of a
   -- subvalue below it has to be known, and does not hold there
@@ -69,7 +69,7 @@ module _ (types : List DataDecl) (layouts : List Layout) (image : Image) where
   abbrev pub IsPartFault : Ty → List ℕ → ImageFault → Type 0
   IsPartFault ty path fault =
       ((i : ℕ) × (fault ≡ BadRoot i) × IsFirstMisfit (widths_of layouts ty) image.root i)
-      ⊎ (AllFit (widths_of layouts ty) image.root × IsFaultOf ty path fault)
+      ⊎ (WordsFit (widths_of layouts ty) image.root × IsFaultOf ty path fault)
 
   -- the sum of the spans of the types on the path from a value of this type at the root words; 0 for an integer
   abbrev pub part_span : Ty → List ℕ → ℕ

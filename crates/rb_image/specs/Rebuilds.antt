@@ -22,10 +22,10 @@ use Rattle.rb_image_text.specs.declared.fault.ImageFault.TheVariants.{Memory}
 use Rattle.rb_image_text.specs.declared.image.ImageBlock.{ImageBlock}
 use Rattle.rb_image.specs.declared.kept.Kept.{Kept}
 use Rattle.rb_image.specs.declared.pack.FieldWords.{FieldWords}
-use Rattle.rb_image.specs.LeafWords.{reached}
+use Rattle.rb_image.specs.LeafWords.{block_addresses}
 use Rattle.rb_image.specs.Orders.{order_of}
 use Rattle.rb_image.specs.Splits.{and_then}
-use Rattle.rb_image.specs.Views.{Standing, along, down, integer_here, settled, words_here}
+use Rattle.rb_image.specs.Views.{LeafPosition, along, down, integer_here, settled, words_here}
 use Rattle.rb_image.specs.Walks.{Where, layout_at}
 use Rattle.rb_image.specs.Ways.{refused_below}
 
@@ -34,10 +34,10 @@ use Rattle.rb_image.specs.Ways.{refused_below}
 -- what a provenance comes to at a position: whether it matches what stands there, or the first fault that keeps this
 -- from being known
 abbrev pub Matching : Type 0
-Matching = Standing → Result Bool ImageFault
+Matching = LeafPosition → Result Bool ImageFault
 
 -- whether the field at a position matches, as `go` says; false where there is no such field
-abbrev pub match_field : Matching → Option Standing → Result Bool ImageFault
+abbrev pub match_field : Matching → Option LeafPosition → Result Bool ImageFault
 match_field go None = Ok false
 match_field go (Some x) = go x
 
@@ -48,14 +48,14 @@ same_con c d = (c.ty == d.ty) && (c.con == d.con)
 module _ (types : List DataDecl) where
   -- whether the fields of what stands at x match, one matching for each from field i on; the first that does not
   -- match or is not known decides, and it is true where none is left
-  abbrev pub match_fields : List Matching → Standing → ℕ → Result Bool ImageFault
+  abbrev pub match_fields : List Matching → LeafPosition → ℕ → Result Bool ImageFault
   match_fields [] x i = Ok true
   match_fields (go ∷ gos) x i =
       and_then (match_field go (down types x i)) (λ so. if so then match_fields gos x (i + 1) else Ok false)
 
   -- whether the pattern given last, that at x, is constructor c, and the fields there match; false of another
   -- constructor, and of a wildcard, a name or a number
-  abbrev pub match_con : ConRef → List Matching → Standing → Pat-F Pat → Result Bool ImageFault
+  abbrev pub match_con : ConRef → List Matching → LeafPosition → Pat-F Pat → Result Bool ImageFault
   match_con c gos x (P.Wild at) = Ok false
   match_con c gos x (P.Var at v) = Ok false
   match_con c gos x (P.Num at n) = Ok false
@@ -88,20 +88,20 @@ module _ (types : List DataDecl) (layouts : List Layout) (m : List ImageBlock) w
 
   -- the first leaf whose provenance is known to match; where none is, the first fault that kept one from being known,
   -- or want of memory where there was none
-  abbrev pub chosen : List Leaf → Standing → Result Leaf ImageFault
+  abbrev pub chosen : List Leaf → LeafPosition → Result Leaf ImageFault
   chosen [] x = Err Memory
   chosen (leaf ∷ leaves) x = or_later (matches leaf.prov x) leaf (chosen leaves x)
 
 -- The words ----------------------------------------------------------------------------------
 
 -- the words of the first of these fields that is at the path; none where no field is
-abbrev pub words_in : List FieldWords → List ℕ → List ℕ
-words_in [] path = []
-words_in (f ∷ fs) path = if same_path f.path path then f.words else words_in fs path
+abbrev pub words_at_path : List FieldWords → List ℕ → List ℕ
+words_at_path [] path = []
+words_at_path (f ∷ fs) path = if same_path f.path path then f.words else words_at_path fs path
 
 -- the words of a leaf without pointers: each part in its place, and 0 elsewhere
 abbrev pub packed : Leaf → List FieldWords → List ℕ
-packed leaf fields = map (word_made (words_in fields) (λ b. 0)) leaf.root
+packed leaf fields = map (word_made (words_at_path fields) (λ b. 0)) leaf.root
 
 -- the numbers of words, without where they are kept
 abbrev pub numbers_of : List Kept → List ℕ
@@ -109,29 +109,29 @@ numbers_of ws = map (λ (w : Kept). w.number) ws
 
 -- what gives the words of the value at a position, which is of the data type with a number, or the first fault
 abbrev pub Rebuilding : Type 0
-Rebuilding = ℕ → Standing → Result (List ℕ) ImageFault
+Rebuilding = ℕ → LeafPosition → Result (List ℕ) ImageFault
 
 module _ (types : List DataDecl) (layouts : List Layout) (m : List ImageBlock) where
   -- the words of the value of data type t at position x, which has this pattern: where any value may stand, those
   -- that stand there; a constructor, which was taken apart, is rebuilt
-  abbrev pub data_words : Rebuilding → ℕ → Standing → Pat-F Pat → Result (List ℕ) ImageFault
+  abbrev pub data_words : Rebuilding → ℕ → LeafPosition → Pat-F Pat → Result (List ℕ) ImageFault
   data_words rebuilt t x (P.Wild at) = Ok (numbers_of (words_here layouts m x t))
   data_words rebuilt t x (P.Var at v) = Ok (numbers_of (words_here layouts m x t))
   data_words rebuilt t x (P.Num at n) = Err Memory
   data_words rebuilt t x (P.Con at c ps) = rebuilt t x
 
   -- the words of what stands at position x and is of this type, or the first fault; an integer is one word
-  abbrev pub words_at : Rebuilding → Ty → Standing → Result (List ℕ) ImageFault
+  abbrev pub words_at : Rebuilding → Ty → LeafPosition → Result (List ℕ) ImageFault
   words_at rebuilt (Int bits) x = Ok (integer_here m x bits ∷ [])
   words_at rebuilt (Named t) x = data_words rebuilt t x (out-Pat x.here.pat)
 
   -- the words of what stands at the end of a path of field numbers from position x on, or the first fault
-  abbrev pub words_along : Rebuilding → Standing → List ℕ → Result (List ℕ) ImageFault
+  abbrev pub words_along : Rebuilding → LeafPosition → List ℕ → Result (List ℕ) ImageFault
   words_along rebuilt x path = and_then (along types layouts m x path) (λ y. words_at rebuilt y.here.ty y)
 
   -- the paths and words of what stands below x at each of these open positions, which are those of the leaf in which
   -- the value at x is rebuilt; or the first fault
-  abbrev pub fields_at : Rebuilding → Standing → List Open → Result (List FieldWords) ImageFault
+  abbrev pub fields_at : Rebuilding → LeafPosition → List Open → Result (List FieldWords) ImageFault
   fields_at rebuilt x [] = Ok []
   fields_at rebuilt x (o ∷ os) =
       and_then (words_along rebuilt x o.path) (λ ws.
@@ -147,23 +147,23 @@ module _ (types : List DataDecl) (layouts : List Layout) (m : List ImageBlock) w
 
   -- The words of what stands at a position, or the first fault. A type that holds another is not held in it, so
   -- values that are rebuilt stand one inside the other at most as many levels deep as there are layouts.
-  abbrev pub words_of : Standing → Result (List ℕ) ImageFault
+  abbrev pub words_of : LeafPosition → Result (List ℕ) ImageFault
   words_of x = words_at (rebuilt_within (length layouts)) x.here.ty x
 
   -- the position at which a walk ends, in the last leaf to which it came, with the words of that and the addresses of
   -- its blocks
-  abbrev pub end_of : Where → Standing
+  abbrev pub end_of : Where → LeafPosition
   end_of w =
       record {
         leaf = w.last.leaf;
         root = w.last.words;
-        addresses = reached m w.last.leaf w.last.words;
+        addresses = block_addresses m w.last.leaf w.last.words;
         at = w.last.at;
         here = w.here;
       }
 
   -- the words of what stands at position x, or the fault that is given, where there is one
-  abbrev pub unless_refused : Option ImageFault → Standing → Result (List ℕ) ImageFault
+  abbrev pub unless_refused : Option ImageFault → LeafPosition → Result (List ℕ) ImageFault
   unless_refused None x = words_of x
   unless_refused (Some fault) x = Err fault
 

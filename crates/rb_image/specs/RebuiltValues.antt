@@ -16,7 +16,7 @@ use Rattle.rb_core.specs.Matching.{matches_of}
 use Rattle.rb_core.specs.TypedPrograms.{IsTyped}
 use Rattle.rb_core.specs.Values.{is_of_type, part_at}
 use Rattle.rb_bytes.specs.Memory.{Memory, IsGood}
-use Rattle.rb_layout.specs.A9.{HasPointerPart, cons_of}
+use Rattle.rb_layout.specs.A9.{HasPointerPart, pattern_cons}
 use Rattle.rb_layout.specs.Agreement.{Agrees}
 use Rattle.rb_layout.specs.Flattening.{flat_layouts}
 use Rattle.rb_layout.specs.Positions.{Open, opens_of}
@@ -27,7 +27,7 @@ use Rattle.rb_image_text.specs.declared.fault.ImageFault.TheVariants.{Memory as 
 use Rattle.rb_image_text.specs.declared.image.ImageBlock.{ImageBlock}
 use Rattle.rb_image.specs.Rebuilds.{words_of}
 use Rattle.rb_image.specs.TakenApart.{open_words}
-use Rattle.rb_image.specs.Views.{Standing}
+use Rattle.rb_image.specs.Views.{LeafPosition}
 
 -- whether a pattern has no numbers, given this of each of its fields: a wildcard or name has none
 abbrev pub plain_step : Pat-F Bool → Bool
@@ -37,21 +37,21 @@ plain_step (P.Num at n) = false
 plain_step (P.Con at c ps) = list_all (λ so. so) ps
 
 -- whether a pattern has no numbers, however deep inside it
-abbrev pub is_plain : Pat → Bool
-is_plain = fold-Pat Bool plain_step
+abbrev pub is_numberless : Pat → Bool
+is_numberless = fold-Pat Bool plain_step
 
 module _ (p : Program) where
   -- a pattern of a type, as it stands below the root of a provenance: it has no numbers, and the types that it takes
   -- apart have no pointers
   pub record IsInner (pat : Pat) (ty : Ty) : Type 0 where
     pub fits : fits_type p.types pat ty ≡ true
-    pub plain : is_plain pat ≡ true
-    pub free : (k : ℕ) (c : ConRef) → slice_get (cons_of pat) k ≡ Some c → HasPointerPart (flat_layouts p) c.ty → ⊥
+    pub plain : is_numberless pat ≡ true
+    pub free : (k : ℕ) (c : ConRef) → slice_get (pattern_cons pat) k ≡ Some c → HasPointerPart (flat_layouts p) c.ty → ⊥
 
   module _ (m : Memory) (blocks : List ImageBlock) where
     -- a value stands at a position that has a pattern of a type: the pattern matches it, and what stands open below
     -- has words that represent the parts there
-    pub record ValueStands (x : Standing) (v : Value) (pat : Pat) (ty : Ty) : Type 0 where
+    pub record ValueStands (x : LeafPosition) (v : Value) (pat : Pat) (ty : Ty) : Type 0 where
       pub is_pat : x.here.pat ≡ pat
       pub is_ty : x.here.ty ≡ ty
       pub inner : IsInner pat ty
@@ -71,5 +71,5 @@ module _ (p : Program) where
 -- wanting
 abbrev pub RebuiltWordsRepresent : Type 0
 RebuiltWordsRepresent = (p : Program) → IsTyped p → Agrees p → (m : Memory) → IsGood m → (blocks : List ImageBlock)
-    → (x : Standing) (v : Value) (pat : Pat) (ty : Ty) → ValueStands p m blocks x v pat ty
+    → (x : LeafPosition) (v : Value) (pat : Pat) (ty : Ty) → ValueStands p m blocks x v pat ty
     → AreRight p m blocks ty v (words_of p.types (flat_layouts p) blocks x)

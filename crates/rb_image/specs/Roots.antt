@@ -17,14 +17,14 @@ use Rattle.rb_image.specs.Sound.{Looking, IsSound, HasFault}
 -- Widths -------------------------------------------------------------------------------------
 
 -- the widths of the root words of a layout; none where there is no layout
-abbrev pub shape_of : Option Layout → List ℕ
-shape_of None = []
-shape_of (Some layout) = layout.shape
+abbrev pub layout_widths : Option Layout → List ℕ
+layout_widths None = []
+layout_widths (Some layout) = layout.shape
 
 -- the widths in bits of the words of a value of a type; none for a data type that has no layout
 abbrev pub widths_of : List Layout → Ty → List ℕ
 widths_of layouts (Int bits) = bits ∷ []
-widths_of layouts (Named t) = shape_of (layout_of layouts t)
+widths_of layouts (Named t) = layout_widths (layout_of layouts t)
 
 -- a word is below 2 ^ its width, and there is one exactly where there is a width
 abbrev pub WordFits : Option ℕ → Option ℕ → Type 0
@@ -38,8 +38,8 @@ abbrev pub FitsAt : List ℕ → List ℕ → ℕ → Type 0
 FitsAt widths words i = WordFits (slice_get widths i) (slice_get words i)
 
 -- there are as many words as widths, and each word is below 2 ^ its width
-abbrev pub AllFit : List ℕ → List ℕ → Type 0
-AllFit widths words = (i : ℕ) → FitsAt widths words i
+abbrev pub WordsFit : List ℕ → List ℕ → Type 0
+WordsFit widths words = (i : ℕ) → FitsAt widths words i
 
 -- word i is the first that does not fit: it is missing, too many or too wide
 pub record IsFirstMisfit (widths : List ℕ) (words : List ℕ) (i : ℕ) : Type 0 where
@@ -72,11 +72,12 @@ RootHasFault look (Named t) words fault = HasFault look (root_at t words) fault
 module _ (types : List DataDecl) (layouts : List Layout) (image : Image) (ty : Ty) where
   -- the root words fit the type, and the image is sound from them on
   pub record IsSoundImage : Type 0 where
-    pub fit : AllFit (widths_of layouts ty) image.root
+    pub fit : WordsFit (widths_of layouts ty) image.root
     pub sound : RootIsSound (look types layouts image.blocks) ty image.root
 
   -- this is the image's first fault: of the first root word that does not fit, or else the first from the root on
   abbrev pub IsFirstImageFault : ImageFault → Type 0
   IsFirstImageFault fault =
       ((i : ℕ) × (fault ≡ BadRoot i) × IsFirstMisfit (widths_of layouts ty) image.root i)
-      ⊎ (AllFit (widths_of layouts ty) image.root × RootHasFault (look types layouts image.blocks) ty image.root fault)
+      ⊎ (WordsFit (widths_of layouts ty) image.root
+      × RootHasFault (look types layouts image.blocks) ty image.root fault)

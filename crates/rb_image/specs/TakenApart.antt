@@ -19,10 +19,10 @@ use Rattle.rb_rel.specs.Relation.{Represents}
 use Rattle.rb_image_text.specs.declared.image.ImageBlock.{ImageBlock}
 use Rattle.rb_image.specs.declared.kept.Kept.{Kept}
 use Rattle.rb_image.specs.Rebuilds.{numbers_of}
-use Rattle.rb_image.specs.Views.{Standing, from_root, integer_here, taken_apart, words_here}
+use Rattle.rb_image.specs.Views.{LeafPosition, from_root, integer_here, taken_apart, words_here}
 
 -- the words of what stands open at a path of the leaf of x: one of an integer, and those of a value of a data type
-abbrev pub open_words : List Layout → List ImageBlock → Standing → List ℕ → Ty → List ℕ
+abbrev pub open_words : List Layout → List ImageBlock → LeafPosition → List ℕ → Ty → List ℕ
 open_words layouts m x path (Int bits) = integer_here m (record x { at = path }) bits ∷ []
 open_words layouts m x path (Named t) = numbers_of (words_here layouts m (record x { at = path }) t)
 

@@ -14,7 +14,7 @@ use Rattle.rb_image_text.specs.declared.fault.ImageFault.TheVariants.{Memory}
 use Rattle.rb_image_text.specs.declared.image.ImageBlock.{ImageBlock}
 use Rattle.rb_image.specs.declared.kept.Kept.{Kept}
 use Rattle.rb_image.specs.Fields.{Position, field_of}
-use Rattle.rb_image.specs.Integers.{field_bit, numbered}
+use Rattle.rb_image.specs.Integers.{field_bit, number_of_bits}
 use Rattle.rb_image.specs.Orders.{order_of}
 use Rattle.rb_image.specs.Parts.{addresses_of, bits_at, field_word, field_words}
 use Rattle.rb_image.specs.Splits.{and_then, leaf_at, or_fault}
@@ -22,7 +22,7 @@ use Rattle.rb_image.specs.Walks.{layout_at, leaf_or_none, open_data}
 
 -- a position in a leaf: the leaf, the words of its root, the addresses of its blocks, the path from the root, and
 -- what its provenance has there
-pub record Standing : Type 0 where
+pub record LeafPosition : Type 0 where
   pub leaf : Leaf
   pub root : List Kept
   pub addresses : List ℕ
@@ -30,7 +30,7 @@ pub record Standing : Type 0 where
   pub here : Position
 
 -- the position of a value of data type t at the root of its leaf, whose words are ws; no address of a block is known
-abbrev pub from_root : ℕ → List Kept → Leaf → Standing
+abbrev pub from_root : ℕ → List Kept → Leaf → LeafPosition
 from_root t ws leaf = record {
   leaf = leaf;
   root = ws;
@@ -40,50 +40,50 @@ from_root t ws leaf = record {
 }
 
 -- the position of field i below x, where the provenance has pos there; none where it has no such field
-abbrev pub down_to : Standing → ℕ → Option Position → Option Standing
+abbrev pub down_to : LeafPosition → ℕ → Option Position → Option LeafPosition
 down_to x i None = None
 down_to x i (Some pos) = Some (record x { at = x.at ++ i ∷ []; here = pos })
 
 -- the position of field i: none where no constructor stands here, or one that has no such field
-abbrev pub down : List DataDecl → Standing → ℕ → Option Standing
+abbrev pub down : List DataDecl → LeafPosition → ℕ → Option LeafPosition
 down types x i = down_to x i (field_of types x.here.pat i)
 
 -- A value that has no pointers is looked at without an image: its splits lead to its leaf, and each constant of that
 -- is there, or this is the first fault.
-abbrev pub taken_apart : List Layout → ℕ → List Kept → Result Standing ImageFault
+abbrev pub taken_apart : List Layout → ℕ → List Kept → Result LeafPosition ImageFault
 taken_apart layouts t ws =
     and_then (leaf_at (layout_at layouts t).tree [] ws) (λ n.
     let leaf = leaf_or_none (slice_get (layout_at layouts t).leaves n) in
     and_then (addresses_of [] leaf ws) (λ none. Ok (from_root t ws leaf)))
 
 -- the integer of so many bits that stands at position x; a bit that no part of the leaf holds is 0
-abbrev pub integer_here : List ImageBlock → Standing → ℕ → ℕ
+abbrev pub integer_here : List ImageBlock → LeafPosition → ℕ → ℕ
 integer_here m x bits =
-    numbered bits (field_bit (λ s. (bits_at m x.root x.addresses s).number) (Int bits) (order_of x.leaf) x.at)
+    number_of_bits bits (field_bit (λ s. (bits_at m x.root x.addresses s).number) (Int bits) (order_of x.leaf) x.at)
 
 module _ (layouts : List Layout) (m : List ImageBlock) where
   -- the words of the value of data type t that stands open at position x: for each the bits of the first part of the
   -- leaf that holds it, the number 0 where none does
-  abbrev pub words_here : Standing → ℕ → List Kept
+  abbrev pub words_here : LeafPosition → ℕ → List Kept
   words_here x t = field_words (field_word m x.root x.addresses (order_of x.leaf)) x.at 0 (word_count layouts (Named t))
 
   -- where one goes on from position x: where a data type is given, from the root of the leaf of the value at x, or
   -- there is the first fault of that; else from x itself
-  abbrev pub settled_at : Standing → Option ℕ → Result Standing ImageFault
+  abbrev pub settled_at : LeafPosition → Option ℕ → Result LeafPosition ImageFault
   settled_at x None = Ok x
   settled_at x (Some t) = taken_apart layouts t (words_here x t)
 
   -- where one goes on from position x: where any value of a data type may stand, from the root of that value's own
   -- leaf, or there is the first fault of that; else from x itself
-  abbrev pub settled : Standing → Result Standing ImageFault
+  abbrev pub settled : LeafPosition → Result LeafPosition ImageFault
   settled x = settled_at x (open_data x.here)
 
 module _ (types : List DataDecl) (layouts : List Layout) (m : List ImageBlock) where
   -- the position of field i of the value at x, or the first fault; want of memory where there is no such field
-  abbrev pub step_down : Standing → ℕ → Result Standing ImageFault
+  abbrev pub step_down : LeafPosition → ℕ → Result LeafPosition ImageFault
   step_down x i = and_then (settled layouts m x) (λ y. or_fault (down types y i) Memory)
 
   -- the position to which a path of field numbers leads from x, or the first fault on the way
-  abbrev pub along : Standing → List ℕ → Result Standing ImageFault
+  abbrev pub along : LeafPosition → List ℕ → Result LeafPosition ImageFault
   along x [] = Ok x
   along x (i ∷ path) = and_then (step_down x i) (λ y. along y path)

@@ -17,7 +17,7 @@ use Rattle.rb_image_text.specs.declared.image.ImageBlock.{ImageBlock}
 use Rattle.rb_image.specs.declared.kept.Kept.{Kept}
 use Rattle.rb_image.specs.declared.visit.Visited.{Visited}
 use Rattle.rb_image.specs.FieldSites.{HasNarrowParts}
-use Rattle.rb_image.specs.LeafWords.{HasNumbers, reached}
+use Rattle.rb_image.specs.LeafWords.{HasNumbers, block_addresses}
 use Rattle.rb_image.specs.Orders.{order_of}
 use Rattle.rb_image.specs.Spans.{tree_span, word_span}
 use Rattle.rb_image.specs.Splits.{leaf_at}
@@ -46,7 +46,7 @@ pub record IsVisited (m : List ImageBlock) (layout : Layout) (ws : List Kept) (x
   pub leads : ◌≡◌ {A = Result ℕ ImageFault} (leaf_at layout.tree m ws) (Ok number)
   pub is_leaf : slice_get layout.leaves number ≡ Some x.leaf.now
   pub root : x.words.root.items ≡ ws
-  pub addresses : x.words.addresses.items ≡ reached m x.leaf.now ws
+  pub addresses : x.words.addresses.items ≡ block_addresses m x.leaf.now ws
   pub numbers : HasNumbers m x.leaf.now x.words
 
 -- the splits of a layout, and the flat words of all its leaves: the part of a type's span that is its own

@@ -25,7 +25,7 @@ use Rattle.rb_image.specs.declared.walk.Passed.{Passed}
 use Rattle.rb_image.specs.declared.walk.Walk.{Walk}
 use Rattle.rb_image.specs.FieldSites.{AreNarrow, HasNarrowParts}
 use Rattle.rb_image.specs.Fields.{Position, field_of, position_of}
-use Rattle.rb_image.specs.LeafWords.{HasNumbers, reached}
+use Rattle.rb_image.specs.LeafWords.{HasNumbers, block_addresses}
 use Rattle.rb_image.specs.Orders.{order_of}
 use Rattle.rb_image.specs.Parts.{field_word, field_words}
 use Rattle.rb_image.specs.Sites.{kept_of}
@@ -35,7 +35,7 @@ use Rattle.rb_image.specs.Ways.{refused_below}
 
 -- a subvalue of a data type that was come to: its type, the words at which it stands, its leaf, and the path inside
 -- the leaf along which one goes on from it
-pub record Seen : Type 0 where
+pub record Waypoint : Type 0 where
   pub ty : ℕ
   pub words : List Kept
   pub leaf : Leaf
@@ -44,8 +44,8 @@ pub record Seen : Type 0 where
 -- how far one has come: the subvalues of data types before,
 -- outer ones first, the last of them, and the position in its leaf
 pub record Where : Type 0 where
-  pub before : List Seen
-  pub last : Seen
+  pub before : List Waypoint
+  pub last : Waypoint
   pub here : Position
 
 -- Leaves -------------------------------------------------------------------------------------
@@ -84,7 +84,7 @@ unless None ws = Ok ws
 unless (Some fault) ws = Err fault
 
 -- how far one has come at the root of the leaf of subvalue s, after the subvalues `before`
-abbrev pub arrived : List Seen → Seen → Where
+abbrev pub arrived : List Waypoint → Waypoint → Where
 arrived before s = record { before = before; last = s; here = record { pat = s.leaf.prov; ty = Named s.ty } }
 
 -- how far one has come after a step from w to field i inside the same leaf, which has pos there
@@ -92,9 +92,9 @@ abbrev pub moved : Where → ℕ → Position → Where
 moved w i pos = record { before = w.before; last = record w.last { at = w.last.at ++ i ∷ [] }; here = pos }
 
 -- the number that `go` gives of what was found, and 0 of a fault
-abbrev pub counted : {A : Type 0} → Result A ImageFault → (A → ℕ) → ℕ
-counted (Err fault) go = 0
-counted (Ok x) go = go x
+abbrev pub count_found : {A : Type 0} → Result A ImageFault → (A → ℕ) → ℕ
+count_found (Err fault) go = 0
+count_found (Ok x) go = go x
 
 -- the layout of the data type with this number, an empty one where there is none
 abbrev pub layout_at : List Layout → ℕ → Layout
@@ -103,16 +103,16 @@ layout_at layouts t = layout_or_none (layout_of layouts t)
 module _ (layouts : List Layout) (m : List ImageBlock) where
   -- the subvalue of the data type with a number at these words, with no step inside its leaf, or the first fault of
   -- its splits
-  abbrev pub see : ℕ → List Kept → Result Seen ImageFault
+  abbrev pub see : ℕ → List Kept → Result Waypoint ImageFault
   see t ws = let layout = layout_at layouts t in
       and_then (leaf_at layout.tree m ws)
       (λ n. Ok (record { ty = t; words = ws; leaf = leaf_or_none (slice_get layout.leaves n); at = [] }))
 
   -- the words of the value of data type t that stands at the path along which one goes on from subvalue s, or the
   -- first pointer that is refused on the way
-  abbrev pub words_on : Seen → ℕ → Result (List Kept) ImageFault
+  abbrev pub words_on : Waypoint → ℕ → Result (List Kept) ImageFault
   words_on s t =
-      let ats = reached m s.leaf s.words in
+      let ats = block_addresses m s.leaf s.words in
       unless (refused_below m s.leaf s.words ats s.at (order_of s.leaf))
       (field_words (field_word m s.words ats (order_of s.leaf)) s.at 0 (word_count layouts (Named t)))
 
@@ -159,17 +159,18 @@ module _ (types : List DataDecl) (layouts : List Layout) (m : List ImageBlock) w
   steps_span k w [] = 0
   steps_span k w (i ∷ path) =
       open_span layouts (field_of types w.here.pat i)
-      + counted (step types layouts m k w i) (λ v. steps_span (k + 1) v path)
+      + count_found (step types layouts m k w i) (λ v. steps_span (k + 1) v path)
 
   -- the sum of the own spans of data type t and of those to whose leaves one comes along a path from a value of it;
   -- one on the way to whose leaf a fault ends the walk counts too
   abbrev pub walk_span : ℕ → List Kept → List ℕ → ℕ
-  walk_span t ws path = span_at layouts (Some t) + counted (see layouts m t ws) (λ s. steps_span 0 (arrived [] s) path)
+  walk_span t ws path = span_at layouts (Some t) + count_found (see layouts m t ws)
+      (λ s. steps_span 0 (arrived [] s) path)
 
 -- What was passed ----------------------------------------------------------------------------
 
 -- the subvalue that a `Passed` of the code is, without its sites
-abbrev pub seen_of : Passed → Seen
+abbrev pub seen_of : Passed → Waypoint
 seen_of x = record { ty = x.ty; words = x.visited.words.root.items; leaf = x.visited.leaf.now; at = x.at }
 
 -- how far one has come, as a `Walk` of the code has it
@@ -182,7 +183,8 @@ pub record IsPassed (image : Image) (x : Passed) : Type 0 where
   pub words : map (kept_of image) x.sites.items ≡ x.visited.words.root.items
   pub readable : IsReadable x.visited.leaf.now
   pub parts : HasNarrowParts x.visited.leaf.now
-  pub addresses : x.visited.words.addresses.items ≡ reached image.blocks x.visited.leaf.now x.visited.words.root.items
+  pub addresses : x.visited.words.addresses.items
+      ≡ block_addresses image.blocks x.visited.leaf.now x.visited.words.root.items
   pub numbers : HasNumbers image.blocks x.visited.leaf.now x.visited.words
 
 -- each subvalue on walk w, the last included, stands at its sites, and the words of its leaf were read

@@ -13,8 +13,8 @@ use Rattle.rb_layout.specs.declared.layout.Leaf.{Leaf}
 use Rattle.rb_image_text.specs.declared.fault.ImageFault.{ImageFault}
 use Rattle.rb_image_text.specs.declared.image.ImageBlock.{ImageBlock}
 use Rattle.rb_image.specs.declared.kept.Kept.{Kept}
-use Rattle.rb_image.specs.Orders.{PartAt, behind, block_order}
-use Rattle.rb_image.specs.Parts.{bits_at, followed}
+use Rattle.rb_image.specs.Orders.{LocatedPart, pointed_parts, block_order}
+use Rattle.rb_image.specs.Parts.{bits_at, pointer_lead}
 
 -- whether a part of this kind holds a word or bits of a field whose path begins with the given one
 abbrev pub is_below : List ℕ → Kind → Bool
@@ -27,8 +27,8 @@ is_below path (Pointer align b) = false
 -- parts behind its pointer does
 abbrev pub leads_below : Leaf → List ℕ → Kind → Bool
 leads_below leaf path kind =
-    is_below path kind || list_any (λ (s : PartAt). is_below path s.part.kind)
-    (behind (block_order leaf (length leaf.blocks)) kind)
+    is_below path kind || list_any (λ (s : LocatedPart). is_below path s.part.kind)
+    (pointed_parts (block_order leaf (length leaf.blocks)) kind)
 
 -- the fault of a result, none where it is no fault
 abbrev pub fault_of : {A : Type 0} → Result A ImageFault → Option ImageFault
@@ -41,17 +41,17 @@ abbrev pub refusal_of : List ImageBlock → Leaf → Kept → Kind → Option Im
 refusal_of m leaf bits (Const c) = None
 refusal_of m leaf bits (Bits path a) = None
 refusal_of m leaf bits (Word path j) = None
-refusal_of m leaf bits (Pointer align b) = fault_of (followed m leaf bits align b)
+refusal_of m leaf bits (Pointer align b) = fault_of (pointer_lead m leaf bits align b)
 
 -- the fault of a part, if it is a pointer on the way to what stands at a path of the leaf or below it, and is
 -- refused; else none
-abbrev pub refused_at : List ImageBlock → Leaf → List Kept → List ℕ → List ℕ → PartAt → Option ImageFault
+abbrev pub refused_at : List ImageBlock → Leaf → List Kept → List ℕ → List ℕ → LocatedPart → Option ImageFault
 refused_at m leaf ws ats path s =
     if leads_below leaf path s.part.kind then refusal_of m leaf (bits_at m ws ats s) s.part.kind else None
 
 -- the first fault among these parts of a leaf that are pointers on the way to what stands at a path of it or below;
 -- none where none of them is refused
-abbrev pub refused_below : List ImageBlock → Leaf → List Kept → List ℕ → List ℕ → List PartAt → Option ImageFault
+abbrev pub refused_below : List ImageBlock → Leaf → List Kept → List ℕ → List ℕ → List LocatedPart → Option ImageFault
 refused_below m leaf ws ats path [] = None
 refused_below m leaf ws ats path (s ∷ ss) =
     option_or (refused_at m leaf ws ats path s) (refused_below m leaf ws ats path ss)

@@ -12,7 +12,7 @@ ghost use Rattle.rb_layout.specs.Positions.{opens_below, opens_of, types_or_none
 ghost use Rattle.rb_coding.specs.FewFields.{AreFew, HaveFewFields};
 ghost use Rattle.rb_image.specs.Parts as spec;
 ghost use Rattle.rb_image.specs.Parts.{ats_of};
-ghost use Rattle.rb_image.specs.inner.Opening.{opened, word_of};
+ghost use Rattle.rb_image.specs.inner.Opening.{opened, examined_word};
 ghost use Rattle.rb_image_text.specs.Places.{AreInPlace};
 
 use crate::kept::{Kept, Place};
@@ -42,7 +42,7 @@ pub struct Examined<'a> {
 
 /// Whether a part of this kind holds word `number` of the field at a path.
 pub(crate) fn holds(kind: &Kind, path: &[u32], number: u64) -> bool
-    ensures { result ≡ spec.holds kind.now path.now number }
+    ensures { result ≡ spec.is_field_word kind.now path.now number }
 {
     match kind {
         Kind::Const(_) => false,
@@ -57,7 +57,7 @@ impl<'a> Examined<'a> {
     // where none does.
     fn word(&self, path: &[u32], number: u64) -> Kept
         requires placed { AreInPlace self.now.memory.now }
-        ensures { result ≡ word_of self.now path.now number }
+        ensures { result ≡ examined_word self.now path.now number }
     {
         for spot in self.order {
             if holds(&spot.part.kind, path, number) {
@@ -75,7 +75,7 @@ impl<'a> Examined<'a> {
     // The first `count` words of the field at a path.
     fn words_of(&self, alloc: Global, path: &[u32], count: usize) -> Result<Vec<Kept>, AllocError>
         requires placed { AreInPlace self.now.memory.now }
-        ensures { IfOk result (λ words. words.items ≡ spec.field_words (word_of self.now) path.now 0 count) }
+        ensures { IfOk result (λ words. words.items ≡ spec.field_words (examined_word self.now) path.now 0 count) }
     {
         let mut words = Vec::new(alloc);
         for number in 0..count {
@@ -105,7 +105,7 @@ fn add_place(
 ) -> Result<(), AllocError>
     requires placed { AreInPlace examined.now.memory.now }
     ensures { OnOk result (ats_of places.new.items
-        ≡ ats_of places.old.items ++ spec.place_at examined.now.layouts.now (word_of examined.now) path.now ty) }
+        ≡ ats_of places.old.items ++ spec.place_at examined.now.layouts.now (examined_word examined.now) path.now ty) }
 {
     match ty {
         Ty::Int(_) => Ok(()),

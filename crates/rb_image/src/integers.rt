@@ -10,7 +10,7 @@ ghost use Rattle.rb_core.specs.declared.types.Ty.TheVariants.{Int};
 ghost use Rattle.rb_layout.specs.A6.{holds_unit};
 ghost use Rattle.rb_layout.specs.Readable.{IsReadable};
 ghost use Rattle.rb_image.specs.Integers as spec;
-ghost use Rattle.rb_image.specs.Integers.{field_bit, value_in};
+ghost use Rattle.rb_image.specs.Integers.{field_bit, part_value};
 ghost use Rattle.rb_image.specs.LeafWords.{HasNumbers};
 ghost use Rattle.rb_image.specs.Orders.{order_of};
 ghost use Rattle.rb_image.specs.inner.Viewing.{spots_of};
@@ -72,7 +72,7 @@ impl<'a> Gathered<'a> {
         requires placed { AreInPlace self.now.image.now.blocks }
         requires numbers { HasNumbers self.now.image.now.blocks self.now.leaf.now self.now.words.now }
         requires order { spots_of self.now.order.now ≡ order_of self.now.leaf.now }
-        ensures { (bits : ℕ) → result ≡ field_bit (value_in self.now.image.now.blocks self.now.words.now) (Int bits)
+        ensures { (bits : ℕ) → result ≡ field_bit (part_value self.now.image.now.blocks self.now.words.now) (Int bits)
             (spots_of self.now.order.now) path.now i }
     {
         for spot in self.order {

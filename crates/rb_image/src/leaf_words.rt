@@ -9,7 +9,7 @@ ghost use Rattle.std.specs.Prelude.{◌≡◌, ◌+◌, ◌<◌, ◌≤◌, ℕ,
 ghost use Rattle.std.specs.Prelude.{IfOk, OnOk, slice_get, slice_index, slice_set};
 ghost use Rattle.rb_layout.specs.Readable.{AreShort, IsReadable};
 ghost use Rattle.rb_layout.specs.declared.layout.Leaf.{Leaf};
-ghost use Rattle.rb_image.specs.LeafWords.{HasNumbers, block_span, follow_part, items_or_none, numbers_at, reached};
+ghost use Rattle.rb_image.specs.LeafWords.{HasNumbers, block_span, follow_part, items_or_none, numbers_at, block_addresses};
 ghost use Rattle.rb_image.specs.Orders.{order_of};
 ghost use Rattle.rb_image.specs.Parts.{bits_at};
 ghost use Rattle.rb_image.specs.Sites.{kept_of};
@@ -263,7 +263,7 @@ pub fn read_words<L: Ledger>(
     requires readable { IsReadable leaf.now }
     ensures root { IfOk result (λ found. found.root.items ≡ map (kept_of image.now) sites.now) }
     ensures addresses { IfOk result (λ found.
-        found.addresses.items ≡ reached image.now.blocks leaf.now (map (kept_of image.now) sites.now)) }
+        found.addresses.items ≡ block_addresses image.now.blocks leaf.now (map (kept_of image.now) sites.now)) }
     ensures numbers { IfOk result (λ found. HasNumbers image.now.blocks leaf.now found) }
     ensures least { steps.old.taken ≤ steps.new.taken }
     ensures most { steps.new.taken ≤ steps.old.taken + (length sites.now + block_span leaf.now) }

@@ -6,7 +6,7 @@
 ghost use Rattle.std.specs.Prelude.{◌≡◌, ◌+◌, ◌≤◌, length, IfOk, Some};
 ghost use Rattle.rb_bytes.specs.Laws.{Extends};
 ghost use Rattle.rb_bytes.specs.Memory.{IsGood, IsSize, least_region, most_region, size_at};
-ghost use Rattle.rb_image_text.specs.Images.{AreBlocks};
+ghost use Rattle.rb_image_text.specs.Images.{AreImageBlocks};
 ghost use Rattle.rb_image_text.specs.Places.{AreInPlace};
 ghost use Rattle.rb_image.specs.Memories.{Stand, BlockStands};
 ghost use Rattle.rb_image.specs.inner.Filling.{AreStored, EndBy, with_next};
@@ -117,7 +117,7 @@ fn place_block(memory: &mut CheckedMemory, block: &ImageBlock)
 /// Want of memory, for the region alone.
 pub fn memory_of(alloc: Global, blocks: &[ImageBlock]) -> Result<CheckedMemory, AllocError>
     requires placed { AreInPlace blocks.now }
-    requires sized { AreBlocks blocks.now }
+    requires sized { AreImageBlocks blocks.now }
     ensures good { IfOk result (λ m. IsGood m) }
     ensures stand { IfOk result (λ m. Stand blocks.now m) }
 {

@@ -6,7 +6,7 @@
 ghost use Rattle.std.specs.Prelude.{◌≡◌, IfOk, map};
 ghost use Rattle.rb_coding.specs.Packing.{made_of, word_made};
 ghost use Rattle.rb_rel.proofs.Packing.{number_of};
-ghost use Rattle.rb_image.specs.Rebuilds.{words_in};
+ghost use Rattle.rb_image.specs.Rebuilds.{words_at_path};
 
 use rb_coding::bits::{put_into, take_from};
 use rb_coding::lookup::item;
@@ -24,7 +24,7 @@ pub struct FieldWords {
 
 // The words of the first of the fields that is at the path; none where no field is.
 fn words_in<'a>(fields: &'a [FieldWords], path: &[u32]) -> &'a [u64]
-    ensures { result.now ≡ words_in fields.now path.now }
+    ensures { result.now ≡ words_at_path fields.now path.now }
 {
     for field in fields {
         if same_path(field.path.as_slice(), path) {
@@ -37,7 +37,7 @@ fn words_in<'a>(fields: &'a [FieldWords], path: &[u32]) -> &'a [u64]
 // What a part is to hold: its constant, or the bits or word of a field. A pointer, which no leaf
 // without pointers has, is 0.
 fn number_of(part: &Part, fields: &[FieldWords]) -> u64
-    ensures { result ≡ number_of (words_in fields.now) (λ b. 0) part.now.l part.now.kind }
+    ensures { result ≡ number_of (words_at_path fields.now) (λ b. 0) part.now.l part.now.kind }
 {
     match &part.kind {
         Kind::Const(c) => *c,
@@ -52,7 +52,7 @@ fn number_of(part: &Part, fields: &[FieldWords]) -> u64
 
 // The word with these parts: each in its place with what the fields make it hold, and 0 elsewhere.
 fn pack(parts: &[Part], fields: &[FieldWords]) -> u64
-    ensures { result ≡ made_of (words_in fields.now) (λ b. 0) parts.now }
+    ensures { result ≡ made_of (words_at_path fields.now) (λ b. 0) parts.now }
 {
     let mut word = 0;
     for k in (0..parts.len()).rev() {
@@ -69,7 +69,7 @@ pub(crate) fn pack_all(
     words: &[FlatWord],
     fields: &[FieldWords],
 ) -> Result<Seq<u64>, AllocError>
-    ensures { IfOk result (λ ws. ws ≡ map (word_made (words_in fields.now) (λ b. 0)) words.now) }
+    ensures { IfOk result (λ ws. ws ≡ map (word_made (words_at_path fields.now) (λ b. 0)) words.now) }
 {
     let mut packed = Seq::new(alloc);
     for word in words {

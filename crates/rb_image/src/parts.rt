@@ -78,7 +78,7 @@ pub(crate) fn follow(
 ) -> Result<u64, ImageFault>
     requires placed { AreInPlace memory.now }
     requires readable { IsReadable leaf.now }
-    ensures { result ≡ spec.followed memory.now leaf.now range align block }
+    ensures { result ≡ spec.pointer_lead memory.now leaf.now range align block }
 {
     let address = u128::from(range.number) * u128::from(align);
     let fault = ImageFault::BadPointer(range.base, address);

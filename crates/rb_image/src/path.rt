@@ -9,7 +9,7 @@ ghost use Rattle.rb_core.specs.TypedPrograms.{IsTyped};
 ghost use Rattle.rb_core.specs.declared.types.Ty.TheVariants.{Named};
 ghost use Rattle.rb_image.specs.FieldSites.{AreWords};
 ghost use Rattle.rb_image.specs.Paths.{IsFaultless, IsPathFault, IsWalked};
-ghost use Rattle.rb_image.specs.Roots.{AllFit, kept_from, widths_of};
+ghost use Rattle.rb_image.specs.Roots.{WordsFit, kept_from, widths_of};
 ghost use Rattle.rb_image.specs.Values.{IsDeclared};
 ghost use Rattle.rb_image.specs.Walks as spec;
 ghost use Rattle.rb_image.specs.Walks.{ArePassed};
@@ -66,7 +66,7 @@ pub fn follow_path<'a, L: Ledger>(
 ) -> Result<Walk<'a>, ImageFault>
     requires placed { AreInPlace image.now.blocks }
     requires declared { ty < length agreed.now.covered.program.types }
-    requires fit { AllFit (widths_of agreed.now.layouts (Named ty)) image.now.root }
+    requires fit { WordsFit (widths_of agreed.now.layouts (Named ty)) image.now.root }
     ensures walk { IfOk result (IsWalked agreed.now.covered.program.types agreed.now.layouts image.now ty path.now) }
     ensures passed { IfOk result (ArePassed image.now) }
     ensures declared { IfOk result (λ walk. IsDeclared agreed.now.covered.program.types walk.here.ty) }

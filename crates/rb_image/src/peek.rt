@@ -15,7 +15,7 @@ ghost use Rattle.rb_image.specs.Given.{IsGiven};
 ghost use Rattle.rb_image.specs.PathSpans.{path_span};
 ghost use Rattle.rb_image.specs.Peeking as spec;
 ghost use Rattle.rb_image.specs.Peeking.{IsFaultOf, IsPart, IsPartAt, IsPartFault, IsPartOf, end_words};
-ghost use Rattle.rb_image.specs.Roots.{AllFit, kept_from, widths_of};
+ghost use Rattle.rb_image.specs.Roots.{WordsFit, kept_from, widths_of};
 ghost use Rattle.rb_image.specs.Values.{IsDeclared};
 ghost use Rattle.rb_image.specs.Walks.{ArePassed, walk_span, where_of};
 ghost use Rattle.rb_image_text.specs.Places.{AreInPlace};
@@ -102,7 +102,7 @@ fn peek_data<L: Ledger>(
 ) -> Result<Peeked, ImageFault>
     requires placed { AreInPlace image.now.blocks }
     requires declared { ty < length agreed.now.covered.program.types }
-    requires fit { AllFit (widths_of agreed.now.layouts (Named ty)) image.now.root }
+    requires fit { WordsFit (widths_of agreed.now.layouts (Named ty)) image.now.root }
     ensures part { IfOk result
         (IsPartAt agreed.now.covered.program.types agreed.now.layouts image.now ty path.now) }
     ensures declared { IfOk result (λ part. IsDeclared agreed.now.covered.program.types part.ty) }

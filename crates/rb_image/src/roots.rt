@@ -7,7 +7,7 @@
 ghost use Rattle.std.specs.Prelude.{◌≡◌, ◌↔◌, ◌<◌, ◌^◌, IfOk, IsTrue, MatchOption};
 ghost use Rattle.rb_core.specs.declared.types.Ty.TheVariants.{Named};
 ghost use Rattle.rb_image.specs.Parts.{at_of};
-ghost use Rattle.rb_image.specs.Roots.{AllFit, IsFirstMisfit, root_at, widths_of};
+ghost use Rattle.rb_image.specs.Roots.{WordsFit, IsFirstMisfit, root_at, widths_of};
 
 use crate::kept::{Kept, Place};
 use rb_layout::layout::Layout;
@@ -36,7 +36,7 @@ fn fits(word: u64, width: u64) -> bool
 /// The number of the first word that is missing, too many or too wide; none where all words fit the
 /// widths.
 pub(crate) fn first_misfit(widths: &[u64], words: &[u64]) -> Option<u64>
-    ensures { MatchOption result (AllFit widths.now words.now) (IsFirstMisfit widths.now words.now) }
+    ensures { MatchOption result (WordsFit widths.now words.now) (IsFirstMisfit widths.now words.now) }
 {
     for (i, width) in widths.iter().enumerate() {
         match words.get(i) {

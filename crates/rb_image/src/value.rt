@@ -17,7 +17,7 @@ ghost use Rattle.rb_image.specs.Roots.{IsFirstImageFault, IsSoundImage};
 ghost use Rattle.rb_image.specs.Sound.{IsFault};
 ghost use Rattle.rb_image.specs.Values.{IsDeclared};
 ghost use Rattle.rb_image.specs.inner.Having.{AreSoundWhereTheyDescend, HaveDescents, HaveValues};
-ghost use Rattle.rb_image_text.specs.Images.{AreBlocks};
+ghost use Rattle.rb_image_text.specs.Images.{AreImageBlocks};
 ghost use Rattle.rb_image_text.specs.Places.{AreInPlace};
 ghost use Rattle.rb_image_text.specs.declared.fault.ImageFault.{ImageFault};
 
@@ -65,7 +65,7 @@ fn value_of(
     limit: u64,
 ) -> Result<Forest, ImageFault>
     requires placed { AreInPlace image.now.blocks }
-    requires sized { AreBlocks image.now.blocks }
+    requires sized { AreImageBlocks image.now.blocks }
     requires declared { IsDeclared agreed.now.covered.program.types ty }
     requires sound { IsSoundImage agreed.now.covered.program.types agreed.now.layouts image.now ty }
     ensures { (v : Value) → AreOf agreed.now.covered.program (image_memory image.now.blocks) ty image.now.root v
@@ -97,7 +97,7 @@ pub fn read_image(
     limit: u64,
 ) -> Result<Forest, ImageFault>
     requires placed { AreInPlace image.now.blocks }
-    requires sized { AreBlocks image.now.blocks }
+    requires sized { AreImageBlocks image.now.blocks }
     requires declared { IsDeclared agreed.now.covered.program.types ty }
     ensures value { IfOk result (λ v.
         RootDescends agreed.now.covered.program image.now ty v × (node_count v ≤ limit)) }

@@ -11,7 +11,7 @@ ghost use Rattle.std.specs.Prelude.{◌≡◌, IfOk};
 ghost use Rattle.std.specs.List.{list_any};
 ghost use Rattle.rb_layout.specs.Readable.{IsReadable};
 ghost use Rattle.rb_image.specs.LeafWords.{HasNumbers};
-ghost use Rattle.rb_image.specs.Orders.{PartAt, order_of};
+ghost use Rattle.rb_image.specs.Orders.{LocatedPart, order_of};
 ghost use Rattle.rb_image.specs.Ways as spec;
 ghost use Rattle.rb_image.specs.inner.Reaching.{IsPartOf};
 ghost use Rattle.rb_image.specs.inner.Viewing.{at_of, spots_of};
@@ -40,7 +40,7 @@ fn is_below(path: &[u32], kind: &Kind) -> bool
 
 // Whether one of these parts holds a word or bits of a field whose path begins with this one.
 fn any_below(path: &[u32], order: &[Spot]) -> bool
-    ensures { result ≡ list_any (λ (s : PartAt). spec.is_below path.now s.part.kind) (spots_of order.now) }
+    ensures { result ≡ list_any (λ (s : LocatedPart). spec.is_below path.now s.part.kind) (spots_of order.now) }
 {
     for spot in order {
         if is_below(path, &spot.part.kind) {

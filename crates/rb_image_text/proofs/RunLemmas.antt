@@ -3,7 +3,7 @@ use Rattle.std.proofs.Common.{◌≡◌, ℕ, ◌+◌, ◌*◌, ◌/◌, ◌%◌
 use Rattle.std.specs.Fmt.{decimal}
 use Rattle.std.proofs.lemmas.Fmt.{decimal_by_steps}
 use Rattle.std.proofs.lemmas.Grind.{common_steps}
-use Rattle.rb_image_text.specs.Images.{AreBelow, IsBlock, AreBlocks, IsImage}
+use Rattle.rb_image_text.specs.Images.{AreBelow, IsImageBlock, AreImageBlocks, IsImage}
 use Rattle.rb_image_text.specs.Text.{hex_digit, hexadecimal, words_text, bytes_text, root_text, block_text, blocks_text, image_text}
 use Rattle.rb_image_text.specs.inner.Reading.{empty_at, with_byte, start, feed, then_feed, run}
 use Rattle.rb_image_text.specs.declared.image.ImageBlock.{ImageBlock}
@@ -145,7 +145,7 @@ module _ (root : List ℕ) (blocks : List ImageBlock) where
       let full : nat_lt (length block.bytes) (length block.bytes) ≡ false = grind (arith, common_steps) in
       rw full refl
 
-  block_run : (b : ImageBlock) → IsBlock b → run (Some (at root blocks (Line 0))) (block_text b) ≡ Some (at root (blocks ++ b ∷ []) (Line 0))
+  block_run : (b : ImageBlock) → IsImageBlock b → run (Some (at root blocks (Line 0))) (block_text b) ≡ Some (at root (blocks ++ b ∷ []) (Line 0))
   block_run b h =
       let s : ℕ = length b.bytes in
       let end : List ℕ = bytes_text b.bytes ++ codes "\n" in
@@ -154,7 +154,7 @@ module _ (root : List ℕ) (blocks : List ImageBlock) where
       ∙ follow (Some (at root blocks (Bytes (empty_at b.at) s))) (Some (at root blocks (Bytes b s))) (bytes_text b.bytes) (codes "\n") (bytes_run (empty_at b.at) s b.bytes (omega arith) h.bytes)
       ∙ block_closed b
 
-blocks_run : (root : List ℕ) (blocks bs : List ImageBlock) → AreBlocks bs → run (Some (at root blocks (Line 0))) (blocks_text bs) ≡ Some (at root (blocks ++ bs) (Line 0))
+blocks_run : (root : List ℕ) (blocks bs : List ImageBlock) → AreImageBlocks bs → run (Some (at root blocks (Line 0))) (blocks_text bs) ≡ Some (at root (blocks ++ bs) (Line 0))
 blocks_run root blocks [] h = ap (λ (cs : List ImageBlock). Some (at root cs (Line 0))) (sym (append-nil blocks))
 blocks_run root blocks (b ∷ bs) h =
     follow (Some (at root blocks (Line 0))) (Some (at root (blocks ++ b ∷ []) (Line 0))) (block_text b) (blocks_text bs) (block_run root blocks b h.0)

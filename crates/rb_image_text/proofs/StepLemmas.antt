@@ -4,7 +4,7 @@ use Rattle.std.specs.Fmt.{decimal}
 use Rattle.std.proofs.lemmas.Fmt.{decimal_digit}
 use Rattle.std.proofs.lemmas.List.{take_more}
 use Rattle.std.proofs.lemmas.Grind.{common_steps}
-use Rattle.rb_image_text.specs.Images.{AreBelow, IsBlock, AreBlocks}
+use Rattle.rb_image_text.specs.Images.{AreBelow, IsImageBlock, AreImageBlocks}
 use Rattle.rb_image_text.specs.Text.{hex_digit, hexadecimal, words_text, bytes_text, root_text, block_text, blocks_text}
 use Rattle.rb_image_text.specs.inner.Reading.{hex_of, digit_of, keyed, root_end, root_step, first_hex, prefix_step, more_hex, word_step, first_address, line_step, more_address, address_step, first_size, sizing_step, more_size, empty_at, size_step, upper_half, bytes_step, with_byte, lower_half, half_step, moved, step, feed, run}
 use Rattle.rb_image_text.specs.declared.image.ImageBlock.{ImageBlock}
@@ -69,7 +69,7 @@ IsGoodAt root blocks (Half b s u) = IsPart b s × (length b.bytes < s) × (u < 1
 
 pub record IsGood (p : Reader) : Type 0 where
   pub root : AreBelow (2 ^ 64) p.root
-  pub blocks : AreBlocks p.blocks
+  pub blocks : AreImageBlocks p.blocks
   pub spot : IsGoodAt p.root p.blocks p.spot
 
 -- what is read of these bytes
@@ -90,7 +90,7 @@ below_push : (high : ℕ) (xs : List ℕ) (x : ℕ) → AreBelow high xs → x <
 below_push high [] x h lt = (lt, tt)
 below_push high (y ∷ xs) x h lt = (h.0, below_push high xs x h.1 lt)
 
-blocks_push : (bs : List ImageBlock) (b : ImageBlock) → AreBlocks bs → IsBlock b → AreBlocks (bs ++ b ∷ [])
+blocks_push : (bs : List ImageBlock) (b : ImageBlock) → AreImageBlocks bs → IsImageBlock b → AreImageBlocks (bs ++ b ∷ [])
 blocks_push [] b h is = (is, tt)
 blocks_push (c ∷ bs) b h is = (h.0, blocks_push bs b h.1 is)
 
@@ -198,7 +198,7 @@ module _ (root : List ℕ) (hr : AreBelow (2 ^ 64) root) where
             good = record { root = hr; blocks = tt; spot = (omega (arith, few, told.small), refl) };
           }) (λ _. tt)
 
-module _ (root : List ℕ) (blocks : List ImageBlock) (hr : AreBelow (2 ^ 64) root) (hb : AreBlocks blocks) where
+module _ (root : List ℕ) (blocks : List ImageBlock) (hr : AreBelow (2 ^ 64) root) (hb : AreImageBlocks blocks) where
   abbrev w : List ℕ
   w = whole root blocks
 
@@ -328,7 +328,7 @@ module _ (root : List ℕ) (blocks : List ImageBlock) (hr : AreBelow (2 ^ 64) ro
             bytes = below_push 256 block.bytes (u * 16 + d) part.bytes (omega (arith, small, told.small));
           })
 
-step_leaves : (root : List ℕ) (blocks : List ImageBlock) (spot : Spot) (b : ℕ) → AreBelow (2 ^ 64) root → AreBlocks blocks → IsGoodAt root blocks spot
+step_leaves : (root : List ℕ) (blocks : List ImageBlock) (spot : Spot) (b : ℕ) → AreBelow (2 ^ 64) root → AreImageBlocks blocks → IsGoodAt root blocks spot
     → Leaves (text_of (at root blocks spot) ++ b ∷ []) (moved (at root blocks spot) (step spot b))
 step_leaves [] [] (Root k) b hr hb h = root_leaves k b h.0
 step_leaves (x ∷ root) blocks (Root k) b hr hb h = absurd (cc h.1)

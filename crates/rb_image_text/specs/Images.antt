@@ -10,18 +10,18 @@ AreBelow high [] = Unit {0}
 AreBelow high (n ∷ ns) = (n < high) × AreBelow high ns
 
 -- the block of an image has an address of 64 bits, and 1 to 512 bytes, each below 256
-pub record IsBlock (b : ImageBlock) : Type 0 where
+pub record IsImageBlock (b : ImageBlock) : Type 0 where
   pub at : b.at < 2 ^ 64
   pub some : 1 ≤ length b.bytes
   pub few : length b.bytes ≤ 512
   pub bytes : AreBelow 256 b.bytes
 
 -- each block of a list has an address of 64 bits, and 1 to 512 bytes
-abbrev pub AreBlocks : List ImageBlock → Type 0
-AreBlocks [] = Unit {0}
-AreBlocks (b ∷ bs) = IsBlock b × AreBlocks bs
+abbrev pub AreImageBlocks : List ImageBlock → Type 0
+AreImageBlocks [] = Unit {0}
+AreImageBlocks (b ∷ bs) = IsImageBlock b × AreImageBlocks bs
 
 -- the image has root words of 64 bits, and blocks of 1 to 512 bytes at addresses of 64 bits
 pub record IsImage (i : Image) : Type 0 where
   pub root : AreBelow (2 ^ 64) i.root
-  pub blocks : AreBlocks i.blocks
+  pub blocks : AreImageBlocks i.blocks

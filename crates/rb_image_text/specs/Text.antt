@@ -15,12 +15,12 @@ abbrev pub hexadecimal : ℕ → List ℕ
 hexadecimal n = digits 16 false n
 
 -- a root word in the text of an image: a blank, `0x`, and the word in hexadecimal
-abbrev pub word_text : ℕ → List ℕ
-word_text w = codes " 0x" ++ hexadecimal w
+abbrev pub root_word_text : ℕ → List ℕ
+root_word_text w = codes " 0x" ++ hexadecimal w
 
 -- root words in the text of an image, each behind a blank; nothing where there is none
 abbrev pub words_text : List ℕ → List ℕ
-words_text ws = flat_map word_text ws
+words_text ws = flat_map root_word_text ws
 
 -- a byte of a block as two hexadecimal digits, the upper one first
 abbrev pub byte_text : ℕ → List ℕ

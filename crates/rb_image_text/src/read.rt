@@ -5,7 +5,7 @@
 //! at a byte if the bytes before it and it begin some text of an image.
 
 ghost use Rattle.std.specs.Prelude.{◌≡◌, IfOk, IfErr, ℕ};
-ghost use Rattle.rb_image_text.specs.Images.{AreBlocks, IsImage};
+ghost use Rattle.rb_image_text.specs.Images.{AreImageBlocks, IsImage};
 ghost use Rattle.rb_image_text.specs.Text.{image_text};
 ghost use Rattle.rb_image_text.specs.Stopping.{IsTextOf};
 ghost use Rattle.rb_image_text.specs.Places.{AreInPlace};
@@ -55,7 +55,7 @@ fn read_whole(alloc: Global, bytes: &[u8]) -> Result<Image, ImageFault>
 /// only begin one; else `ImageBlock` with the first block out of its place; or want of memory.
 pub fn read_image_text(alloc: Global, bytes: &[u8]) -> Result<Image, ImageFault>
     ensures text { IfOk result (λ i. IsTextOf bytes.now i) }
-    ensures sized { IfOk result (λ i. AreBlocks i.blocks) }
+    ensures sized { IfOk result (λ i. AreImageBlocks i.blocks) }
     ensures placed { IfOk result (λ i. AreInPlace i.blocks) }
     ensures each { (i : Image_) → IsImage i → AreInPlace i.blocks → bytes.now ≡ image_text i → IsThis i result }
     ensures refusal { IfErr result (λ fault. IsImageRefusal bytes.now fault) }

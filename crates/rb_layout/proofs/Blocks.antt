@@ -19,7 +19,7 @@ use Rattle.rb_layout.specs.declared.layout.Part.{Part}
 use Rattle.rb_layout.specs.declared.layout.Kind.{Kind}
 use Rattle.rb_layout.specs.declared.layout.Kind.TheVariants.{Const, Bits, Word, Pointer}
 use Rattle.rb_layout.specs.Positions.{Open}
-use Rattle.rb_layout.specs.Flattening.{Laying, in_turn, item_laid, kind_laid, part_laid, items_laid, parts_of, whole_kind, kind_if_open, type_at, shape_of, inlined, words_of}
+use Rattle.rb_layout.specs.Flattening.{Laying, in_turn, item_laid, kind_laid, part_laid, items_laid, parts_of, whole_kind, kind_if_open, type_at, shape_of, inlined, inline_words}
 use Rattle.rb_layout.proofs.FlatForms.{Each}
 use Rattle.rb_layout.proofs.WrittenForms.{item-induction}
 use Rattle.rb_layout.proofs.Computing.{word_laid, inline_laid, const_laid, whole_laid, slice_laid, word_of_laid, pointer_laid, part_laid_is}
@@ -250,11 +250,11 @@ no_word_pointer : (path : List ℕ) (j : ℕ) (rest : List Kind) (align b : ℕ)
 no_word_pointer path j rest align b none (inl h) = not_pointer (Word path j) align b (word_not path j) h
 no_word_pointer path j rest align b none (inr h) = none h
 
-no_shape_pointer : (path : List ℕ) (j : ℕ) (widths : List ℕ) (align b : ℕ) → In (Pointer align b) (word_kinds (words_of path j widths)) → ⊥
+no_shape_pointer : (path : List ℕ) (j : ℕ) (widths : List ℕ) (align b : ℕ) → In (Pointer align b) (word_kinds (inline_words path j widths)) → ⊥
 no_shape_pointer path j [] align b at = no_kind align b at
 no_shape_pointer path j (w ∷ widths) align b at =
-    no_word_pointer path j (word_kinds (words_of path (j + 1) widths)) align b (λ h. no_shape_pointer path (j + 1) widths align b h)
-    (in_either (Word path j ∷ []) (word_kinds (words_of path (j + 1) widths)) (Pointer align b) at)
+    no_word_pointer path j (word_kinds (inline_words path (j + 1) widths)) align b (λ h. no_shape_pointer path (j + 1) widths align b h)
+    (in_either (Word path j ∷ []) (word_kinds (inline_words path (j + 1) widths)) (Pointer align b) at)
 
 kinds_in : Option Kind → List Kind
 kinds_in None = []

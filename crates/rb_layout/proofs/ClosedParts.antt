@@ -6,7 +6,7 @@ use Rattle.rb_core.specs.declared.types.Ty.TheVariants.{Int}
 use Rattle.rb_bits.specs.Words.{AreDisjoint}
 use Rattle.rb_layout.specs.Positions.{Open}
 use Rattle.rb_layout.specs.Items.{Whole, WrittenPart}
-use Rattle.rb_layout.specs.A3.{Fits, IsPlaced, LiesIn, PartsFit}
+use Rattle.rb_layout.specs.A3.{Fits, IsContentPlaced, LiesIn, PartsFit}
 
 abbrev written : ℕ → ℕ → WrittenPart
 written l i = record { o = 0; l = l; content = Whole (i ∷ []) }
@@ -17,19 +17,19 @@ parts = written 8 0 ∷ written 70 7 ∷ []
 abbrev opens : List Open
 opens = record { path = 0 ∷ []; ty = Int 8 } ∷ []
 
-not_placed : (q : WrittenPart) → Some (written 70 7) ≡ Some q → IsPlaced opens q.content → ⊥
+not_placed : (q : WrittenPart) → Some (written 70 7) ≡ Some q → IsContentPlaced opens q.content → ⊥
 not_placed q e placed =
-    let h : IsPlaced opens (Whole (7 ∷ [])) = subst (λ (x : WrittenPart). IsPlaced opens x.content) (sym (same_Some _ q e)) placed in
+    let h : IsContentPlaced opens (Whole (7 ∷ [])) = subst (λ (x : WrittenPart). IsContentPlaced opens x.content) (sym (same_Some _ q e)) placed in
     let none = h.1 in
     cc
 
-within : (k : ℕ) (p : WrittenPart) → slice_get parts k ≡ Some p → IsPlaced opens p.content → LiesIn 8 p.o p.l
+within : (k : ℕ) (p : WrittenPart) → slice_get parts k ≡ Some p → IsContentPlaced opens p.content → LiesIn 8 p.o p.l
 within zero p e placed = subst (λ (x : WrittenPart). LiesIn 8 x.o x.l) (same_Some _ p e) (omega arith, omega arith)
 within (suc zero) p e placed = absurd (not_placed p e placed)
 within (suc (suc k)) p e placed = absurd cc
 
 apart : (j k : ℕ) (p q : WrittenPart) → j < k → slice_get parts j ≡ Some p → slice_get parts k ≡ Some q
-    → IsPlaced opens p.content → IsPlaced opens q.content → AreDisjoint p.o p.l q.o q.l
+    → IsContentPlaced opens p.content → IsContentPlaced opens q.content → AreDisjoint p.o p.l q.o q.l
 apart j zero p q lt a b first second = absurd (omega (arith, lt))
 apart j (suc zero) p q lt a b first second = absurd (not_placed q b second)
 apart j (suc (suc k)) p q lt a b first second = absurd cc

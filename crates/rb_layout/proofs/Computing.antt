@@ -27,7 +27,7 @@ use Rattle.rb_layout.specs.declared.layout.Kind.{Kind}
 use Rattle.rb_layout.specs.Positions.{Open, opens_of, opens_step, opens_below, types_or_none}
 use Rattle.rb_layout.specs.declared.layout.FlatTree as Flat
 use Rattle.rb_layout.specs.Splits.{Under}
-use Rattle.rb_layout.specs.Flattening.{Laying, Numbering, numbering, arm_numbering, tree_step, arm_step, item_laid, kind_laid, part_laid, item_step, kind_step, part_step}
+use Rattle.rb_layout.specs.Flattening.{Laying, LeafNumbering, numbering, arm_numbering, tree_step, arm_step, item_laid, kind_laid, part_laid, item_step, kind_step, part_step}
 use Rattle.rb_layout.proofs.WrittenForms as W
 use Rattle.rb_layout.proofs.TreeLemmas.{leaves-Leaf, leaves-Split, leaves-Split-else, arm_leaves-is, arm_numbering-is}
 
@@ -57,13 +57,13 @@ module _ (decls : List LayoutDecl) (opens : List Open) where
   part_laid_is p = fold_out-PartDecl (Laying (List FlatWord)) (Laying (Option Kind)) (Laying (List Part)) (item_step decls opens) (kind_step opens) part_step p
 
 pub numbering-Leaf : (at : ℕ) (prov : Pat) (items : List LayItem) → numbering (S.Leaf at prov items) ≡ tree_step (split.Leaf at prov items)
-numbering-Leaf at prov items = W.fold-Leaf Numbering (Under Numbering) tree_step arm_step at prov items
+numbering-Leaf at prov items = W.fold-Leaf LeafNumbering (Under LeafNumbering) tree_step arm_step at prov items
 
 pub numbering-Split : (loc : Loc) (arms : List Arm) → numbering (S.Split loc arms None) ≡ tree_step (split.Split loc (map arm_numbering arms) None)
-numbering-Split loc arms = W.fold-Split Numbering (Under Numbering) tree_step arm_step loc arms
+numbering-Split loc arms = W.fold-Split LeafNumbering (Under LeafNumbering) tree_step arm_step loc arms
 
 pub numbering-Split-else : (loc : Loc) (arms : List Arm) (other : LayTree) → numbering (S.Split loc arms (Some other)) ≡ tree_step (split.Split loc (map arm_numbering arms) (Some (numbering other)))
-numbering-Split-else loc arms other = W.fold-Split-else Numbering (Under Numbering) tree_step arm_step loc arms other
+numbering-Split-else loc arms other = W.fold-Split-else LeafNumbering (Under LeafNumbering) tree_step arm_step loc arms other
 
 pub opens-Wild : (types : List DataDecl) (at : ℕ) → opens_of types (Wild at) ≡ opens_step types (P.Wild at)
 opens-Wild types at = fold-Wild (Ty → List Open) (opens_step types) at
@@ -96,17 +96,17 @@ module _ (decls : List LayoutDecl) (opens : List Open) (n : ℕ) where
   part_at p = ap (λ (lay : Laying (List Part)). lay n) (part_laid_is decls opens p)
 
 pub from-Leaf : (at : ℕ) (prov : Pat) (items : List LayItem) (n : ℕ) → (numbering (S.Leaf at prov items)).from n ≡ Flat.Leaf n
-from-Leaf at prov items n = ap (λ (t : Numbering). t.from n) (numbering-Leaf at prov items)
+from-Leaf at prov items n = ap (λ (t : LeafNumbering). t.from n) (numbering-Leaf at prov items)
 
 pub count-Leaf : (at : ℕ) (prov : Pat) (items : List LayItem) → (numbering (S.Leaf at prov items)).count ≡ 1
-count-Leaf at prov items = ap (λ (t : Numbering). t.count) (numbering-Leaf at prov items)
+count-Leaf at prov items = ap (λ (t : LeafNumbering). t.count) (numbering-Leaf at prov items)
 
 pub from-Split : (loc : Loc) (arms : List Arm) (n : ℕ) → (numbering (S.Split loc arms None)).from n ≡ (tree_step (split.Split loc (map arm_numbering arms) None)).from n
-from-Split loc arms n = ap (λ (t : Numbering). t.from n) (numbering-Split loc arms)
+from-Split loc arms n = ap (λ (t : LeafNumbering). t.from n) (numbering-Split loc arms)
 
 pub from-Split-else : (loc : Loc) (arms : List Arm) (other : LayTree) (n : ℕ)
     → (numbering (S.Split loc arms (Some other))).from n ≡ (tree_step (split.Split loc (map arm_numbering arms) (Some (numbering other)))).from n
-from-Split-else loc arms other n = ap (λ (t : Numbering). t.from n) (numbering-Split-else loc arms other)
+from-Split-else loc arms other n = ap (λ (t : LeafNumbering). t.from n) (numbering-Split-else loc arms other)
 
 pub opens-at-Wild : (types : List DataDecl) (at : ℕ) (ty : Ty) → opens_of types (Wild at) ty ≡ record { path = []; ty = ty } ∷ []
 opens-at-Wild types at ty = ap (λ (f : Ty → List Open). f ty) (opens-Wild types at)

@@ -11,7 +11,7 @@ use Rattle.rb_layout.specs.declared.layout.FlatWord.{FlatWord}
 use Rattle.rb_layout.specs.declared.layout.WordRef.{WordRef}
 use Rattle.rb_layout.specs.declared.locate.End.{End}
 use Rattle.rb_layout.specs.Words.{flat_at}
-use Rattle.rb_layout.specs.Locations.{Reached, block_at, next_ref, range_in, resolve_from, reached_at, known_in, known, constant_bits}
+use Rattle.rb_layout.specs.Locations.{Reached, pointer_block, next_ref, range_in, resolve_from, reached_at, known_in, known, constant_bits}
 use Rattle.rb_layout.specs.Readable.{IsReadable}
 use Rattle.rb_layout.specs.inner.Ends.{end_of}
 
@@ -47,7 +47,7 @@ ends_in leaf r (Some f) o l x is e = ends_case leaf r f o l x (leb 1 l && leb (o
 ends_from : (leaf : Leaf) (r : Option WordRef) (o l : ℕ) (steps : List Step) (x : Reached) → resolve_from leaf r o l steps ≡ Some x → EndsAt leaf x
 ends_from leaf None o l steps x e = absurd cc
 ends_from leaf (Some r) o l [] x e = ends_in leaf r (flat_at leaf r) o l x refl e
-ends_from leaf (Some r) o l (s ∷ steps) x e = ends_from leaf (next_ref leaf (block_at (flat_at leaf r) o l s.align) s) s.o s.l steps x e
+ends_from leaf (Some r) o l (s ∷ steps) x e = ends_from leaf (next_ref leaf (pointer_block (flat_at leaf r) o l s.align) s) s.o s.l steps x e
 
 pub ends-at : (leaf : Leaf) (loc : Loc) (x : Reached) → reached_at leaf loc ≡ Some x → EndsAt leaf x
 ends-at leaf loc x e = ends_from leaf (Some (record { block = None; word = loc.word })) loc.o loc.l loc.steps x e

@@ -14,7 +14,7 @@ use Rattle.rb_layout.specs.declared.locate.End.{End}
 use Rattle.rb_layout.specs.Words.{flat_at}
 use Rattle.rb_layout.specs.Excluded.{Bars, Excludes}
 use Rattle.rb_layout.specs.inner.Barring.{position_type, same_goal, knows, word_barred, goal_barred}
-use Rattle.rb_layout.specs.inner.Finding.{with_parts, IsIn, AreFresh, AreFound}
+use Rattle.rb_layout.specs.inner.Finding.{with_parts, IsGoalOf, AreFresh, AreFound}
 use Rattle.rb_layout.specs.inner.Settling.{AreTrue, AreSettled}
 use Rattle.rb_layout.proofs.Derivations.{word-bars, PartsIn, BelowIn, bars-found}
 use Rattle.rb_layout.proofs.FindLemmas.{first-of, parts-in}
@@ -33,7 +33,7 @@ module _ (types : List DataDecl) (layouts : List Layout) where
   marked_or_not true b none holds = refl
   marked_or_not false b none holds = absurd (let x = sym holds ∙ none in cc)
 
-  settled_at : (found final : List Entry) → AreSettled types layouts found final → (g : Goal) → IsIn found g
+  settled_at : (found final : List Entry) → AreSettled types layouts found final → (g : Goal) → IsGoalOf found g
       → goal_barred (knows final) types layouts g ≡ true → knows final g ≡ true
   settled_at found final settled g in_found holds =
       let r = first-of final g (settled.keeps g in_found) in
@@ -41,10 +41,10 @@ module _ (types : List DataDecl) (layouts : List Layout) where
       subst (λ h. (not r.entry.barred && goal_barred (knows final) types layouts h) ≡ false) r.same (settled.all r.number r.entry r.is_entry) in
       r.tells ∙ marked_or_not r.entry.barred (goal_barred (knows final) types layouts g) none holds
 
-  below_at : (first found : List Entry) → AreFound types layouts first found → (g : Goal) → IsIn found g → BelowIn types layouts (IsIn found) g
+  below_at : (first found : List Entry) → AreFound types layouts first found → (g : Goal) → IsGoalOf found g → BelowIn types layouts (IsGoalOf found) g
   below_at first found is g in_found =
       let r = first-of found g in_found in
-      subst (λ h. BelowIn types layouts (IsIn found) h) r.same (is.below r.number r.entry r.is_entry)
+      subst (λ h. BelowIn types layouts (IsGoalOf found) h) r.same (is.below r.number r.entry r.is_entry)
 
   module _ (leaf : Leaf) (f : FlatWord) (x : Literal) (first found final : List Entry) where
     pub decided : first ≡ with_parts (position_type types leaf.prov) x [] f.parts → AreFound types layouts first found → AreSettled types layouts found final
@@ -52,10 +52,10 @@ module _ (types : List DataDecl) (layouts : List Layout) where
     decided is are_found are_settled =
         let none : AreTrue types layouts found = λ g h. absurd (not_fresh found g are_found.fresh h) in
         let all = are_settled.true_ones none in
-        let parts : PartsIn types layouts (IsIn found) leaf f x = λ k p h is_part e.
-        are_found.keeps h (subst (λ es. IsIn es h) (sym is) (parts-in (position_type types leaf.prov) x [] f.parts k p h is_part e)) in (
+        let parts : PartsIn types layouts (IsGoalOf found) leaf f x = λ k p h is_part e.
+        are_found.keeps h (subst (λ es. IsGoalOf es h) (sym is) (parts-in (position_type types leaf.prov) x [] f.parts k p h is_part e)) in (
           λ h. word-bars types layouts (knows final) all leaf f x h,
-          λ h. bars-found types layouts (knows final) (IsIn found) (below_at first found are_found) (settled_at found final are_settled) h parts,
+          λ h. bars-found types layouts (knows final) (IsGoalOf found) (below_at first found are_found) (settled_at found final are_settled) h parts,
         )
 
 -- what holds of a word holds of the location that ends there

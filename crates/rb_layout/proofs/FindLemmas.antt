@@ -16,7 +16,7 @@ use Rattle.rb_layout.specs.inner.Barring.{position_type, goal_in, same_goal, kno
 use Rattle.std.proofs.lemmas.Option.{slice_get_within, slice_get-get_or}
 use Rattle.std.proofs.lemmas.Bool.{cases_lt}
 use Rattle.rb_layout.proofs.Derivations.{both, or_is, or_left, or_right, and_of, same_nat, eq_of, goal-part, literal-is}
-use Rattle.rb_layout.specs.inner.Finding.{has_goal, with_found, with_parts, with_root, with_leaf, with_leaves, with_layout, with_below, AreFresh, KeepsGoals, IsIn, HasBelow}
+use Rattle.rb_layout.specs.inner.Finding.{has_goal, with_found, with_parts, with_root, with_leaf, with_leaves, with_layout, with_below, AreFresh, KeepsGoals, IsGoalOf, HasBelow}
 
 pub parts-from : (type_of : List ℕ → Option Ty) (x : Literal) (es : List Entry) (ps : List Part) (k : ℕ) (d : Part) → k < length ps
     → with_parts type_of x es (drop k ps) ≡ with_parts type_of x (with_found es (goal_in type_of x (get_or ps k d))) (drop (k + 1) ps)
@@ -153,7 +153,7 @@ module _ (type_of : List ℕ → Option Ty) (x : Literal) where
   grows_parts es [] = grows_alone es
   grows_parts es (p ∷ ps) = grows_more (grows_found es (goal_in type_of x p)) (grows_parts (with_found es (goal_in type_of x p)) ps)
 
-  pub parts-in : (es : List Entry) (ps : List Part) (k : ℕ) (p : Part) (h : Goal) → slice_get ps k ≡ Some p → goal_in type_of x p ≡ Some h → IsIn (with_parts type_of x es ps) h
+  pub parts-in : (es : List Entry) (ps : List Part) (k : ℕ) (p : Part) (h : Goal) → slice_get ps k ≡ Some p → goal_in type_of x p ≡ Some h → IsGoalOf (with_parts type_of x es ps) h
   parts-in es [] k p h is e = absurd cc
   parts-in es (q ∷ ps) zero p h is e =
       let found : goal_in type_of x q ≡ Some h = ap (goal_in type_of x) (same_Some q p is) ∙ e in
@@ -174,18 +174,18 @@ module _ (types : List DataDecl) (g : Goal) where
   grows_leaves es (leaf ∷ leaves) = grows_more (grows_leaf es leaf) (grows_leaves (with_leaf types g es leaf) leaves)
 
   leaf_in : (es : List Entry) (leaf : Leaf) (f : FlatWord) → slice_get leaf.root g.word ≡ Some f → (k : ℕ) (p : Part) (h : Goal) → slice_get f.parts k ≡ Some p
-      → goal_in (position_type types leaf.prov) g.literal p ≡ Some h → IsIn (with_leaf types g es leaf) h
+      → goal_in (position_type types leaf.prov) g.literal p ≡ Some h → IsGoalOf (with_leaf types g es leaf) h
   leaf_in es leaf f is k p h is_part e =
       ap (λ r. has_goal (with_root (position_type types leaf.prov) g.literal es r) h) is
       ∙ parts-in (position_type types leaf.prov) g.literal es f.parts k p h is_part e
 
   leaves_in : (es : List Entry) (leaves : List Leaf) (n : ℕ) (leaf : Leaf) (f : FlatWord) → slice_get leaves n ≡ Some leaf → slice_get leaf.root g.word ≡ Some f
       → (k : ℕ) (p : Part) (h : Goal) → slice_get f.parts k ≡ Some p
-      → goal_in (position_type types leaf.prov) g.literal p ≡ Some h → IsIn (with_leaves types g es leaves) h
+      → goal_in (position_type types leaf.prov) g.literal p ≡ Some h → IsGoalOf (with_leaves types g es leaves) h
   leaves_in es [] n leaf f is_leaf is k p h is_part e = absurd cc
   leaves_in es (y ∷ ys) zero leaf f is_leaf is k p h is_part e =
-      let here : IsIn (with_leaf types g es y) h =
-      subst (λ (z : Leaf). IsIn (with_leaf types g es z) h) (sym (same_Some y leaf is_leaf)) (leaf_in es leaf f is k p h is_part e) in
+      let here : IsGoalOf (with_leaf types g es y) h =
+      subst (λ (z : Leaf). IsGoalOf (with_leaf types g es z) h) (sym (same_Some y leaf is_leaf)) (leaf_in es leaf f is k p h is_part e) in
       (grows_leaves (with_leaf types g es y) ys).keeps h here
   leaves_in es (y ∷ ys) (suc n) leaf f is_leaf is k p h is_part e = leaves_in (with_leaf types g es y) ys n leaf f is_leaf is k p h is_part e
 

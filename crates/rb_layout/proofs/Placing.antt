@@ -21,8 +21,8 @@ use Rattle.rb_layout.specs.declared.layout.Kind.{Kind}
 use Rattle.rb_layout.specs.declared.layout.Kind.TheVariants.{Bits, Word}
 use Rattle.rb_layout.specs.Positions.{Open, open_positions}
 use Rattle.rb_layout.specs.Flattening.{Laying, in_turn, item_laid, kind_laid, part_laid, items_laid, parts_of, whole_kind, kind_if_open, type_at}
-use Rattle.rb_layout.specs.Items.{Content, Number, Whole, Slice, WordOf, Address, WrittenPart, Item, AWord, AField, Around, plain, item_list, item_lists, item_step, kind_step, part_step, items_inside}
-use Rattle.rb_layout.specs.Placing.{Standing, stands, standing, standing_in, part_placed, whole_placed, if_open, placed, EachStandsOnce}
+use Rattle.rb_layout.specs.Items.{Content, Number, Whole, Slice, WordOf, Address, WrittenPart, Item, AWord, AField, Around, plain, item_list, item_lists, items_step, content_step, written_part_step, items_inside}
+use Rattle.rb_layout.specs.Placing.{Standing, stands, standing, standing_in, part_placed, whole_placed, if_open, parts_placed, EachStandsOnce}
 use Rattle.rb_layout.proofs.FlatForms.{Each}
 use Rattle.rb_layout.proofs.WrittenForms as W
 use Rattle.rb_layout.proofs.WrittenForms.{item-induction}
@@ -31,34 +31,34 @@ use Rattle.rb_layout.proofs.Computing.{word_laid, inline_laid, const_laid, whole
 -- Items, form by form -------------------------------------------------------------------------------
 
 abbrev kind_around : PartKind → Around Content
-kind_around = fold-PartKind (List Item) (Around Content) (Around WrittenPart) item_step kind_step part_step
+kind_around = fold-PartKind (List Item) (Around Content) (Around WrittenPart) items_step content_step written_part_step
 
 abbrev part_around : PartDecl → Around WrittenPart
-part_around = fold-PartDecl (List Item) (Around Content) (Around WrittenPart) item_step kind_step part_step
+part_around = fold-PartDecl (List Item) (Around Content) (Around WrittenPart) items_step content_step written_part_step
 
 list-Word : (width : ℕ) (parts : List PartDecl) → item_list (I.Word width parts) ≡ AWord width (map (λ (p : Around WrittenPart). p.it) (map part_around parts)) ∷ items_inside (map part_around parts)
-list-Word width parts = W.fold-Word (List Item) (Around Content) (Around WrittenPart) item_step kind_step part_step width parts
+list-Word width parts = W.fold-Word (List Item) (Around Content) (Around WrittenPart) items_step content_step written_part_step width parts
 
 list-Inline : (path : List ℕ) → item_list (I.Inline path) ≡ AField path ∷ []
-list-Inline path = W.fold-Inline (List Item) (Around Content) (Around WrittenPart) item_step kind_step part_step path
+list-Inline path = W.fold-Inline (List Item) (Around Content) (Around WrittenPart) items_step content_step written_part_step path
 
 around-Const : (c : ℕ) → kind_around (K.Const c) ≡ plain (Number c)
-around-Const c = W.fold-Const (List Item) (Around Content) (Around WrittenPart) item_step kind_step part_step c
+around-Const c = W.fold-Const (List Item) (Around Content) (Around WrittenPart) items_step content_step written_part_step c
 
 around-Whole : (path : List ℕ) → kind_around (K.Whole path) ≡ plain (Whole path)
-around-Whole path = W.fold-Whole (List Item) (Around Content) (Around WrittenPart) item_step kind_step part_step path
+around-Whole path = W.fold-Whole (List Item) (Around Content) (Around WrittenPart) items_step content_step written_part_step path
 
 around-Slice : (path : List ℕ) (a k : ℕ) → kind_around (K.Slice path a k) ≡ plain (Slice path a k)
-around-Slice path a k = W.fold-Slice (List Item) (Around Content) (Around WrittenPart) item_step kind_step part_step path a k
+around-Slice path a k = W.fold-Slice (List Item) (Around Content) (Around WrittenPart) items_step content_step written_part_step path a k
 
 around-WordOf : (path : List ℕ) (j : ℕ) → kind_around (K.Word path j) ≡ plain (WordOf path j)
-around-WordOf path j = W.fold-WordOf (List Item) (Around Content) (Around WrittenPart) item_step kind_step part_step path j
+around-WordOf path j = W.fold-WordOf (List Item) (Around Content) (Around WrittenPart) items_step content_step written_part_step path j
 
 around-Pointer : (align : ℕ) (items : List LayItem) → kind_around (K.Pointer align items) ≡ record { it = Address align; inside = flat_map (λ (xs : List Item). xs) (map item_list items) }
-around-Pointer align items = W.fold-Pointer (List Item) (Around Content) (Around WrittenPart) item_step kind_step part_step align items
+around-Pointer align items = W.fold-Pointer (List Item) (Around Content) (Around WrittenPart) items_step content_step written_part_step align items
 
 around-Part : (p : PartDecl) → part_around p ≡ record { it = record { o = p.o; l = p.l; content = (kind_around p.kind).it }; inside = (kind_around p.kind).inside }
-around-Part p = fold_out-PartDecl (List Item) (Around Content) (Around WrittenPart) item_step kind_step part_step p
+around-Part p = fold_out-PartDecl (List Item) (Around Content) (Around WrittenPart) items_step content_step written_part_step p
 
 joined_lists : (xs : List LayItem) → flat_map (λ (ys : List Item). ys) (map item_list xs) ≡ item_lists xs
 joined_lists [] = refl
@@ -77,7 +77,7 @@ module _ (decls : List LayoutDecl) (opens : List Open) (weight : Standing → �
   B bs = S (flat_map standing_in bs)
 
   abbrev N : List Item → ℕ
-  N items = S (flat_map (placed decls opens) items)
+  N items = S (flat_map (parts_placed decls opens) items)
 
   s-append : (xs ys : List Standing) → S (xs ++ ys) ≡ S xs + S ys
   s-append xs ys = sum_by-append weight xs ys
@@ -89,7 +89,7 @@ module _ (decls : List LayoutDecl) (opens : List Open) (weight : Standing → �
   b-append xs ys = ap S (flat_map-append standing_in xs ys) ∙ s-append (flat_map standing_in xs) (flat_map standing_in ys)
 
   n-append : (xs ys : List Item) → N (xs ++ ys) ≡ N xs + N ys
-  n-append xs ys = ap S (flat_map-append (placed decls opens) xs ys) ∙ s-append (flat_map (placed decls opens) xs) (flat_map (placed decls opens) ys)
+  n-append xs ys = ap S (flat_map-append (parts_placed decls opens) xs ys) ∙ s-append (flat_map (parts_placed decls opens) xs) (flat_map (parts_placed decls opens) ys)
 
   abbrev SameItem : LayItem → Type 0
   SameItem x = (n : ℕ) → W' (item_laid decls opens x n).it + B (item_laid decls opens x n).blocks ≡ N (item_list x)
@@ -146,14 +146,14 @@ module _ (decls : List LayoutDecl) (opens : List Open) (weight : Standing → �
       ap (λ (lay : Laying (List FlatWord)). W' (lay n).it + B (lay n).blocks) (word_laid decls opens width parts)
       ∙ ap (λ xs. S xs + B laid.blocks) (append-nil (map (stands width) laid.it))
       ∙ parts_same parts each width n
-      ∙ sym (s-append (flat_map (part_placed opens width) (map (λ (a : Around WrittenPart). a.it) arounds)) (flat_map (placed decls opens) (items_inside arounds)))
+      ∙ sym (s-append (flat_map (part_placed opens width) (map (λ (a : Around WrittenPart). a.it) arounds)) (flat_map (parts_placed decls opens) (items_inside arounds)))
       ∙ sym (ap N (list-Word width parts))
 
   inline_same : (path : List ℕ) → SameItem (I.Inline path)
   inline_same path n =
       ap (λ (lay : Laying (List FlatWord)). W' (lay n).it + B (lay n).blocks) (inline_laid decls opens path)
-      ∙ none_more (S (placed decls opens (AField path)))
-      ∙ sym (ap S (append-nil (placed decls opens (AField path)))) ∙ sym (ap N (list-Inline path))
+      ∙ none_more (S (parts_placed decls opens (AField path)))
+      ∙ sym (ap S (append-nil (parts_placed decls opens (AField path)))) ∙ sym (ap N (list-Inline path))
 
   abbrev with_kind : (k : PartKind) (lay : Laying (Option Kind)) (around : Around Content) → kind_laid decls opens k ≡ lay → kind_around k ≡ around
       → ((width o l n : ℕ) → S (map (stands width) (parts_of o l (lay n).it)) + B (lay n).blocks

@@ -17,7 +17,7 @@ use Rattle.rb_layout.specs.declared.layout.FlatTree.{FlatTree}
 use Rattle.rb_layout.specs.declared.layout.FlatArm.{FlatArm}
 use Rattle.rb_layout.specs.declared.layout.Leaf.{Leaf}
 use Rattle.rb_layout.specs.Splits.{Under}
-use Rattle.rb_layout.specs.Flattening.{Numbering, numbering, arm_numbering, tree_step, arm_step, arms_count, arms_from}
+use Rattle.rb_layout.specs.Flattening.{LeafNumbering, numbering, arm_numbering, tree_step, arm_step, arms_count, arms_from}
 use Rattle.rb_layout.proofs.FlatForms.{Each}
 use Rattle.rb_layout.proofs.WrittenForms.{fold-Leaf, fold-Split, fold-Split-else, tree-induction}
 use Rattle.rb_layout.proofs.LayingLemmas.{one_more}
@@ -42,7 +42,7 @@ pub arm_leaves-is : (a : Arm) → leaves_under a ≡ leaves a.under
 arm_leaves-is a = fold_out-Arm (List WrittenLeaf) (List WrittenLeaf) leaves_step arm_leaves a
 
 pub arm_numbering-is : (a : Arm) → arm_numbering a ≡ record { literal = a.literal; of = numbering a.under }
-arm_numbering-is a = fold_out-Arm Numbering (Under Numbering) tree_step arm_step a
+arm_numbering-is a = fold_out-Arm LeafNumbering (Under LeafNumbering) tree_step arm_step a
 
 -- How many leaves ---------------------------------------------------------------------------------
 
@@ -50,17 +50,17 @@ abbrev Counts : LayTree → Type 0
 Counts tree = (numbering tree).count ≡ length (leaves tree)
 
 arm_counts : (a : Arm) → Counts a.under → (arm_numbering a).of.count ≡ length (leaves_under a)
-arm_counts a h = ap (λ (u : Under Numbering). u.of.count) (arm_numbering-is a) ∙ h ∙ ap (λ (ls : List WrittenLeaf). length ls) (sym (arm_leaves-is a))
+arm_counts a h = ap (λ (u : Under LeafNumbering). u.of.count) (arm_numbering-is a) ∙ h ∙ ap (λ (ls : List WrittenLeaf). length ls) (sym (arm_leaves-is a))
 
 arms_count-is : (arms : List Arm) → Each (λ (a : Arm). Counts a.under) arms → arms_count (map arm_numbering arms) ≡ length (flat_map leaves_under arms)
 arms_count-is [] each = refl
 arms_count-is (a ∷ arms) each =
-    sum_by-cons (λ (u : Under Numbering). u.of.count) (arm_numbering a) (map arm_numbering arms) ∙ ap (λ n. n + arms_count (map arm_numbering arms)) (arm_counts a each.0)
+    sum_by-cons (λ (u : Under LeafNumbering). u.of.count) (arm_numbering a) (map arm_numbering arms) ∙ ap (λ n. n + arms_count (map arm_numbering arms)) (arm_counts a each.0)
     ∙ ap (λ n. length (leaves_under a) + n) (arms_count-is arms each.1) ∙ sym (length-append (leaves_under a) (flat_map leaves_under arms))
 
 split_counts : (loc : Loc) (arms : List Arm) → Each (λ (a : Arm). Counts a.under) arms → Counts (S.Split loc arms None)
 split_counts loc arms each =
-    ap (λ (n : Numbering). n.count) (fold-Split Numbering (Under Numbering) tree_step arm_step loc arms)
+    ap (λ (n : LeafNumbering). n.count) (fold-Split LeafNumbering (Under LeafNumbering) tree_step arm_step loc arms)
     ∙ plus_none (arms_count (map arm_numbering arms)) ∙ arms_count-is arms each ∙ ap (λ (ls : List WrittenLeaf). length ls) (sym (leaves-Split loc arms))
   where
     plus_none : (n : ℕ) → n + 0 ≡ n
@@ -68,13 +68,13 @@ split_counts loc arms each =
 
 else_counts : (loc : Loc) (arms : List Arm) (other : LayTree) → Each (λ (a : Arm). Counts a.under) arms → Counts other → Counts (S.Split loc arms (Some other))
 else_counts loc arms other each h =
-    ap (λ (n : Numbering). n.count) (fold-Split-else Numbering (Under Numbering) tree_step arm_step loc arms other)
+    ap (λ (n : LeafNumbering). n.count) (fold-Split-else LeafNumbering (Under LeafNumbering) tree_step arm_step loc arms other)
     ∙ ap (λ n. n + (numbering other).count) (arms_count-is arms each) ∙ ap (λ n. length (flat_map leaves_under arms) + n) h
     ∙ sym (length-append (flat_map leaves_under arms) (leaves other)) ∙ ap (λ (ls : List WrittenLeaf). length ls) (sym (leaves-Split-else loc arms other))
 
 leaf_counts : (at : ℕ) (prov : Pat) (items : List LayItem) → Counts (S.Leaf at prov items)
 leaf_counts at prov items =
-    ap (λ (n : Numbering). n.count) (fold-Leaf Numbering (Under Numbering) tree_step arm_step at prov items) ∙ ap (λ (ls : List WrittenLeaf). length ls) (sym (leaves-Leaf at prov items))
+    ap (λ (n : LeafNumbering). n.count) (fold-Leaf LeafNumbering (Under LeafNumbering) tree_step arm_step at prov items) ∙ ap (λ (ls : List WrittenLeaf). length ls) (sym (leaves-Leaf at prov items))
 
 -- as many as there are
 pub count-is : (tree : LayTree) → Counts tree
@@ -114,7 +114,7 @@ module _ (f : WrittenLeaf → Leaf) where
       ∙ ap (λ (fs : List FlatArm). Flat.Split loc fs (Some under)) is_arms
       ∙ ap (λ (u : FlatTree). Flat.Split loc (arms_from (map arm_numbering arms) (length old)) (Some u)) (is_under ∙ ap (λ n. (numbering other).from n) count)
       ∙ sym (ap (λ (t : LayTree). (numbering t).from (length old)) is
-      ∙ ap (λ (n : Numbering). n.from (length old)) (fold-Split-else Numbering (Under Numbering) tree_step arm_step loc arms other))
+      ∙ ap (λ (n : LeafNumbering). n.from (length old)) (fold-Split-else LeafNumbering (Under LeafNumbering) tree_step arm_step loc arms other))
 
   -- one more arm
   pub arms_on : (all : List Arm) (i : ℕ) (a : Arm) (flat : FlatArm) (whole : List FlatArm) (leaves_whole : List Leaf) (flats more : List FlatArm) (old new : List Leaf) → slice_get all i ≡ Some a
@@ -130,7 +130,7 @@ module _ (f : WrittenLeaf → Leaf) where
             ∙ append_assoc flats (flat ∷ []) (arms_from (map arm_numbering rest) (length new))
             ∙ ap (λ n. flats ++ (flat ∷ arms_from (map arm_numbering rest) n)) count
             ∙ ap (λ (x : FlatArm). flats ++ (x ∷ arms_from (map arm_numbering rest) (length old + (arm_numbering a).of.count)))
-            (is_flat ∙ ap (λ n. record { literal = n; under = (arm_numbering a).of.from (length old) }) (sym (ap (λ (u : Under Numbering). u.literal) (arm_numbering-is a))))
+            (is_flat ∙ ap (λ n. record { literal = n; under = (arm_numbering a).of.from (length old) }) (sym (ap (λ (u : Under LeafNumbering). u.literal) (arm_numbering-is a))))
             ∙ ap (λ (xs : List Arm). flats ++ arms_from (map arm_numbering xs) (length old)) (sym here)
             ∙ invariant.0,
         ap (λ (ls : List Leaf). ls ++ map f (flat_map leaves_under rest)) is_new

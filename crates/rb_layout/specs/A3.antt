@@ -17,12 +17,12 @@ use Rattle.rb_layout.specs.Items.{Content, Number, Whole, Slice, WordOf, Address
 use Rattle.rb_layout.specs.Each.{EachLeaf}
 
 -- what is written is placed: its path, if it has one, is open
-abbrev pub IsPlaced : List Open → Content → Type 0
-IsPlaced opens (Number c) = Unit {0}
-IsPlaced opens (Whole path) = IsOpenIn opens path
-IsPlaced opens (Slice path a k) = IsOpenIn opens path
-IsPlaced opens (WordOf path j) = IsOpenIn opens path
-IsPlaced opens (Address align) = Unit {0}
+abbrev pub IsContentPlaced : List Open → Content → Type 0
+IsContentPlaced opens (Number c) = Unit {0}
+IsContentPlaced opens (Whole path) = IsOpenIn opens path
+IsContentPlaced opens (Slice path a k) = IsOpenIn opens path
+IsContentPlaced opens (WordOf path j) = IsOpenIn opens path
+IsContentPlaced opens (Address align) = Unit {0}
 
 -- the range [o:l] has a bit and lies in a word of this width
 abbrev pub LiesIn : ℕ → ℕ → ℕ → Type 0
@@ -63,9 +63,10 @@ Fits decls opens l (Address align) = Unit {0}
 -- The parts of a word of this width pass the rule. Those that are placed lie in the word, and no two of them have a
 -- bit in common. Each fits what it holds.
 pub record PartsFit (decls : List LayoutDecl) (opens : List Open) (width : ℕ) (parts : List WrittenPart) : Type 0 where
-  pub inside : (k : ℕ) (p : WrittenPart) → slice_get parts k ≡ Some p → IsPlaced opens p.content → LiesIn width p.o p.l
+  pub inside : (k : ℕ) (p : WrittenPart) → slice_get parts k ≡ Some p → IsContentPlaced opens p.content
+      → LiesIn width p.o p.l
   pub disjoint : (j k : ℕ) (p q : WrittenPart) → j < k → slice_get parts j ≡ Some p → slice_get parts k ≡ Some q
-      → IsPlaced opens p.content → IsPlaced opens q.content → AreDisjoint p.o p.l q.o q.l
+      → IsContentPlaced opens p.content → IsContentPlaced opens q.content → AreDisjoint p.o p.l q.o q.l
   pub fit : (k : ℕ) (p : WrittenPart) → slice_get parts k ≡ Some p → Fits decls opens p.l p.content
 
 -- an item passes the rule: where it is a word its own parts do; of an inlined field nothing is demanded
@@ -84,7 +85,7 @@ pub record PartAt (opens : List Open) (parts : List WrittenPart) (o l : ℕ) : T
   pub number : ℕ
   pub part : WrittenPart
   pub is_part : slice_get parts number ≡ Some part
-  pub placed : IsPlaced opens part.content
+  pub placed : IsContentPlaced opens part.content
   pub from : part.o ≡ o
   pub length : part.l ≡ l
 

@@ -27,8 +27,8 @@ cons_step (P.Num at n) = []
 cons_step (P.Con at c css) = c ∷ flat_map (λ cs. cs) css
 
 -- the constructors of a pattern, that of its root first, each as often as it stands there
-abbrev pub cons_of : Pat → List ConRef
-cons_of = fold-Pat (List ConRef) cons_step
+abbrev pub pattern_cons : Pat → List ConRef
+pattern_cons = fold-Pat (List ConRef) cons_step
 
 -- the constructors in the subpatterns of a pattern's outermost layer, from left to right; a wildcard, a variable and
 -- a number have no subpatterns, and so none
@@ -36,7 +36,7 @@ abbrev pub cons_below_root : Pat-F Pat → List ConRef
 cons_below_root (P.Wild at) = []
 cons_below_root (P.Var at x) = []
 cons_below_root (P.Num at n) = []
-cons_below_root (P.Con at c ps) = flat_map cons_of ps
+cons_below_root (P.Con at c ps) = flat_map pattern_cons ps
 
 -- the constructors of a pattern that stand below its root, each as often as it stands there; none where the root is
 -- no constructor

@@ -66,16 +66,16 @@ IsOpenIn opens path = (ty : Ty) × (type_at opens path ≡ Some ty)
 -- Leaves --------------------------------------------------------------------------------------
 
 -- what is placed, and the blocks that are placed with it, in the order of their numbers
-pub record Laid (A : Type 0) : Type 0 where
+pub record WithBlocks (A : Type 0) : Type 0 where
   pub it : A
   pub blocks : List Block
 
 -- what is placed of something, given how many blocks of the leaf were placed before
 abbrev pub Laying : Type 0 → Type 0
-Laying A = ℕ → Laid A
+Laying A = ℕ → WithBlocks A
 
 -- something that is placed without any block
-abbrev pub without_blocks : {A : Type 0} → A → Laid A
+abbrev pub without_blocks : {A : Type 0} → A → WithBlocks A
 without_blocks x = record { it = x; blocks = [] }
 
 -- several lists of things, placed from left to right as one: each after the blocks of those before it, where n blocks
@@ -101,7 +101,7 @@ kind_if_open (Some ty) kind = Some kind
 
 -- A pointer of this alignment and its block, given the words behind it with the blocks inside, where n blocks were
 -- placed before. The block comes after those inside it, and the pointer has its number.
-abbrev pub pointed : ℕ → ℕ → Laid (List FlatWord) → Laid (Option Kind)
+abbrev pub pointed : ℕ → ℕ → WithBlocks (List FlatWord) → WithBlocks (Option Kind)
 pointed align n laid = record {
   it = Some (Pointer align (n + length laid.blocks));
   blocks = laid.blocks ++ record { align = align; words = laid.it } ∷ [];
@@ -131,20 +131,20 @@ part_step p n =
     record { it = parts_of p.o p.l laid.it; blocks = laid.blocks }
 
 -- a word of this width with one part of full width
-abbrev pub word_of : ℕ → Kind → FlatWord
-word_of width kind = record { width = width; parts = record { o = 0; l = width; kind = kind } ∷ [] }
+abbrev pub full_word : ℕ → Kind → FlatWord
+full_word width kind = record { width = width; parts = record { o = 0; l = width; kind = kind } ∷ [] }
 
 -- a word for each of these widths, of full width each, with the words of the field at a path; the first is its word j
-abbrev pub words_of : List ℕ → ℕ → List ℕ → List FlatWord
-words_of path j [] = []
-words_of path j (width ∷ widths) = word_of width (Word path j) ∷ words_of path (j + 1) widths
+abbrev pub inline_words : List ℕ → ℕ → List ℕ → List FlatWord
+inline_words path j [] = []
+inline_words path j (width ∷ widths) = full_word width (Word path j) ∷ inline_words path (j + 1) widths
 
 -- the words of the field at a path, given the type there: an integer has one, of its width, a data type those of its
 -- shape; none where the path is not open, or the data type has no layout
 abbrev pub inlined : List LayoutDecl → Option Ty → List ℕ → List FlatWord
 inlined decls None path = []
-inlined decls (Some (Int bits)) path = word_of bits (Bits path 0) ∷ []
-inlined decls (Some (Named s)) path = words_of path 0 (shape_of decls s)
+inlined decls (Some (Int bits)) path = full_word bits (Bits path 0) ∷ []
+inlined decls (Some (Named s)) path = inline_words path 0 (shape_of decls s)
 
 -- the words of one layer of an item, with its blocks: one word with its parts, or the words of a field, which has no
 -- block
@@ -187,33 +187,33 @@ flat_leaf types decls w =
 
 -- a tree of splits before its leaves have numbers: how many leaves it has, and its flat form, given how many leaves
 -- stand to the left of it
-pub record Numbering : Type 0 where
+pub record LeafNumbering : Type 0 where
   pub count : ℕ
   pub from : ℕ → FlatTree
 
 -- how many leaves the tree of an `else` has, and 0 where there is none
-abbrev pub count_or_none : Option Numbering → ℕ
+abbrev pub count_or_none : Option LeafNumbering → ℕ
 count_or_none None = 0
 count_or_none (Some tree) = tree.count
 
 -- how many leaves stand below arms in all
-abbrev pub arms_count : List (Under Numbering) → ℕ
-arms_count arms = sum_by (λ (arm : Under Numbering). arm.of.count) arms
+abbrev pub arms_count : List (Under LeafNumbering) → ℕ
+arms_count arms = sum_by (λ (arm : Under LeafNumbering). arm.of.count) arms
 
 -- the flat forms of arms, where n leaves stand to the left of the first of them, and each arm's leaves to the left of
 -- the next
-abbrev pub arms_from : List (Under Numbering) → ℕ → List FlatArm
+abbrev pub arms_from : List (Under LeafNumbering) → ℕ → List FlatArm
 arms_from [] n = []
 arms_from (arm ∷ arms) n = record { literal = arm.literal; under = arm.of.from n } ∷ arms_from arms (n + arm.of.count)
 
 -- the flat form of the tree of an `else`, where n leaves stand to the left of it; None where there is no `else`
-abbrev pub other_from : Option Numbering → ℕ → Option FlatTree
+abbrev pub other_from : Option LeafNumbering → ℕ → Option FlatTree
 other_from None n = None
 other_from (Some tree) n = Some (tree.from n)
 
 -- one layer of a tree: a split, whose arms' leaves come before those of its `else`, or a leaf, which takes the next
 -- number
-abbrev pub tree_step : LayTree-F Numbering (Under Numbering) → Numbering
+abbrev pub tree_step : LayTree-F LeafNumbering (Under LeafNumbering) → LeafNumbering
 tree_step (T.Split loc arms other) = record {
   count = arms_count arms + count_or_none other;
   from = λ n. Flat.Split loc (arms_from arms n) (other_from other (n + arms_count arms));
@@ -221,17 +221,17 @@ tree_step (T.Split loc arms other) = record {
 tree_step (T.Leaf at prov items) = record { count = 1; from = λ n. Flat.Leaf n }
 
 -- an arm's literal, with the numbering of the tree below it
-abbrev pub arm_step : Arm-F Numbering (Under Numbering) → Under Numbering
+abbrev pub arm_step : Arm-F LeafNumbering (Under LeafNumbering) → Under LeafNumbering
 arm_step arm = record { literal = arm.literal; of = arm.under }
 
 -- how many leaves a written tree of splits has, and its flat form once its first leaf has a number
-abbrev pub numbering : LayTree → Numbering
-numbering = fold-LayTree Numbering (Under Numbering) tree_step arm_step
+abbrev pub numbering : LayTree → LeafNumbering
+numbering = fold-LayTree LeafNumbering (Under LeafNumbering) tree_step arm_step
 
 -- a written arm: its literal, how many leaves the tree below it has, and the flat form of that tree once its first
 -- leaf has a number
-abbrev pub arm_numbering : Arm → Under Numbering
-arm_numbering = fold-Arm Numbering (Under Numbering) tree_step arm_step
+abbrev pub arm_numbering : Arm → Under LeafNumbering
+arm_numbering = fold-Arm LeafNumbering (Under LeafNumbering) tree_step arm_step
 
 -- the flat form of a written tree of splits: its leaves have the numbers from 0 on, from left to right
 abbrev pub flat_tree : LayTree → FlatTree

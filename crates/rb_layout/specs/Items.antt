@@ -47,25 +47,25 @@ plain content = record { it = content; inside = [] }
 
 -- what one layer of a part is written to hold, with the items inside: those behind a pointer, for which the lists of
 -- their items are given, and none in any other
-abbrev pub kind_step : PartKind-F (List Item) (Around Content) (Around WrittenPart) → Around Content
-kind_step (I.Const c) = plain (Number c)
-kind_step (I.Whole path) = plain (Whole path)
-kind_step (I.Slice path a k) = plain (Slice path a k)
-kind_step (I.PartKind::Word path j) = plain (WordOf path j)
-kind_step (I.Pointer align items) = record { it = Address align; inside = flat_map (λ item. item) items }
+abbrev pub content_step : PartKind-F (List Item) (Around Content) (Around WrittenPart) → Around Content
+content_step (I.Const c) = plain (Number c)
+content_step (I.Whole path) = plain (Whole path)
+content_step (I.Slice path a k) = plain (Slice path a k)
+content_step (I.PartKind::Word path j) = plain (WordOf path j)
+content_step (I.Pointer align items) = record { it = Address align; inside = flat_map (λ item. item) items }
 
 -- a part as it is written, with the items inside what it holds
-abbrev pub part_step : PartDecl-F (List Item) (Around Content) (Around WrittenPart) → Around WrittenPart
-part_step p = record { it = record { o = p.o; l = p.l; content = p.kind.it }; inside = p.kind.inside }
+abbrev pub written_part_step : PartDecl-F (List Item) (Around Content) (Around WrittenPart) → Around WrittenPart
+written_part_step p = record { it = record { o = p.o; l = p.l; content = p.kind.it }; inside = p.kind.inside }
 
 -- one layer of an item as a list of items: a word, and after it the items inside its parts; or a field alone
-abbrev pub item_step : LayItem-F (List Item) (Around Content) (Around WrittenPart) → List Item
-item_step (I.LayItem::Word width parts) = AWord width (map (λ p. p.it) parts) ∷ items_inside parts
-item_step (I.Inline path) = AField path ∷ []
+abbrev pub items_step : LayItem-F (List Item) (Around Content) (Around WrittenPart) → List Item
+items_step (I.LayItem::Word width parts) = AWord width (map (λ p. p.it) parts) ∷ items_inside parts
+items_step (I.Inline path) = AField path ∷ []
 
 -- an item, and after it those inside it, as written
 abbrev pub item_list : LayItem → List Item
-item_list = fold-LayItem (List Item) (Around Content) (Around WrittenPart) item_step kind_step part_step
+item_list = fold-LayItem (List Item) (Around Content) (Around WrittenPart) items_step content_step written_part_step
 
 -- the items of a leaf, outer before inner and from left to right; an item's number is its place in this list
 abbrev pub item_lists : List LayItem → List Item

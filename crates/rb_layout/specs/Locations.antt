@@ -45,9 +45,9 @@ block_in (p ∷ ps) o l align = or_else (pointed_in p o l align) (block_in ps o 
 
 -- the block to which a flat word that may be missing points in exactly the range [o:l] and with this alignment; None
 -- where the word is missing or has no such pointer
-abbrev pub block_at : Option FlatWord → ℕ → ℕ → ℕ → Option ℕ
-block_at None o l align = None
-block_at (Some f) o l align = block_in f.parts o l align
+abbrev pub pointer_block : Option FlatWord → ℕ → ℕ → ℕ → Option ℕ
+pointer_block None o l align = None
+pointer_block (Some f) o l align = block_in f.parts o l align
 
 -- The number of the first word that has this width and begins at this byte, where the first in the list is word j and
 -- begins at byte `start`. Words follow one another without padding; of a width that is no multiple of 8 the whole
@@ -83,7 +83,7 @@ abbrev pub resolve_from : Leaf → Option WordRef → ℕ → ℕ → List Step 
 resolve_from leaf None o l steps = None
 resolve_from leaf (Some r) o l [] = range_in (flat_at leaf r) r o l
 resolve_from leaf (Some r) o l (s ∷ steps) =
-    resolve_from leaf (next_ref leaf (block_at (flat_at leaf r) o l s.align) s) s.o s.l steps
+    resolve_from leaf (next_ref leaf (pointer_block (flat_at leaf r) o l s.align) s) s.o s.l steps
 
 -- where a location ends in a leaf, from the root word that it names on; None where it does not resolve
 abbrev pub reached_at : Leaf → Loc → Option Reached

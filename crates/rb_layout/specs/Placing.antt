@@ -28,15 +28,15 @@ pub record Standing : Type 0 where
   pub holds : Content
 
 -- what a flat part of l bits holds, in the terms of what is written: bits from bit a on are a slice of l bits
-abbrev pub shown : ℕ → Kind → Content
-shown l (Const c) = Number c
-shown l (Bits path a) = Slice path a l
-shown l (Word path j) = WordOf path j
-shown l (Pointer align b) = Address align
+abbrev pub content_shown : ℕ → Kind → Content
+content_shown l (Const c) = Number c
+content_shown l (Bits path a) = Slice path a l
+content_shown l (Word path j) = WordOf path j
+content_shown l (Pointer align b) = Address align
 
 -- a part of a word of this width, as it stands
 abbrev pub stands : ℕ → Part → Standing
-stands width p = record { width = width; o = p.o; l = p.l; holds = shown p.l p.kind }
+stands width p = record { width = width; o = p.o; l = p.l; holds = content_shown p.l p.kind }
 
 -- the parts of a flat word as they stand, in their order
 abbrev pub standing : FlatWord → List Standing
@@ -81,9 +81,9 @@ part_placed opens width p =
 -- What is placed for an item, given the declared layouts and the leaf's open positions. For a word these are its own
 -- parts; what is behind its pointers are items of their own. For a field these are the parts of its words, and
 -- nothing where the path is not open.
-abbrev pub placed : List LayoutDecl → List Open → Item → List Standing
-placed decls opens (AWord width parts) = flat_map (part_placed opens width) parts
-placed decls opens (AField path) = flat_map standing (inlined decls (type_at opens path) path)
+abbrev pub parts_placed : List LayoutDecl → List Open → Item → List Standing
+parts_placed decls opens (AWord width parts) = flat_map (part_placed opens width) parts
+parts_placed decls opens (AField path) = flat_map standing (inlined decls (type_at opens path) path)
 
 -- The law: the parts of a flat leaf are those that are placed for what is written, each as often as it is written, in
 -- whatever order. Said without an order: whatever weight a part is given by how it stands, the parts that stand in
@@ -91,4 +91,4 @@ placed decls opens (AField path) = flat_map standing (inlined decls (type_at ope
 abbrev pub EachStandsOnce : Type 0
 EachStandsOnce = (types : List DataDecl) (decls : List LayoutDecl) (w : WrittenLeaf) (weight : Standing → ℕ)
     → sum_by weight (all_standing (flat_leaf types decls w))
-    ≡ sum_by weight (flat_map (placed decls (open_positions types w.provenance)) (item_lists w.items))
+    ≡ sum_by weight (flat_map (parts_placed decls (open_positions types w.provenance)) (item_lists w.items))

@@ -24,8 +24,8 @@ pub record Route : Type 0 where
   pub tests : List Test
 
 -- a way with one more test, outside of all others
-abbrev pub behind : Test → Route → Route
-behind test r = record { leaf = r.leaf; tests = test ∷ r.tests }
+abbrev pub under_test : Test → Route → Route
+under_test test r = record { leaf = r.leaf; tests = test ∷ r.tests }
 
 -- an arm: its literal, and what is computed of the tree below it
 pub record Under (A : Type 0) : Type 0 where
@@ -39,13 +39,13 @@ literals_of arms = map (λ arm. arm.literal) arms
 -- the ways into an arm of a split at this location: those of the tree below it, each behind the test for the arm's
 -- literal
 abbrev pub arm_routes : Loc → Under (List Route) → List Route
-arm_routes loc arm = map (behind (Is loc arm.literal)) arm.of
+arm_routes loc arm = map (under_test (Is loc arm.literal)) arm.of
 
 -- the ways into the `else` of a split at this location, whose arms have these literals: those of the tree below it,
 -- each behind the test for none of the literals; no ways where there is no `else`
 abbrev pub else_routes : Loc → List ℕ → Option (List Route) → List Route
 else_routes loc literals None = []
-else_routes loc literals (Some routes) = map (behind (IsNone loc literals)) routes
+else_routes loc literals (Some routes) = map (under_test (IsNone loc literals)) routes
 
 -- The ways through one layer of a tree. A split has those of its arms in turn, and then those of its `else`. A leaf
 -- has one, without tests.

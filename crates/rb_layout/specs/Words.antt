@@ -23,14 +23,14 @@ abbrev pub flat_at : Leaf → WordRef → Option FlatWord
 flat_at leaf r = slice_get (words_in leaf r.block) r.word
 
 -- how many bytes words take, one after the other; of a width that is no multiple of 8, the whole bytes count
-abbrev pub bytes_in : List FlatWord → ℕ
-bytes_in [] = 0
-bytes_in (f ∷ fs) = f.width / 8 + bytes_in fs
+abbrev pub bytes_taken : List FlatWord → ℕ
+bytes_taken [] = 0
+bytes_taken (f ∷ fs) = f.width / 8 + bytes_taken fs
 
 -- the size of a block in bytes, which is that of its words
 abbrev pub size_of : Block → ℕ
-size_of b = bytes_in b.words
+size_of b = bytes_taken b.words
 
 -- the byte at which word j of these begins, counted from the first; the byte behind the last where there is no word j
 abbrev pub begins_at : List FlatWord → ℕ → ℕ
-begins_at fs j = bytes_in (take j fs)
+begins_at fs j = bytes_taken (take j fs)

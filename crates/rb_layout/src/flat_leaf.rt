@@ -5,7 +5,7 @@
 
 ghost use Rattle.std.specs.Prelude.{◌≡◌, ◌++◌, ◌∷◌, [], length, IfOk, OnOk};
 ghost use Rattle.rb_layout.specs.Positions.{open_positions};
-ghost use Rattle.rb_layout.specs.Flattening.{kind_if_open, type_at, whole_kind, word_of, words_of};
+ghost use Rattle.rb_layout.specs.Flattening.{kind_if_open, type_at, whole_kind, full_word, inline_words};
 ghost use Rattle.rb_layout.specs.inner.Laying.{Lays, LaysKind, field_for, item_for, items_for, kind_for, leaf_for};
 ghost use Rattle.rb_layout.specs.inner.Laying.{part_for, parts_for};
 
@@ -196,7 +196,7 @@ fn kind_if_open(ty: Option<Ty>, kind: Kind) -> Option<Kind>
 
 // A word of this width with one part of this kind, which takes all of it.
 fn whole_word(alloc: Global, width: u64, kind: Kind) -> Result<FlatWord, AllocError>
-    ensures { IfOk result (λ word. word ≡ word_of width kind) }
+    ensures { IfOk result (λ word. word ≡ full_word width kind) }
 {
     let mut parts = Seq::new(alloc);
     parts.push(Part {
@@ -239,7 +239,7 @@ fn push_shape(
     shape: &[u64],
     words: &mut Seq<FlatWord>,
 ) -> Result<(), AllocError>
-    ensures { OnOk result (words.new ≡ words.old ++ words_of path.now 0 shape.now) }
+    ensures { OnOk result (words.new ≡ words.old ++ inline_words path.now 0 shape.now) }
 {
     for (number, width) in shape.iter().enumerate() {
         let kind = Kind::Word(path.copy(alloc)?, number as u64);

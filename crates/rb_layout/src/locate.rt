@@ -5,7 +5,7 @@
 ghost use Rattle.std.specs.Prelude.{◌≡◌, ◌≤◌, ◌==◌, ◌&&◌, length, Some, None};
 ghost use Rattle.std.specs.Option.{option_copied};
 ghost use Rattle.rb_layout.specs.Words.{words_in, flat_at};
-ghost use Rattle.rb_layout.specs.Locations.{pointed_in, block_in, word_beginning, reached_at, next_ref, block_at, range_in, ref_of};
+ghost use Rattle.rb_layout.specs.Locations.{pointed_in, block_in, word_beginning, reached_at, next_ref, pointer_block, range_in, ref_of};
 ghost use Rattle.rb_layout.specs.Readable.{AreShort, IsReadable};
 ghost use Rattle.rb_layout.specs.inner.Ends.{end_of};
 
@@ -110,7 +110,7 @@ fn word_beginning(words: &[FlatWord], byte: u64, width: u64) -> Option<u32>
 // The block to which the word at `at` points in just the range of `l` bits from bit `o`, with this
 // alignment. None where there is no such word or pointer.
 fn block_at(leaf: &Leaf, at: WordRef, o: u64, l: u64, align: u64) -> Option<u32>
-    ensures { result ≡ block_at (flat_at leaf.now at) o l align }
+    ensures { result ≡ pointer_block (flat_at leaf.now at) o l align }
 {
     match flat_at(leaf, at) {
         None => None,
@@ -138,7 +138,7 @@ fn word_of(leaf: &Leaf, b: u32, step: &Step) -> Option<WordRef>
 // it.
 fn next_word(leaf: &Leaf, at: WordRef, o: u64, l: u64, step: &Step) -> Option<WordRef>
     requires { IsReadable leaf.now }
-    ensures { result ≡ next_ref leaf.now (block_at (flat_at leaf.now at) o l step.now.align) step.now }
+    ensures { result ≡ next_ref leaf.now (pointer_block (flat_at leaf.now at) o l step.now.align) step.now }
 {
     match block_at(leaf, at, o, l, step.align) {
         None => None,

@@ -48,14 +48,14 @@ abbrev pub Stood : Change → Type 0
 Stood sink = Rose sink.before sink.now → ⊥
 
 -- The sink took the text whole, or a write failed and it took only a front.
-abbrev pub Tried : Change → List ℕ → Type 0
-Tried sink text = Took sink text ⊎ CutOff sink text
+abbrev pub TriesText : Change → List ℕ → Type 0
+TriesText sink text = Took sink text ⊎ CutOff sink text
 
 -- The output took the text whole, and the error output nothing: status 0. Or the output failed: then the line of a
 -- write fault was tried on the error output, and the status is 8.
 pub data Prints (text : List ℕ) (out err : Change) (status : ℕ) : Type 0 where
   output : status ≡ 0 → Took out text → Took err [] → Prints text out err status
-  output_failed : status ≡ 8 → CutOff out text → Tried err write_fault_line → Prints text out err status
+  output_failed : status ≡ 8 → CutOff out text → TriesText err write_fault_line → Prints text out err status
 
 -- The error output took the line whole, and the status is this number; or it failed, and the status is 8. The output
 -- took nothing.

@@ -33,7 +33,7 @@ fn syntax(alloc: Global, number: u64, at: u64) -> Result<Vec<u8>, AllocError>
 
 // The line of an argument with too many nodes.
 fn large(alloc: Global, number: u64) -> Result<Vec<u8>, AllocError>
-    ensures { IfOk result (λ text. text.items ≡ spec.large_line number) }
+    ensures { IfOk result (λ text. text.items ≡ spec.large_argument_line number) }
 {
     Ok(format!(in alloc; "ribbit: argument {number}: over {NODES} nodes\n")?.into_bytes())
 }

@@ -3,7 +3,7 @@
 //! A sink is one of the two: it takes bytes, and a write to it may fail. `out` is the output, `err`
 //! the error output. The status is the exit status of the program.
 
-ghost use Rattle.rb_lines.specs.Delivery.{Prints, Refuses, Tried, change};
+ghost use Rattle.rb_lines.specs.Delivery.{Prints, Refuses, TriesText, change};
 ghost use Rattle.rb_lines.specs.Numbers.{status_number};
 
 use crate::line::WRITE_FAULT;
@@ -17,7 +17,7 @@ const WRITE_FAILED: u8 = 8;
 // Writes the text, as far as the sink takes it: a write that fails is passed over, since nothing is
 // left to tell it on.
 fn try_write<K: Sink>(sink: &mut K, text: &[u8])
-    ensures { Tried (change K.tells K.taken K.account K.faults sink.old sink.new) text.now }
+    ensures { TriesText (change K.tells K.taken K.account K.faults sink.old sink.new) text.now }
 {
     match write_whole(sink, text) {
         Ok(()) => {}

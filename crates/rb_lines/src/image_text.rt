@@ -8,7 +8,7 @@ ghost use Rattle.std.specs.Prelude.{◌≡◌, ◌<◌, ◌+◌, ◌++◌, ◌^�
 ghost use Rattle.rb_bytes.specs.Memory.{IsGood};
 ghost use Rattle.rb_image_text.specs.MemoryImages.{block_over, blocks_over, bytes_over, memory_image};
 ghost use Rattle.rb_image_text.specs.Text as spec;
-ghost use Rattle.rb_image_text.specs.Text.{block_text, blocks_text, bytes_text, hex_digit, image_text, root_text, word_text, words_text};
+ghost use Rattle.rb_image_text.specs.Text.{block_text, blocks_text, bytes_text, hex_digit, image_text, root_text, root_word_text, words_text};
 
 use crate::line;
 use rb_bytes::checked::CheckedMemory;
@@ -18,7 +18,7 @@ use std::alloc::{AllocError, Global};
 
 // The text with a blank and a word behind it, in hexadecimal digits.
 fn push_word(alloc: Global, text: &mut Vec<u8>, word: u64) -> Result<(), AllocError>
-    ensures { OnOk result (text.new.items ≡ text.old.items ++ word_text word) }
+    ensures { OnOk result (text.new.items ≡ text.old.items ++ root_word_text word) }
 {
     push(text, format!(in alloc; " 0x{word:x}")?.as_bytes())
 }

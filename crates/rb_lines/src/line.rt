@@ -30,7 +30,7 @@ pub const NO_MEMORY: &[u8] = b"ribbit: no memory\n";
 ///
 /// Want of memory.
 pub fn begin(alloc: Global, bytes: &[u8]) -> Result<Vec<u8>, AllocError>
-    ensures { IfOk result (λ text. text.items ≡ line.begun bytes.now) }
+    ensures { IfOk result (λ text. text.items ≡ line.named_line bytes.now) }
 {
     let mut text = Vec::from_slice(alloc, b"ribbit: ")?;
     push(&mut text, bytes)?;

@@ -9,7 +9,7 @@ use Rattle.rb_target.specs.Meaning.{World, from, enter, body_in, body_of, run_of
 use Rattle.rb_target.specs.Validity.{IsValid}
 use Rattle.rb_target.specs.declared.code.CodeFun.{CodeFun}
 use Rattle.rb_machine.proofs.Rest.{valid_begins, enter_some}
-use Rattle.rb_machine.specs.inner.Turns.{unwind, waiting_slots, current_slots, world_of, rest_of, room_in, held_in, outermost, results_in, IsFrame, StateIsSound}
+use Rattle.rb_machine.specs.inner.Turns.{unwind, waiting_slots, current_slots, world_of, rest_of, room_in, slots_in_wait, outermost, results_in, IsFrame, StateIsSound}
 use Rattle.rb_machine.specs.declared.state.Frame.{Frame}
 use Rattle.rb_machine.specs.declared.state.State.{State}
 
@@ -25,7 +25,7 @@ module _ (funs : List CodeFun) (depth : ℕ) (s : State) (f : CodeFun) (words : 
       let begins = valid_begins funs f v in
       let short = v.small.2 in
       let room = ap (room_in funs) none in
-      let held = ap (held_in funs) none in
+      let held = ap (slots_in_wait funs) none in
       let fits = v.params in
       let long : length (words ++ replicate (f.slots - length words) 0) ≡ f.slots = simp (length-append, length-replicate) (omega arith) in
       let lengths = ap length current in

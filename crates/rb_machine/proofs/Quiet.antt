@@ -3,7 +3,7 @@ use Rattle.std.proofs.Common.{◌≡◌, ℕ, ◌+◌, ◌-◌, List, length, So
 use Rattle.std.specs.Prelude.{IsOk, slice_get}
 use Rattle.rb_bytes.specs.Memory.{Memory}
 use Rattle.rb_bytes.specs.declared.fault.Trap.{Trap}
-use Rattle.rb_target.specs.Meaning.{World, Outcome, Callee, act, from, enter, body_of, taken, after_load, after_store}
+use Rattle.rb_target.specs.Meaning.{World, CallEnd, Callee, act, from, enter, body_of, taken, after_load, after_store}
 use Rattle.rb_target.specs.Laws.{IsLawful, IsFinal, Law}
 use Rattle.rb_target.specs.declared.outcome.End.{End}
 use Rattle.rb_target.specs.declared.outcome.End.TheVariants.{Trapped}
@@ -17,11 +17,11 @@ use Rattle.rb_machine.specs.inner.Stretches.{IsQuietFrom}
 use Rattle.rb_machine.specs.declared.state.Frame.{Frame}
 use Rattle.rb_machine.specs.declared.state.State.{State}
 
-load_ok : (r : Result ℕ Trap) (w : World) (go : ℕ → Outcome) → IsNotTrapped (after_load r w go).ended → IsOk r
+load_ok : (r : Result ℕ Trap) (w : World) (go : ℕ → CallEnd) → IsNotTrapped (after_load r w go).ended → IsOk r
 load_ok (Ok x) w go h = refl
 load_ok (Err t) w go h = absurd h
 
-store_ok : (r : Result (Unit {0}) Trap) (w : World) (go : Outcome) → IsNotTrapped (after_store r w go).ended → IsOk r
+store_ok : (r : Result (Unit {0}) Trap) (w : World) (go : CallEnd) → IsNotTrapped (after_store r w go).ended → IsOk r
 store_ok (Ok x) w go h = refl
 store_ok (Err t) w go h = absurd h
 
@@ -29,7 +29,7 @@ module _ (body : List Instr) (laws : (callee : Callee) → Law body callee (from
   quiet_at : (pc : ℕ) (slots : List ℕ) (m : Memory) (switches : ℕ) (i : Instr) → slice_get body pc ≡ Some i → (quiet : IsQuietFrom body pc slots m switches)
       → IsNotTrapped (act i (from body quiet.0) quiet.0 pc slots (taken (record { left = quiet.1; memory = m; switches = switches; taken = quiet.2 }))).ended
   quiet_at pc slots m switches i is quiet =
-      subst (λ (o : Outcome). IsNotTrapped o.ended) ((laws quiet.0).step pc i slots (record { left = quiet.1; memory = m; switches = switches; taken = quiet.2 }) is) quiet.3
+      subst (λ (o : CallEnd). IsNotTrapped o.ended) ((laws quiet.0).step pc i slots (record { left = quiet.1; memory = m; switches = switches; taken = quiet.2 }) is) quiet.3
 
   pub may_run : (pc : ℕ) (slots : List ℕ) (m : Memory) (switches : ℕ) (i : Instr) → slice_get body pc ≡ Some i → IsQuietFrom body pc slots m switches → MayRun m slots i
   may_run pc slots m switches (Load d a offset width) is quiet = load_ok _ _ _ (quiet_at pc slots m switches _ is quiet)
@@ -42,12 +42,12 @@ pub quiet_later : (body : List Instr) (start pc : ℕ) (slots slots' : List ℕ)
     ≡ from body callee pc slots' (record { left = left; memory = m'; switches = switches'; taken = taken + count }))
     → IsQuietFrom body start slots m switches → IsQuietFrom body pc slots' m' switches'
 quiet_later body start pc slots slots' m m' switches switches' count same quiet =
-    (quiet.0, quiet.1, quiet.2 + count, subst (λ (o : Outcome). IsNotTrapped o.ended) (same quiet.0 quiet.1 quiet.2) quiet.3)
+    (quiet.0, quiet.1, quiet.2 + count, subst (λ (o : CallEnd). IsNotTrapped o.ended) (same quiet.0 quiet.1 quiet.2) quiet.3)
 
 module _ (funs : List CodeFun) (depth : ℕ) (laws : IsLawful funs) where
   -- a trap of the current call ends the run
-  inner_quiet : (frames : List Frame) (stack : List ℕ) (o : Outcome) (e : End) → o.ended ≡ e → IsNotTrapped (unwind funs depth frames stack o).ended → IsNotTrapped e
-  inner_quiet frames stack o (Trapped t) is h = absurd (subst IsNotTrapped (ap (λ (r : Outcome). r.ended) (unwind_end funs laws depth frames stack o (subst IsFinal (sym is) tt)) ∙ is) h)
+  inner_quiet : (frames : List Frame) (stack : List ℕ) (o : CallEnd) (e : End) → o.ended ≡ e → IsNotTrapped (unwind funs depth frames stack o).ended → IsNotTrapped e
+  inner_quiet frames stack o (Trapped t) is h = absurd (subst IsNotTrapped (ap (λ (r : CallEnd). r.ended) (unwind_end funs laws depth frames stack o (subst IsFinal (sym is) tt)) ∙ is) h)
   inner_quiet frames stack o e is h = tt
 
   pub quiet_stretch : (s : State) (m : Memory) → IsQuiet funs depth s m → IsQuietFrom (body_of funs s.fun) s.pc (current_slots s) m s.switches

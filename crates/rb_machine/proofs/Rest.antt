@@ -4,7 +4,7 @@ use Rattle.std.specs.Prelude.{slice_get}
 use Rattle.std.proofs.lemmas.Bool.Decides.{eqb_tells}
 use Rattle.std.proofs.lemmas.List.{take_all, take-append-le, drop-append-le, length-drop}
 use Rattle.std.proofs.lemmas.Option.{slice_get_within, same_Some}
-use Rattle.rb_target.specs.Meaning.{World, Outcome, over, from, enter, body_of, slots_in, first_slots, with_left, after_one_call}
+use Rattle.rb_target.specs.Meaning.{World, CallEnd, over, from, enter, body_of, slots_in, first_slots, with_left, after_one_call}
 use Rattle.rb_target.specs.Validity.{IsValidFun, IsValid, FitsCall}
 use Rattle.rb_target.specs.Laws.{IsLawful, IsFinal}
 use Rattle.rb_target.specs.declared.outcome.End.{End}
@@ -12,7 +12,7 @@ use Rattle.rb_target.specs.declared.outcome.End.TheVariants.{Spent}
 use Rattle.rb_target.specs.declared.code.CodeFun.{CodeFun}
 use Rattle.rb_target.specs.declared.instr.Instr.{Instr}
 use Rattle.rb_target.specs.declared.instr.Instr.TheVariants.{Return}
-use Rattle.rb_machine.specs.inner.Turns.{GoesOn, resume, width_of, unwind, room_at, room_in, held_in}
+use Rattle.rb_machine.specs.inner.Turns.{HasNext, resume, slot_count, unwind, room_at, room_in, slots_in_wait}
 use Rattle.rb_machine.specs.declared.state.Frame.{Frame}
 
 -- the function of a number
@@ -63,7 +63,7 @@ valid_goes_on funs f pc i valid is other =
       | inr e ↦ let ne = e.1 in omega (arith, inside)
     ]
 
-pub goes_on : (funs : List CodeFun) (f : CodeFun) (pc : ℕ) (i : Instr) → IsValidFun funs f → slice_get f.body pc ≡ Some i → GoesOn (length f.body) pc i
+pub goes_on : (funs : List CodeFun) (f : CodeFun) (pc : ℕ) (i : Instr) → IsValidFun funs f → slice_get f.body pc ≡ Some i → HasNext (length f.body) pc i
 goes_on funs f pc (Return froms) valid is = slice_get_within f.body pc (Return froms) is
 goes_on funs f pc i valid is = valid_goes_on funs f pc i valid is tt
 
@@ -71,32 +71,32 @@ pub room_in-push : (funs : List CodeFun) (frames : List Frame) (frame : Frame) �
 room_in-push funs [] frame = omega arith
 room_in-push funs (x ∷ frames) frame = let h = room_in-push funs frames frame in omega arith
 
-pub held_in-push : (funs : List CodeFun) (frames : List Frame) (frame : Frame) → held_in funs (frames ++ frame ∷ []) ≡ held_in funs frames + width_of funs frame.fun
+pub held_in-push : (funs : List CodeFun) (frames : List Frame) (frame : Frame) → slots_in_wait funs (frames ++ frame ∷ []) ≡ slots_in_wait funs frames + slot_count funs frame.fun
 held_in-push funs [] frame = omega arith
 held_in-push funs (x ∷ frames) frame = let h = held_in-push funs frames frame in omega arith
 
 -- the last call that waits goes on first
-pub unwind_push : (funs : List CodeFun) (depth : ℕ) (frames : List Frame) (frame : Frame) (below slots : List ℕ) (o : Outcome) → length below ≡ held_in funs frames → length slots ≡ width_of funs frame.fun
+pub unwind_push : (funs : List CodeFun) (depth : ℕ) (frames : List Frame) (frame : Frame) (below slots : List ℕ) (o : CallEnd) → length below ≡ slots_in_wait funs frames → length slots ≡ slot_count funs frame.fun
     → unwind funs depth (frames ++ frame ∷ []) (below ++ slots) o ≡ unwind funs depth frames below (resume funs (depth - length frames) frame slots o)
 unwind_push funs depth [] frame [] slots o held width =
     let e : depth ≡ depth - 0 = omega arith in
-    let whole : take (width_of funs frame.fun) slots ≡ slots = take_all (width_of funs frame.fun) slots (omega arith) in
-    ap (λ d. resume funs d frame (take (width_of funs frame.fun) slots) o) e ∙ ap (λ xs. resume funs (depth - 0) frame xs o) whole
+    let whole : take (slot_count funs frame.fun) slots ≡ slots = take_all (slot_count funs frame.fun) slots (omega arith) in
+    ap (λ d. resume funs d frame (take (slot_count funs frame.fun) slots) o) e ∙ ap (λ xs. resume funs (depth - 0) frame xs o) whole
 unwind_push funs depth [] frame (b ∷ below) slots o held width = absurd (omega arith)
 unwind_push funs depth (x ∷ frames) frame below slots o held width =
-    let n = width_of funs x.fun in
+    let n = slot_count funs x.fun in
     let fits : n ≤ length below = omega arith in
     let e : depth - 1 - length frames ≡ depth - length (x ∷ frames) = omega arith in
-    let rest : length (drop n below) ≡ held_in funs frames = omega (arith, length-drop n below) in
+    let rest : length (drop n below) ≡ slots_in_wait funs frames = omega (arith, length-drop n below) in
     ap (λ xs. resume funs depth x xs (unwind funs (depth - 1) (frames ++ frame ∷ []) (drop n (below ++ slots)) o)) (take-append-le n below slots fits)
     ∙ ap (λ xs. resume funs depth x (take n below) (unwind funs (depth - 1) (frames ++ frame ∷ []) xs o)) (drop-append-le n below slots fits)
     ∙ ap (λ r. resume funs depth x (take n below) r) (unwind_push funs (depth - 1) frames frame (drop n below) slots o rest width ∙ ap (λ d. unwind funs (depth - 1) frames (drop n below) (resume funs d frame slots o)) e)
 
 -- any other end than a return ends all calls
-pub unwind_end : (funs : List CodeFun) (laws : IsLawful funs) (depth : ℕ) (frames : List Frame) (stack : List ℕ) (o : Outcome) → IsFinal o.ended → unwind funs depth frames stack o ≡ o
+pub unwind_end : (funs : List CodeFun) (laws : IsLawful funs) (depth : ℕ) (frames : List Frame) (stack : List ℕ) (o : CallEnd) → IsFinal o.ended → unwind funs depth frames stack o ≡ o
 unwind_end funs laws depth [] stack o final = refl
 unwind_end funs laws depth (x ∷ frames) stack o final =
-    ap (λ r. resume funs depth x (take (width_of funs x.fun) stack) r) (unwind_end funs laws (depth - 1) frames (drop (width_of funs x.fun) stack) o final) ∙ laws.final o _ final
+    ap (λ r. resume funs depth x (take (slot_count funs x.fun) stack) r) (unwind_end funs laws (depth - 1) frames (drop (slot_count funs x.fun) stack) o final) ∙ laws.final o _ final
 
 pub unwind_final : (funs : List CodeFun) (laws : IsLawful funs) (depth : ℕ) (frames : List Frame) (stack : List ℕ) (e : End) (w : World) → IsFinal e → unwind funs depth frames stack (over e w) ≡ over e w
 unwind_final funs laws depth frames stack e w final = unwind_end funs laws depth frames stack (over e w) final

@@ -5,7 +5,7 @@ use Rattle.std.proofs.lemmas.List.{length-replicate, length-map, length-drop, le
 use Rattle.std.proofs.lemmas.List.Elements.{All-push, All-pop}
 use Rattle.std.proofs.lemmas.Option.{slice_get_within}
 use Rattle.rb_bytes.specs.Memory.{Memory}
-use Rattle.rb_target.specs.Meaning.{World, Outcome, over, Callee, act, from, enter, body_in, body_of, slots_in, taken, slots_at, first_slots, put_slots, with_left, after_call}
+use Rattle.rb_target.specs.Meaning.{World, CallEnd, over, Callee, act, from, enter, body_in, body_of, slots_in, taken, slots_at, first_slots, put_slots, with_left, after_call}
 use Rattle.rb_target.specs.Validity.{IsFine, IsValid, AreSlots}
 use Rattle.rb_target.specs.Laws.{IsLawful, IsFinal}
 use Rattle.rb_target.specs.declared.outcome.End.{End}
@@ -14,7 +14,7 @@ use Rattle.rb_target.specs.declared.code.CodeFun.{CodeFun}
 use Rattle.rb_target.specs.declared.instr.Instr.{Instr}
 use Rattle.rb_target.specs.declared.instr.Instr.TheVariants.{Call, Return}
 use Rattle.rb_machine.proofs.Rest.{known_at, callee_from, valid_begins, valid_goes_on, IsNoReturn, room_in-push, held_in-push, unwind_push, unwind_final, enter_some, enter_none}
-use Rattle.rb_machine.specs.inner.Turns.{call_dests, width_of, unwind, waiting_slots, current_slots, world_of, rest_of, room_at, room_in, work, held_in, outermost, results_in, IsPlace, IsFrame, StateIsSound, Turned, Ended}
+use Rattle.rb_machine.specs.inner.Turns.{call_dests, slot_count, unwind, waiting_slots, current_slots, world_of, rest_of, room_at, room_in, work, slots_in_wait, outermost, results_in, IsPlace, IsFrame, StateIsSound, Turned, Ended}
 use Rattle.rb_machine.specs.declared.state.Frame.{Frame}
 use Rattle.rb_machine.specs.declared.state.State.{State}
 
@@ -125,10 +125,10 @@ module _ (funs : List CodeFun) (depth : ℕ) (valid : IsValid funs) where
   last_frame frames frame all = All-pop (λ (x : Frame). IsFrame funs x) (frames ++ frame ∷ []) frames (Some frame) refl all
 
   -- the stack holds the slots of those that wait and of the current call
-  pub stack_length : (s : State) → StateIsSound funs depth s → length s.stack.items ≡ s.base + width_of funs s.fun
+  pub stack_length : (s : State) → StateIsSound funs depth s → length s.stack.items ≡ s.base + slot_count funs s.fun
   stack_length s sound = omega (arith, length-drop s.base s.stack.items, sound.fits, sound.place.slots)
 
-  pub waiting_length : (s : State) → StateIsSound funs depth s → length (waiting_slots s) ≡ held_in funs s.frames.items
+  pub waiting_length : (s : State) → StateIsSound funs depth s → length (waiting_slots s) ≡ slots_in_wait funs s.frames.items
   waiting_length s sound = length-take-le s.base s.stack.items sound.fits ∙ sound.base
 
   -- the last call that waits
@@ -137,11 +137,11 @@ module _ (funs : List CodeFun) (depth : ℕ) (valid : IsValid funs) where
 
   -- the slots of a call that nothing waits for are the whole stack
   pub alone : (s : State) → StateIsSound funs depth s → s.frames.items ≡ [] → current_slots s ≡ s.stack.items
-  alone s sound none = ap (λ n. drop n s.stack.items) (sound.base ∙ ap (held_in funs) none)
+  alone s sound none = ap (λ n. drop n s.stack.items) (sound.base ∙ ap (slots_in_wait funs) none)
 
   -- the slots of the last call that waits end where those of the current one begin
-  pub frame_fits : (s : State) (frames : List Frame) (frame : Frame) (f : CodeFun) → StateIsSound funs depth s → s.frames.items ≡ frames ++ frame ∷ [] → slice_get funs frame.fun ≡ Some f → held_in funs frames + f.slots ≡ s.base
-  frame_fits s frames frame f sound is known = sym (sound.base ∙ ap (held_in funs) is ∙ held_in-push funs frames frame ∙ ap (λ k. held_in funs frames + k) (ap slots_in known))
+  pub frame_fits : (s : State) (frames : List Frame) (frame : Frame) (f : CodeFun) → StateIsSound funs depth s → s.frames.items ≡ frames ++ frame ∷ [] → slice_get funs frame.fun ≡ Some f → slots_in_wait funs frames + f.slots ≡ s.base
+  frame_fits s frames frame f sound is known = sym (sound.base ∙ ap (slots_in_wait funs) is ∙ held_in-push funs frames frame ∙ ap (λ k. slots_in_wait funs frames + k) (ap slots_in known))
 
   pub frame_place : (s : State) (frames : List Frame) (frame : Frame) (f : CodeFun) (stack : List ℕ) → StateIsSound funs depth s → s.frames.items ≡ frames ++ frame ∷ [] → slice_get funs frame.fun ≡ Some f → stack ≡ s.stack.items
       → IsPlace funs frame.fun frame.pc (drop (s.base - f.slots) (take s.base stack))
@@ -197,13 +197,13 @@ module _ (funs : List CodeFun) (depth : ℕ) (valid : IsValid funs) where
         let more = grown s s' first base' stack' in
         let body' : body_of funs f ≡ callee.it.body = ap body_in callee.is in
         let rooms = ap (room_in funs) frames' ∙ room_in-push funs s.frames.items (waiting s) in
-        let held = ap (held_in funs) frames' ∙ held_in-push funs s.frames.items (waiting s) in
+        let held = ap (slots_in_wait funs) frames' ∙ held_in-push funs s.frames.items (waiting s) in
         let here : room_at funs s'.fun s'.pc ≡ room_at funs f 0 = ap (λ n. room_at funs n s'.pc) fun' ∙ ap (λ p. room_at funs f p) pc' in
         let begins = valid_begins funs callee.it callee.valid in
         let short = callee.valid.small.2 in
         let goes_on : s.pc + 1 < length (body_of funs s.fun) = goes_on_at s.fun s.pc _ sound.place.known instr tt in
         let less : work funs s' + 1 ≤ work funs s = omega (arith, ap length body') in
-        let slots_length : length first ≡ width_of funs f = simp (length-append, length-replicate, length-map) (omega (arith, called.1)) in
+        let slots_length : length first ≡ slot_count funs f = simp (length-append, length-replicate, length-map) (omega (arith, called.1)) in
         let inside : 0 < length (body_of funs f) = omega (arith, ap length body') in
         let place : IsPlace funs f 0 first = record { known = slice_get_within funs f callee.it callee.is; inside = inside; slots = slots_length } in
         let wait : IsFrame funs (waiting s) = record { known = sound.place.known; goes_on = goes_on } in
@@ -225,7 +225,7 @@ module _ (funs : List CodeFun) (depth : ℕ) (valid : IsValid funs) where
 
     pub return_turned : (s s' : State) (frames : List Frame) (frame : Frame) (froms : List ℕ) → StateIsSound funs depth s → slice_get (body_of funs s.fun) s.pc ≡ Some (Return froms)
         → s.frames.items ≡ frames ++ frame ∷ [] → s'.frames.items ≡ frames → s'.fun ≡ frame.fun → s'.pc ≡ frame.pc + 1 → s'.left ≡ s.left → s'.switches ≡ s.switches → s'.results.items ≡ s.results.items
-        → s'.base + width_of funs frame.fun ≡ s.base
+        → s'.base + slot_count funs frame.fun ≡ s.base
         → s'.stack.items ≡ take s'.base s.stack.items ++ put_slots (drop s'.base (waiting_slots s)) (call_dests (slice_get (body_of funs frame.fun) frame.pc)) (slots_at (current_slots s) froms)
         → (m : Memory) → Turned funs depth s m s' m 1
     return_turned s s' frames frame froms sound instr old frames' fun' pc' left' switches' results' base' stack' m =
@@ -235,19 +235,19 @@ module _ (funs : List CodeFun) (depth : ℕ) (valid : IsValid funs) where
         let callee = enter funs (depth - n) in
         let both = last_frame frames frame (rw old at sound.frames) in
         let words = slots_at slots froms in
-        let held = ap (held_in funs) old ∙ held_in-push funs frames frame in
-        let held' = ap (held_in funs) frames' in
-        let base : s'.base ≡ held_in funs frames = omega (arith, sound.base) in
+        let held = ap (slots_in_wait funs) old ∙ held_in-push funs frames frame in
+        let held' = ap (slots_in_wait funs) frames' in
+        let base : s'.base ≡ slots_in_wait funs frames = omega (arith, sound.base) in
         let long = length-take-le s.base s.stack.items sound.fits in
         let within : s'.base ≤ length below = omega arith in
         let under : take s'.base below ≡ take s'.base s.stack.items = take-take s'.base s.base s.stack.items (omega arith) in
         let front : List ℕ = take s'.base s.stack.items in
         let slots_before : List ℕ = drop s'.base below in
         let front_length : length front ≡ s'.base = length-take-le s'.base s.stack.items (omega (arith, sound.fits)) in
-        let width : length slots_before ≡ width_of funs frame.fun = omega (arith, length-drop s'.base below) in
+        let width : length slots_before ≡ slot_count funs frame.fun = omega (arith, length-drop s'.base below) in
         let whole : front ++ slots_before ≡ below = ap (λ xs. xs ++ slots_before) (sym under) ∙ take-append-drop s'.base below in
         let put = put_slots slots_before (call_dests (slice_get (body_of funs frame.fun) frame.pc)) words in
-        let put_length : length put ≡ width_of funs frame.fun = length-put_slots slots_before _ words ∙ width in
+        let put_length : length put ≡ slot_count funs frame.fun = length-put_slots slots_before _ words ∙ width in
         let below' : waiting_slots s' ≡ front = ap (take s'.base) stack' ∙ take_at front put s'.base front_length in
         let slots' : current_slots s' ≡ put = ap (drop s'.base) stack' ∙ drop_at front put s'.base front_length in
         let rooms = ap (room_in funs) old ∙ room_in-push funs frames frame in
@@ -286,7 +286,7 @@ module _ (funs : List CodeFun) (depth : ℕ) (valid : IsValid funs) where
     return_ended s s' froms sound instr none left' switches' words words' left l m t =
         let callee = enter funs (depth - length s.frames.items) in
         let w = taken (world_of s m t) in
-        let base : s.base ≡ 0 = sound.base ∙ ap (held_in funs) none in
+        let base : s.base ≡ 0 = sound.base ∙ ap (slots_in_wait funs) none in
         let slots : current_slots s ≡ s.stack.items = ap (λ n. drop n s.stack.items) base in
         let given : words ≡ slots_at (current_slots s) froms = words' ∙ ap (λ xs. slots_at xs froms) (sym slots) in
         let first = ap (λ o. unwind funs depth s.frames.items (waiting_slots s) o) (from_at callee s.fun s.pc (current_slots s) (world_of s m t) (Return froms) instr) in
@@ -304,7 +304,7 @@ module _ (funs : List CodeFun) (depth : ℕ) (valid : IsValid funs) where
         let w = taken (world_of s m t) in
         let go = from (body_of funs s.fun) callee in
         let first = ap (λ o. unwind funs depth s.frames.items below o) (from_at callee s.fun s.pc slots (world_of s m t) (Call f ds froms) instr) in
-        let second = ap (λ (back : Outcome). unwind funs depth s.frames.items below (after_call back.ended back.world (λ words. go (s.pc + 1) (put_slots slots ds words) back.world))) (enter_none funs (depth - n) f (slots_at slots froms) w l) in
+        let second = ap (λ (back : CallEnd). unwind funs depth s.frames.items below (after_call back.ended back.world (λ words. go (s.pc + 1) (put_slots slots ds words) back.world))) (enter_none funs (depth - n) f (slots_at slots froms) w l) in
         first ∙ second ∙ unwind_final funs laws depth s.frames.items below Spent w tt
 
     -- a stretch of the current call
@@ -329,7 +329,7 @@ module _ (funs : List CodeFun) (depth : ℕ) (valid : IsValid funs) where
           sound = record {
             place = rw (fun', pc', new) place;
             frames = rw frames' sound.frames;
-            base = base' ∙ sound.base ∙ ap (held_in funs) (sym frames');
+            base = base' ∙ sound.base ∙ ap (slots_in_wait funs) (sym frames');
             fits = omega (arith, base', ap length stack', length-append (waiting_slots s) slots');
             nested = omega (arith, sound.nested, ap length frames');
             results = ap length results' ∙ sound.results ∙ ap (λ k. results_in (slice_get funs k)) (sym outer);

@@ -4,7 +4,7 @@
 -- word.
 use Rattle.std.specs.Prelude.{◌≡◌, ℕ, ◌+◌, Option, Some, None}
 use Rattle.rb_bytes.specs.Memory.{Memory}
-use Rattle.rb_target.specs.Meaning.{Outcome}
+use Rattle.rb_target.specs.Meaning.{CallEnd}
 use Rattle.rb_target.specs.declared.code.CodeFun.{CodeFun}
 use Rattle.rb_target.specs.declared.outcome.End.{End}
 use Rattle.rb_target.specs.declared.outcome.End.TheVariants.{Trapped}
@@ -22,7 +22,7 @@ params_in (Some f) = f.params
 
 -- what a run gives is what the code means, the outcome o: its end, its switches, the memory m that it leaves, and a
 -- step for each instruction, where `before` and `after` count the steps before the run and after it
-pub record RanAs (o : Outcome) (ran : Ran) (m : Memory) (before after : ℕ) : Type 0 where
+pub record RanAs (o : CallEnd) (ran : Ran) (m : Memory) (before after : ℕ) : Type 0 where
   pub ended : ran.end ≡ o.ended
   pub switches : ran.switches ≡ o.world.switches
   pub memory : m ≡ o.world.memory

@@ -5,7 +5,7 @@ ghost use Rattle.std.specs.Prelude.{◌≡◌, ℕ, ◌<◌, ◌≤◌, ◌+◌,
 ghost use Rattle.rb_bytes.specs.Memory.{IsWidth, load_of, store_of, place_of};
 ghost use Rattle.rb_target.specs.Meaning.{Next, Callee, act, target_of as the_target_of};
 ghost use Rattle.rb_target.specs.Validity.{IsFine};
-ghost use Rattle.rb_machine.specs.inner.Turns.{world, IsFlow, flow_to, MayRun, GoesOn, IsLeft};
+ghost use Rattle.rb_machine.specs.inner.Turns.{world, IsFlow, flow_to, MayRun, HasNext, IsLeft};
 
 use crate::alu::{alu, low_bits};
 use crate::state::{Flow, Leave};
@@ -29,7 +29,7 @@ pub fn step<'a, M: ByteMemory>(
     memory: &mut M,
     switches: &mut u128,
 ) -> Flow<'a>
-    requires goes_on { GoesOn (length fun.now.body) pc instr.now }
+    requires goes_on { HasNext (length fun.now.body) pc instr.now }
     requires short { length fun.now.body < 2 ^ 64 }
     requires fine { IsFine funs.now fun.now pc instr.now }
     requires slots { length slots.old ≡ fun.now.slots }

@@ -37,12 +37,12 @@ use Rattle.rb_layout.specs.Agreement.{Agrees}
 use Rattle.rb_layout.specs.Flattening.{flat_layouts}
 use Rattle.rb_rel.specs.Switches.{choose_of, depth_of, greatest, mend_leaf, mend_of}
 use Rattle.rb_rel.proofs.Mending.{mending_recurs}
-use Rattle.rb_match.specs.Bounding.{Place, binding_bound, binding_look, is_plain, looks_with, place_below, places_below, places_in, places_step, rebuilding}
+use Rattle.rb_match.specs.Bounding.{TypedPosition, binding_bound, binding_look, takes_none_apart, looks_with, place_below, places_below, places_in, places_step, rebuilding}
 use Rattle.rb_match.specs.inner.Saving.{FetchesPart, mend_at, mends_at, mends_from}
 use Rattle.rb_match.proofs.Composing.{pieces, piece_framed, piece_less}
 use Rattle.rb_match.proofs.Mending.{mends_within}
-use Rattle.rb_fragment.specs.Pieces.{AtEnd, Piece}
-use Rattle.rb_fragment.specs.Plan.{Plan, Rep, words_of}
+use Rattle.rb_fragment.specs.Pieces.{AtEnd, CodePiece}
+use Rattle.rb_fragment.specs.Plan.{Plan, Rep, words_needed}
 use Rattle.rb_fragment.specs.Slots.{AllBelow}
 use Rattle.rb_fragment.proofs.Adding.{Adds-refl, Adds-trans}
 use Rattle.rb_fragment.proofs.Holds.{AllBelow-more, AreGiven-more, AreGiven-append, Holds-append, IsOfLocal-append, slots_at-kept}
@@ -60,7 +60,7 @@ both true false e = absurd cc
 both false b e = absurd cc
 
 -- nothing is done
-nothing : (plan : Plan) (b : Sheet) (most : ℕ) (Pre Post : List ℕ → Memory → Type 0) → ((s : List ℕ) (m : Memory) → Pre s m → Post s m) → Piece plan b.slots b b Nowhere most Pre (AtEnd b Post)
+nothing : (plan : Plan) (b : Sheet) (most : ℕ) (Pre Post : List ℕ → Memory → Type 0) → ((s : List ℕ) (m : Memory) → Pre s m → Post s m) → CodePiece plan b.slots b b Nowhere most Pre (AtEnd b Post)
 nothing plan b most Pre Post f = piece_less plan b.slots b.slots b b 0 most Pre Pre Post Post (omega arith) (omega arith) (λ s m x. x) (λ s m x. x) (piece_none plan b.slots b Pre Post (omega arith) f)
 
 -- nothing is bound
@@ -159,16 +159,16 @@ kept plan n s s' m k clean [] (c ∷ cs) given h = h
 kept plan n s s' m k clean (l ∷ ls) [] given h = h
 kept plan n s s' m k clean (l ∷ ls) (c ∷ cs) given h = (h.0, subst (λ ws. Rep plan m clean l.ty c.value ws) (sym (slots_at-kept n s s' l.slots given.0 k)) h.1, kept plan n s s' m k clean ls cs given.2 h.2)
 
-looks-append : (look : Ty → ℕ) (ps qs : List Place) → looks_with look (ps ++ qs) ≡ looks_with look ps + looks_with look qs
+looks-append : (look : Ty → ℕ) (ps qs : List TypedPosition) → looks_with look (ps ++ qs) ≡ looks_with look ps + looks_with look qs
 looks-append look [] qs = omega arith
 looks-append look (p ∷ ps) qs = let h = looks-append look ps qs in omega (arith, h)
 
-looks-below : (look : Ty → ℕ) (i : ℕ) (ps : List Place) → looks_with look (map (place_below i) ps) ≡ looks_with look ps
+looks-below : (look : Ty → ℕ) (i : ℕ) (ps : List TypedPosition) → looks_with look (map (place_below i) ps) ≡ looks_with look ps
 looks-below look i [] = refl
 looks-below look i (p ∷ ps) = ap (λ n. look p.ty + n) (looks-below look i ps)
 
 -- where the fields are counted from does not matter
-looks-from : (look : Ty → ℕ) (ps : List (Ty → List Place)) (ts : List Ty) (i j : ℕ) → looks_with look (places_below ps ts i) ≡ looks_with look (places_below ps ts j)
+looks-from : (look : Ty → ℕ) (ps : List (Ty → List TypedPosition)) (ts : List Ty) (i j : ℕ) → looks_with look (places_below ps ts i) ≡ looks_with look (places_below ps ts j)
 looks-from look [] ts i j = refl
 looks-from look (p ∷ ps) [] i j = refl
 looks-from look (p ∷ ps) (t ∷ ts) i j =
@@ -211,7 +211,7 @@ fields_binds agreed t leaf words sub subs field fields i old mid new bound more 
         (o : BindsParts plan (mends_from plan.layouts t leaf subs (i + 1) + fields_bound plan subs fields) t leaf words (all_binders (map (binders plan.program.types) subs) fields) mid new more (FieldsMatch subs (i + 1)))
         → AllBelow old.slots words → (clean : Bool) (v : Value) (bs : List Binding) (layout : Layout) → layout_of plan.layouts t ≡ Some layout → leaf_of layout v ≡ Some leaf
         → (vs : List Value) → ((j : ℕ) → part_at v ((i + j) ∷ []) ≡ slice_get vs j) → all_pass (map matches_of (sub ∷ subs)) vs ≡ true → bs ≡ all_bound (map bindings (sub ∷ subs)) vs
-        → Piece plan old.slots old new Nowhere (mends_from plan.layouts t leaf (sub ∷ subs) i + fields_bound plan (sub ∷ subs) (field ∷ fields)) (λ s m. IsGood m × Rep plan m clean (Named t) v (slots_at s words)) (AtEnd new (λ s m. Holds plan clean s m (bound ++ more) bs))
+        → CodePiece plan old.slots old new Nowhere (mends_from plan.layouts t leaf (sub ∷ subs) i + fields_bound plan (sub ∷ subs) (field ∷ fields)) (λ s m. IsGood m × Rep plan m clean (Named t) v (slots_at s words)) (AtEnd new (λ s m. Holds plan clean s m (bound ++ more) bs))
     go plan f o all clean v bs layout is_layout is_leaf [] at pass is = absurd (false≢true pass)
     go plan f o all clean v bs layout is_layout is_leaf (u ∷ vs) at pass is =
         let b = both (matches_of sub u) (all_pass (map matches_of subs) vs) pass in
@@ -250,7 +250,7 @@ mends_more layouts t leaf (p ∷ ps) i =
     let b = ap (mends_at layouts t leaf []) z in omega (arith, h, a, b)
 
 pub look_more : (layouts : List Layout) (t : ℕ) → rebuilding layouts (Named t) ≤ binding_look layouts (Named t)
-look_more layouts t = go (is_plain layouts t)
+look_more layouts t = go (takes_none_apart layouts t)
   where
     go : (u : Bool) → (if u then 0 else mend_of layouts t) ≤ (if u then 0 else depth_of layouts (Named t) + mend_of layouts t)
     go true = omega arith
@@ -258,7 +258,7 @@ look_more layouts t = go (is_plain layouts t)
 
 -- the bound at a constructor
 pub con_bound : (plan : Plan) (t : Ty) (at : ℕ) (c : ConRef) (subs : List Pat) → binding_bound plan.program.types plan.layouts t (Con at c subs) ≡ binding_look plan.layouts t + fields_bound plan subs (field_types plan.program.types c)
-con_bound plan t at c subs = ap (λ (f : Ty → List Place). looks_with (binding_look plan.layouts) (f t)) (fold-Con (Ty → List Place) (places_step plan.program.types) at c subs)
+con_bound plan t at c subs = ap (λ (f : Ty → List TypedPosition). looks_with (binding_look plan.layouts) (f t)) (fold-Con (Ty → List TypedPosition) (places_step plan.program.types) at c subs)
 
 -- mending is what its recursion says, in each plan of the agreed program
 abbrev pub MendsIn : LaidOut → Type 0
@@ -273,7 +273,7 @@ pub con_binds : (agreed : LaidOut) (t : Ty) (at : ℕ) (c : ConRef) (subs : List
     → BindsFields agreed c.ty leaf words subs (field_types agreed.covered.program.types c) 0 old new bound → BindsPattern agreed t (Con at c subs) words old new bound
 con_binds agreed t at c subs leaf words old new bound mends named only fields = λ plan of all count.
     let types_is : field_types agreed.covered.program.types c ≡ field_types plan.program.types c = ap (λ (g : Rattle.rb_core.specs.declared.program.Program.Program). field_types g.types c) (sym of.program) in
-    let f = fields plan of all (count ∙ ap (words_of plan) named) in
+    let f = fields plan of all (count ∙ ap (words_needed plan) named) in
     let sum = con_bound plan t at c subs in
     let look = ap (binding_look plan.layouts) named in
     let some = ap (fields_bound plan subs) types_is in
@@ -297,7 +297,7 @@ con_binds agreed t at c subs leaf words old new bound mends named only fields = 
     go : (plan : Plan) (of : IsPlanOf agreed plan)
         (f : BindsParts plan (mends_from plan.layouts c.ty leaf subs 0 + fields_bound plan subs (field_types agreed.covered.program.types c)) c.ty leaf words (all_binders (map (binders plan.program.types) subs) (field_types agreed.covered.program.types c)) old new bound (FieldsMatch subs 0)) (clean : Bool) (v : Value) → matches_of (Con at c subs) v ≡ true
         → (us : List Value) × (out-Value v ≡ V.Con c.con us) × (all_pass (map matches_of subs) us ≡ true)
-        → Piece plan old.slots old new Nowhere (mends_from plan.layouts c.ty leaf subs 0 + fields_bound plan subs (field_types agreed.covered.program.types c)) (λ s m. IsGood m × Rep plan m clean t v (slots_at s words)) (AtEnd new (λ s m. Holds plan clean s m bound (bindings (Con at c subs) v)))
+        → CodePiece plan old.slots old new Nowhere (mends_from plan.layouts c.ty leaf subs 0 + fields_bound plan subs (field_types agreed.covered.program.types c)) (λ s m. IsGood m × Rep plan m clean t v (slots_at s words)) (AtEnd new (λ s m. Holds plan clean s m bound (bindings (Con at c subs) v)))
     go plan of f clean v matches (us, is, pass) = record {
       adds = f.adds;
       low = omega arith;

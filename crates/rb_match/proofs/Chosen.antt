@@ -12,7 +12,7 @@ use Rattle.rb_decide.specs.declared.decision_tree.Tree as T
 use Rattle.rb_decide.specs.declared.decision_graph.Graph.{Graph}
 use Rattle.rb_decide.specs.Decisions.{AreDistinct}
 use Rattle.rb_decide.specs.Graphs.{unfolding_of, LinksAreLower}
-use Rattle.rb_decide.specs.Trees.{taken, ways, size, match_tree}
+use Rattle.rb_decide.specs.Trees.{clause_taken, ways, size, match_tree}
 use Rattle.rb_decide.proofs.Positions.{match-once}
 use Rattle.rb_decide.proofs.Taking.{match-takes}
 use Rattle.rb_target.specs.declared.body.Hole.{Hole}
@@ -40,8 +40,8 @@ use Rattle.rb_match.specs.inner.Saving.{GivesSpots}
 use Rattle.rb_match.proofs.Edges.{hole_at}
 use Rattle.rb_fragment.specs.WordReads.{AreMeant, AllFit}
 use Rattle.rb_fragment.proofs.ReadForms.{mean-Slot, fits-Slot}
-use Rattle.rb_match.specs.Bounding.{Place, choosing_look, looks_with, places_of_patterns, rounds}
-use Rattle.rb_match.specs.Choosing.{Chooses}
+use Rattle.rb_match.specs.Bounding.{TypedPosition, choosing_look, looks_with, places_of_patterns, rounds}
+use Rattle.rb_match.specs.Choosing.{ChoosesClause}
 use Rattle.rb_match.specs.inner.Flowing.{tree_at, looks, path_of, HasWay, TakesGraph}
 use Rattle.rb_match.specs.inner.Places.{IsPlaceIn, IsLookedAt}
 use Rattle.rb_match.specs.inner.Trees.{TakesTree}
@@ -73,7 +73,7 @@ tree_takes agreed ty words pats spots tree graph old mid new holes unfolds lower
             meant = subst (λ m. AreMeant words r.1 m ws) mem meant1;
             represents = subst (λ m. Rep plan m clean ty v ws) mem rep;
             clause = k;
-            takes = ap (λ u. taken u v) is ∙ e;
+            takes = ap (λ u. clause_taken u v) is ∙ e;
           }) in
           let q = l.leaves in
           record {
@@ -109,8 +109,8 @@ slots_fit n k (x ∷ words) all le =
     (fits-Slot k x ∙ test, slots_fit n k words all.1 le)
 
 -- looks on one way of the match's tree are within the sum
-pub way_within : (plan : Plan) (ty : Ty) (pats : List Pat) (path : List Place) → HasWay (ways (match_tree plan.program.types ty pats)) (map path_of path)
-    → ((p : Place) → IsPlaceIn p path → IsLookedAt plan.program.types ty pats p.path p.ty) → looks plan path ≤ looks_with (choosing_look plan.layouts) (places_of_patterns plan.program.types ty pats)
+pub way_within : (plan : Plan) (ty : Ty) (pats : List Pat) (path : List TypedPosition) → HasWay (ways (match_tree plan.program.types ty pats)) (map path_of path)
+    → ((p : TypedPosition) → IsPlaceIn p path → IsLookedAt plan.program.types ty pats p.path p.ty) → looks plan path ≤ looks_with (choosing_look plan.layouts) (places_of_patterns plan.program.types ty pats)
 way_within plan ty pats path way looked =
     let once = all_at AreDistinct (ways (match_tree plan.program.types ty pats)) (match-once plan.program.types ty pats) way.0 (map path_of path) way.1 in
     within_sum (choosing_look plan.layouts) path (places_of_patterns plan.program.types ty pats) once (λ p i. in_distinct p _ (looked p i))
@@ -122,13 +122,13 @@ one_round plan ty pats le =
 
 -- what a represented value takes
 pub value_takes : (plan : Plan) (ty : Ty) (pats : List Pat) → IsTyped plan.program → Agrees plan.program → plan.layouts ≡ flat_layouts plan.program → IsExhaustive plan.program.types ty pats → (m : Memory) (clean : Bool) (v : Rattle.rb_core.specs.declared.value.Value.Value) (ws : List ℕ)
-    → Rep plan m clean ty v ws → (k : ℕ) → chosen_clause pats v ≡ Some k → taken (match_tree plan.program.types ty pats) v ≡ Some k
+    → Rep plan m clean ty v ws → (k : ℕ) → chosen_clause pats v ≡ Some k → clause_taken (match_tree plan.program.types ty pats) v ≡ Some k
 value_takes plan ty pats typed agrees flat exhaustive m clean v ws rep k e =
     let rep1 = subst (λ ls. Rattle.rb_rel.specs.Relation.Represents plan.program.types ls m clean ty v ws) flat rep in
     match-takes plan.program.types ty pats exhaustive v (Represents-typed plan.program.types (flat_layouts plan.program) m clean (lawful plan.program agrees typed).provenances rep1) ∙ e
 
 pub chooses_tree : (agreed : LaidOut) (ty : Ty) (pats : List Pat) (words : List ℕ) (tree : Tree) (old new : Sheet) (holes : List Hole) → IsTyped agreed.covered.program → Agrees agreed.covered.program → agreed.layouts ≡ flat_layouts agreed.covered.program
-    → tree ≡ match_tree agreed.covered.program.types ty pats → size tree ≤ 512 → TakesTree agreed ty (map Slot words) pats tree old new holes → Chooses agreed ty pats words old new holes
+    → tree ≡ match_tree agreed.covered.program.types ty pats → size tree ≤ 512 → TakesTree agreed ty (map Slot words) pats tree old new holes → ChoosesClause agreed ty pats words old new holes
 chooses_tree agreed ty pats words tree old new holes typed agrees flat is small takes = λ plan of typed_pats exhaustive low count.
     let typed1 = subst IsTyped (sym of.program) typed in
     let agrees1 = subst Agrees (sym of.program) agrees in
@@ -139,7 +139,7 @@ chooses_tree agreed ty pats words tree old new holes typed agrees flat is small 
       adds = t.adds;
       low = omega arith;
       leaves = λ final callee next law fin s w k long good pre.
-          let e = ap (λ u. taken u pre.value) is1 ∙ value_takes plan ty pats typed1 agrees1 flat1 exhaustive w.memory pre.clean pre.value (slots_at s words) pre.represents k pre.chosen in
+          let e = ap (λ u. clause_taken u pre.value) is1 ∙ value_takes plan ty pats typed1 agrees1 flat1 exhaustive w.memory pre.clean pre.value (slots_at s words) pre.represents k pre.chosen in
           let l = t.leaves final callee next law fin s w pre.value pre.clean (slots_at s words) k long good (slots_meant words s w.memory) pre.represents e in
           let sum = way_within plan ty pats l.path (subst (λ u. HasWay (ways u) (map path_of l.path)) is1 l.is_way) l.looked in
           let one = one_round plan ty pats (subst (λ u. size u ≤ 512) is1 small) in

@@ -13,13 +13,13 @@ use Rattle.rb_core.specs.TypedPrograms.{IsTyped}
 use Rattle.rb_core.proofs.MatchingForms.{matches-Wild}
 use Rattle.rb_core.proofs.PatternLaws.{fold-Wild}
 use Rattle.rb_decide.specs.Decisions.{AreDistinct}
-use Rattle.rb_decide.specs.Trees.{match_tree, size, taken, ways}
+use Rattle.rb_decide.specs.Trees.{match_tree, size, clause_taken, ways}
 use Rattle.rb_bytes.specs.Memory.{IsGood}
 use Rattle.rb_target.specs.declared.instr.Instr.{Instr}
 use Rattle.rb_target.specs.declared.body.Hole.{Hole}
 use Rattle.rb_target.specs.Growth.{Grows}
 use Rattle.rb_target.specs.Sheet.{Sheet, IsHole, IsHoleIn}
-use Rattle.rb_target.specs.Targets.{Finishes, IsIn, IsOpen}
+use Rattle.rb_target.specs.Targets.{Finishes, IsHoleAmong, IsOpenTarget}
 use Rattle.rb_target.proofs.Finishing.{agrees-sub}
 use Rattle.rb_target.proofs.Growing.{Grows-refl, Grows-trans, Keeps-refl, Keeps-trans, below_or}
 use Rattle.rb_layout.specs.declared.agreed.LaidOut.{LaidOut}
@@ -28,13 +28,13 @@ use Rattle.rb_layout.specs.Flattening.{flat_layouts}
 use Rattle.rb_fragment.specs.declared.reads.Read.{Read, Slot}
 use Rattle.rb_fragment.specs.Arms.{AreHoles, AreOfOneWay, ArePatchable, closed}
 use Rattle.rb_fragment.specs.Plan.{Rep}
-use Rattle.rb_fragment.specs.Pieces.{IsLater, Leaves}
+use Rattle.rb_fragment.specs.Pieces.{IsLater, GoesOutBy}
 use Rattle.rb_fragment.specs.WordReads.{AreMeant}
 use Rattle.rb_fragment.proofs.Adding.{Adds-refl, Adds-trans}
 use Rattle.rb_fragment.proofs.Patching.{AreAllHoles, adds_closed, closed_hole, closed_length, closed_slots, hole_within}
 use Rattle.rb_fragment.proofs.Pieces.{later-trans}
-use Rattle.rb_match.specs.Bounding.{choosing_look, Place, places_in, places_of_patterns, places_step, rounds}
-use Rattle.rb_match.specs.Choosing.{Chooses}
+use Rattle.rb_match.specs.Bounding.{choosing_look, TypedPosition, places_in, places_of_patterns, places_step, rounds}
+use Rattle.rb_match.specs.Choosing.{ChoosesClause}
 use Rattle.rb_target.specs.Meaning.{slots_at}
 use Rattle.std.proofs.lemmas.List.{length-map}
 use Rattle.std.proofs.lemmas.Bool.Decides.{nat_tests}
@@ -56,33 +56,33 @@ module _ (way name : ℕ) where
   abbrev pub renamed : Hole → Hole
   renamed h = record { pc = h.pc; arm = h.arm; leaf = name }
 
-  pub way_in : (hs : List Hole) (h : Hole) → IsIn h hs → h.leaf ≡ way → IsIn (renamed h) (way_holes way name hs)
+  pub way_in : (hs : List Hole) (h : Hole) → IsHoleAmong h hs → h.leaf ≡ way → IsHoleAmong (renamed h) (way_holes way name hs)
   way_in [] h (k, at) is = absurd cc
   way_in (x ∷ hs) h (zero, at) is =
       let same : x ≡ h = same_Some x h at in
       let leaf = ap (λ (y : Hole). y.leaf) same ∙ is in
       let test : (x.leaf == way) ≡ true = grind (arith, common_steps, leaf) in
-      subst (λ u. IsIn (renamed h) (if u then renamed x ∷ way_holes way name hs else way_holes way name hs)) (sym test) (0, ap (λ (y : Hole). Some (renamed y)) same)
+      subst (λ u. IsHoleAmong (renamed h) (if u then renamed x ∷ way_holes way name hs else way_holes way name hs)) (sym test) (0, ap (λ (y : Hole). Some (renamed y)) same)
   way_in (x ∷ hs) h (suc k, at) is = let r = way_in hs h (k, at) is in go (x.leaf == way) r
     where
-      go : (u : Bool) → IsIn (renamed h) (way_holes way name hs) → IsIn (renamed h) (if u then renamed x ∷ way_holes way name hs else way_holes way name hs)
+      go : (u : Bool) → IsHoleAmong (renamed h) (way_holes way name hs) → IsHoleAmong (renamed h) (if u then renamed x ∷ way_holes way name hs else way_holes way name hs)
       go true r = (suc r.0, r.1)
       go false r = r
 
-  pub way_from : (hs : List Hole) (h : Hole) → IsIn h (way_holes way name hs) → (g : Hole) × IsIn g hs × (g.leaf ≡ way) × (h ≡ renamed g)
+  pub way_from : (hs : List Hole) (h : Hole) → IsHoleAmong h (way_holes way name hs) → (g : Hole) × IsHoleAmong g hs × (g.leaf ≡ way) × (h ≡ renamed g)
   way_from [] h (k, at) = absurd cc
   way_from (x ∷ hs) h i = go (λ k at. way_from hs h (k, at)) (x.leaf == way) refl i
     where
-      rest : (g : Hole) × IsIn g hs × (g.leaf ≡ way) × (h ≡ renamed g) → (g : Hole) × IsIn g (x ∷ hs) × (g.leaf ≡ way) × (h ≡ renamed g)
+      rest : (g : Hole) × IsHoleAmong g hs × (g.leaf ≡ way) × (h ≡ renamed g) → (g : Hole) × IsHoleAmong g (x ∷ hs) × (g.leaf ≡ way) × (h ≡ renamed g)
       rest r = (r.0, (suc r.1.0, r.1.1), r.2, r.3)
 
-      go : ((k : ℕ) → slice_get (way_holes way name hs) k ≡ Some h → (g : Hole) × IsIn g hs × (g.leaf ≡ way) × (h ≡ renamed g)) → (u : Bool) → (x.leaf == way) ≡ u
-          → IsIn h (if u then renamed x ∷ way_holes way name hs else way_holes way name hs) → (g : Hole) × IsIn g (x ∷ hs) × (g.leaf ≡ way) × (h ≡ renamed g)
+      go : ((k : ℕ) → slice_get (way_holes way name hs) k ≡ Some h → (g : Hole) × IsHoleAmong g hs × (g.leaf ≡ way) × (h ≡ renamed g)) → (u : Bool) → (x.leaf == way) ≡ u
+          → IsHoleAmong h (if u then renamed x ∷ way_holes way name hs else way_holes way name hs) → (g : Hole) × IsHoleAmong g (x ∷ hs) × (g.leaf ≡ way) × (h ≡ renamed g)
       go more true t (zero, at) = (x, (0, refl), same-nat x.leaf way t, sym (same_Some (renamed x) h at))
       go more true t (suc k, at) = rest (more k at)
       go more false t j = rest (more j.0 j.1)
 
-hole_at : (from count : ℕ) (code : List Instr) (hs : List Hole) → AreHoles from count code hs → (h : Hole) → IsIn h hs → (from ≤ h.pc) × (h.leaf < count) × IsHole code h
+hole_at : (from count : ℕ) (code : List Instr) (hs : List Hole) → AreHoles from count code hs → (h : Hole) → IsHoleAmong h hs → (from ≤ h.pc) × (h.leaf < count) × IsHole code h
 hole_at from count code [] a h (k, at) = absurd cc
 hole_at from count code (x ∷ hs) a h (zero, at) = subst (λ (y : Hole). (from ≤ y.pc) × (y.leaf < count) × IsHole code y) (same_Some x h at) (a.0, a.1, a.2)
 hole_at from count code (x ∷ hs) a h (suc k, at) = hole_at from count code hs a.3 h (k, at)
@@ -92,11 +92,11 @@ hole_at from count code (x ∷ hs) a h (suc k, at) = hole_at from count code hs 
 -- what is looked at in one clause is looked at in all
 looked_all : (types : List DataDecl) (ty : Ty) (pats : List Pat) (pat : Pat) (k : ℕ) (position : List ℕ) (at : Ty) → slice_get pats k ≡ Some pat → IsLookedAt types ty (pat ∷ Wild 0 ∷ []) position at → IsLookedAt types ty pats position at
 looked_all types ty pats pat k position at is h =
-    let none : places_in types (Wild 0) ty ≡ [] = ap (λ (f : Ty → List Place). f ty) (fold-Wild (Ty → List Place) (places_step types) 0) in
+    let none : places_in types (Wild 0) ty ≡ [] = ap (λ (f : Ty → List TypedPosition). f ty) (fold-Wild (Ty → List TypedPosition) (places_step types) 0) in
     let l : flat_map (λ p. places_in types p ty) (pat ∷ Wild 0 ∷ []) ≡ places_in types pat ty = ap (λ ps. places_in types pat ty ++ (ps ++ [])) none ∙ no_more (places_in types pat ty) in
     in-flat (λ p. places_in types p ty) pats k pat (record { path = position; ty = at }) is h.0 (ap (λ ps. slice_get ps h.0) (sym l) ∙ h.1)
   where
-    no_more : (xs : List Place) → xs ++ [] ≡ xs
+    no_more : (xs : List TypedPosition) → xs ++ [] ≡ xs
     no_more [] = refl
     no_more (x ∷ xs) = ap (λ l. x ∷ l) (no_more xs)
 
@@ -138,14 +138,14 @@ module _ (agreed : LaidOut) (ty : Ty) (words : List Read) (pat : Pat) (number : 
   len : length clause_code.code ≡ length mid.code
   len = closed_length mid others targets
 
-  other_hole : (h : Hole) → IsIn h others → (lo ≤ h.pc) × IsHole mid.code h × (h.leaf ≡ 0)
+  other_hole : (h : Hole) → IsHoleAmong h others → (lo ≤ h.pc) × IsHole mid.code h × (h.leaf ≡ 0)
   other_hole h i =
       let f = way_from 1 0 found h i in
       let s = hole_at lo 2 mid.code found holes_are f.0 f.1 in
       let pc = ap (λ (x : Hole). x.pc) f.3 in
       (omega (arith, pc, s.0), subst (λ (x : Hole). IsHole mid.code x) (sym f.3) s.2, ap (λ (x : Hole). x.leaf) f.3)
 
-  to_end : (h : Hole) → IsIn h others → slice_index targets h.leaf ≡ length mid.code
+  to_end : (h : Hole) → IsHoleAmong h others → slice_index targets h.leaf ≡ length mid.code
   to_end h i = ap (slice_index targets) (other_hole h i).2
 
   pub others_patchable : ArePatchable mid.code others targets
@@ -173,7 +173,7 @@ module _ (agreed : LaidOut) (ty : Ty) (words : List Read) (pat : Pat) (number : 
   }
 
   module _ (final : List Instr) (fin : Finishes final clause_code.code matched lo (length clause_code.code)) where
-    apart : (h : Hole) → IsIn h others → IsOpen matched h.pc h.arm → ⊥
+    apart : (h : Hole) → IsHoleAmong h others → IsOpenTarget matched h.pc h.arm → ⊥
     apart h i o =
         let a = way_from 1 0 found h i in
         let c = way_from 0 number found o.0 o.1 in
@@ -186,7 +186,7 @@ module _ (agreed : LaidOut) (ty : Ty) (words : List Read) (pat : Pat) (number : 
     landed : IsLanded final mid others matched targets lo (length mid.code)
     landed = closed_open final matched targets lo (length mid.code) others mid (subst (λ k. Finishes final clause_code.code matched lo k) len fin) all_others one apart
 
-    opens : (q : ℕ) (arm : Option ℕ) → IsOpen (others ++ matched) q arm → IsOpen found q arm
+    opens : (q : ℕ) (arm : Option ℕ) → IsOpenTarget (others ++ matched) q arm → IsOpenTarget found q arm
     opens q arm o = elim (in_append others matched o.0 o.1) [
       | inl i ↦ (let a = way_from 1 0 found o.0 i in (a.0, a.1, sym (ap (λ (x : Hole). x.pc) a.3) ∙ o.2, sym (ap (λ (x : Hole). x.arm) a.3) ∙ o.3))
       | inr i ↦ (let a = way_from 0 number found o.0 i in (a.0, a.1, sym (ap (λ (x : Hole). x.pc) a.3) ∙ o.2, sym (ap (λ (x : Hole). x.arm) a.3) ∙ o.3))
@@ -207,7 +207,7 @@ module _ (agreed : LaidOut) (ty : Ty) (words : List Read) (pat : Pat) (number : 
           let agrees1 = subst Agrees (sym fine.of.program) agrees in
           let flat1 : plan.layouts ≡ flat_layouts plan.program = fine.of.layouts ∙ flat ∙ ap flat_layouts (sym fine.of.program) in
           let slots = closed_slots mid others targets in
-          let once : (path : List Place) → HasWay (ways (match_tree agreed.covered.program.types ty pair)) (map path_of path) → ((p : Place) → IsPlaceIn p path → IsLookedAt plan.program.types ty pair p.path p.ty) → looks plan path ≤ round_of plan ty pats =
+          let once : (path : List TypedPosition) → HasWay (ways (match_tree agreed.covered.program.types ty pair)) (map path_of path) → ((p : TypedPosition) → IsPlaceIn p path → IsLookedAt plan.program.types ty pair p.path p.ty) → looks plan path ≤ round_of plan ty pats =
           λ path way looked. within_sum (choosing_look plan.layouts) path (places_of_patterns plan.program.types ty pats)
           (all_at AreDistinct (ways (match_tree agreed.covered.program.types ty pair)) (Rattle.rb_decide.proofs.Positions.match-once agreed.covered.program.types ty pair) way.0 (map path_of path) way.1)
           (λ p i. in_distinct p _ (looked_all plan.program.types ty pats pat k p.path p.ty at (looked p i))) in
@@ -217,7 +217,7 @@ module _ (agreed : LaidOut) (ty : Ty) (words : List Read) (pat : Pat) (number : 
                 let lt = hole_within mid.code h f.1 in
                 let to = to_end h i in (f.0, omega (arith, to, lt), omega (arith, to))));
             matched = λ final callee next law fin s w v clean ws long good meant rep m.
-                let e = ap (λ u. taken u v) types_is ∙ value_takes plan ty pair typed1 agrees1 flat1 (exhaustive plan.program.types ty pat) w.memory clean v ws rep 0 (chosen_yes pat v m) in
+                let e = ap (λ u. clause_taken u v) types_is ∙ value_takes plan ty pair typed1 agrees1 flat1 (exhaustive plan.program.types ty pat) w.memory clean v ws rep 0 (chosen_yes pat v m) in
                 let l = t.leaves final callee next law (all_open final fin) s w v clean ws 0 (omega (arith, long, slots)) good meant rep e in
                 let sum = once l.path l.is_way l.looked in
                 let r = l.leaves in
@@ -235,7 +235,7 @@ module _ (agreed : LaidOut) (ty : Ty) (words : List Read) (pat : Pat) (number : 
                   exit = tt;
                 };
             other = λ final callee next law fin s w v clean ws long good meant rep m.
-                let e = ap (λ u. taken u v) types_is ∙ value_takes plan ty pair typed1 agrees1 flat1 (exhaustive plan.program.types ty pat) w.memory clean v ws rep 1 (chosen_no pat v m) in
+                let e = ap (λ u. clause_taken u v) types_is ∙ value_takes plan ty pair typed1 agrees1 flat1 (exhaustive plan.program.types ty pat) w.memory clean v ws rep 1 (chosen_no pat v m) in
                 let l = t.leaves final callee next law (all_open final fin) s w v clean ws 1 (omega (arith, long, slots)) good meant rep e in
                 let sum = once l.path l.is_way l.looked in
                 let r = l.leaves in
@@ -302,13 +302,13 @@ module _ (agreed : LaidOut) (ty : Ty) (words : List Read) (pats : List Pat) (i :
   abbrev start : ℕ
   start = length old.code
 
-  low : (h : Hole) → IsIn h holes → (start ≤ h.pc) × (h.leaf < i) × IsHole b.code h
+  low : (h : Hole) → IsHoleAmong h holes → (start ≤ h.pc) × (h.leaf < i) × IsHole b.code h
   low h j = hole_at start i b.code holes all.stand.holes_are h j
 
-  high : (h : Hole) → IsIn h more → (length b.code ≤ h.pc) × (h.leaf < i + 1) × IsHole c.code h
+  high : (h : Hole) → IsHoleAmong h more → (length b.code ≤ h.pc) × (h.leaf < i + 1) × IsHole c.code h
   high h j = hole_at (length b.code) (i + 1) c.code more last.stand.holes_are h j
 
-  below : (h : Hole) → IsIn h holes → h.pc < length b.code
+  below : (h : Hole) → IsHoleAmong h holes → h.pc < length b.code
   below h j = hole_within b.code h (low h j).2
 
   joined_stand : HolesStand old c (i + 1) joined
@@ -321,7 +321,7 @@ module _ (agreed : LaidOut) (ty : Ty) (words : List Read) (pats : List Pat) (i :
     ways = λ h k j l p s. both h k (in_append holes more h j) (in_append holes more k l) p s;
   }
     where
-      both : (h k : Hole) → IsIn h holes ⊎ IsIn h more → IsIn k holes ⊎ IsIn k more → h.pc ≡ k.pc → h.arm ≡ k.arm → h.leaf ≡ k.leaf
+      both : (h k : Hole) → IsHoleAmong h holes ⊎ IsHoleAmong h more → IsHoleAmong k holes ⊎ IsHoleAmong k more → h.pc ≡ k.pc → h.arm ≡ k.arm → h.leaf ≡ k.leaf
       both h k (inl j) (inl l) p s = all.stand.ways h k j l p s
       both h k (inl j) (inr l) p s = absurd (let x = below h j in let y = (high k l).0 in omega (arith, x, y, p))
       both h k (inr j) (inl l) p s = absurd (let x = below k l in let y = (high h j).0 in omega (arith, x, y, p))
@@ -416,7 +416,7 @@ chosen_few (p ∷ pats) v k e = go (matches_of p v) (λ j h. chosen_few pats v j
     go false rest (Some j) is k h = let z : suc j ≡ k = same_Some (suc j) k (sym (ap next_clause is) ∙ h) in let l = rest j is in omega (arith, z, l)
 
 pub chooses_all : (agreed : LaidOut) (ty : Ty) (pats : List Pat) (words : List ℕ) (old new : Sheet) (holes : List Hole) → 512 < size (match_tree agreed.covered.program.types ty pats) → TriesAll agreed ty (map Slot words) pats (length pats) old new holes
-    → Chooses agreed ty pats words old new holes
+    → ChoosesClause agreed ty pats words old new holes
 chooses_all agreed ty pats words old new holes large tries = λ plan of typed_pats exhaustive1 below1 count.
     let large1 : 512 < size (match_tree plan.program.types ty pats) = subst (λ (g : Rattle.rb_core.specs.declared.program.Program.Program). 512 < size (match_tree g.types ty pats)) (sym of.program) large in
     let a = tries.tries plan (record { of = of; fit = λ k le. slots_fit old.slots k words below1 le; count = length-map words Slot ∙ count }) in
@@ -426,5 +426,5 @@ chooses_all agreed ty pats words old new holes large tries = λ plan of typed_pa
       low = omega arith;
       leaves = λ final callee next law fin s w k long good pre.
           let r = a.chosen final callee next law fin s w pre.value pre.clean (slots_at s words) long good (slots_meant words s w.memory) pre.represents k pre.chosen (chosen_few pats pre.value k pre.chosen) in
-          subst (λ n. Leaves final next holes old.slots (n * round_of plan ty pats) (length old.code) s w k (λ s' m. Unit {0})) (sym all_rounds) r;
+          subst (λ n. GoesOutBy final next holes old.slots (n * round_of plan ty pats) (length old.code) s w k (λ s' m. Unit {0})) (sym all_rounds) r;
     }

@@ -11,12 +11,12 @@ use Rattle.rb_core.proofs.PatternLaws.{fold-Con}
 use Rattle.rb_layout.specs.declared.layout.Layout.{Layout}
 use Rattle.rb_layout.specs.declared.layout.Leaf.{Leaf}
 use Rattle.rb_layout.specs.Positions.{layout_of, leaves_of_layout}
-use Rattle.rb_rel.specs.Switches.{Head, head_below, heads_below, heads_of, heads_step, inner_heads, is_shallow}
-use Rattle.rb_match.specs.Bounding.{is_plain}
+use Rattle.rb_rel.specs.Switches.{HeadAt, head_below, heads_below, heads_of, heads_step, inner_heads, is_shallow}
+use Rattle.rb_match.specs.Bounding.{takes_none_apart}
 use Rattle.rb_match.specs.inner.Saving.{HasConstructor}
 
 heads-con : (token : ℕ) (c : ConRef) (ps : List Pat) → 1 ≤ length (heads_of (Con token c ps))
-heads-con token c ps = (let e = ap length (fold-Con (List Head) heads_step token c ps) in omega (arith, e))
+heads-con token c ps = (let e = ap length (fold-Con (List HeadAt) heads_step token c ps) in omega (arith, e))
 
 some-below : (subs : List Pat) (i k token : ℕ) (c : ConRef) (ps : List Pat) → slice_get subs k ≡ Some (Con token c ps) → 1 ≤ length (heads_below (map heads_of subs) i)
 some-below [] i k token c ps e = absurd cc
@@ -31,7 +31,7 @@ some-below (s ∷ subs) i (suc k) token c ps e =
 
 pub apart : (leaf : Leaf) (token : ℕ) (c : ConRef) (subs : List Pat) → leaf.prov ≡ Con token c subs → HasConstructor subs → is_shallow leaf ≡ false
 apart leaf token c subs prov (k, at, d, ps, is) =
-    let e : inner_heads leaf ≡ heads_below (map heads_of subs) 0 = ap (λ p. drop 1 (heads_of p)) prov ∙ ap (drop 1) (fold-Con (List Head) heads_step token c subs) in
+    let e : inner_heads leaf ≡ heads_below (map heads_of subs) 0 = ap (λ p. drop 1 (heads_of p)) prov ∙ ap (drop 1) (fold-Con (List HeadAt) heads_step token c subs) in
     let one = some-below subs 0 k at d ps is in
     let n : 1 ≤ length (inner_heads leaf) = subst (λ hs. 1 ≤ length hs) (sym e) one in
     grind (arith, common_steps, n)
@@ -45,5 +45,5 @@ not-all (l ∷ ls) (suc k) leaf e deep = go (is_shallow l) (not-all ls k leaf e 
     go true h = h
     go false h = refl
 
-pub is_deep : (layouts : List Layout) (t k : ℕ) (layout : Layout) (leaf : Leaf) → layout_of layouts t ≡ Some layout → slice_get layout.leaves k ≡ Some leaf → is_shallow leaf ≡ false → is_plain layouts t ≡ false
+pub is_deep : (layouts : List Layout) (t k : ℕ) (layout : Layout) (leaf : Leaf) → layout_of layouts t ≡ Some layout → slice_get layout.leaves k ≡ Some leaf → is_shallow leaf ≡ false → takes_none_apart layouts t ≡ false
 is_deep layouts t k layout leaf is at deep = ap (λ o. list_all is_shallow (leaves_of_layout o)) is ∙ not-all layout.leaves k leaf at deep

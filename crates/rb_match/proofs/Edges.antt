@@ -6,7 +6,7 @@ use Rattle.std.proofs.lemmas.Option.{same_Some}
 use Rattle.rb_target.specs.declared.instr.Instr.{Instr}
 use Rattle.rb_target.specs.declared.body.Hole.{Hole}
 use Rattle.rb_target.specs.Sheet.{IsHole}
-use Rattle.rb_target.specs.Targets.{IsIn, IsOpen}
+use Rattle.rb_target.specs.Targets.{IsHoleAmong, IsOpenTarget}
 use Rattle.rb_rel.proofs.Lists.{get-append, get-left, get-right, get-map, get-mapped}
 use Rattle.rb_fragment.proofs.Patching.{AreAllHoles, AreClosable}
 use Rattle.rb_fragment.specs.Arms.{AreHoles, ArePatchable}
@@ -21,23 +21,23 @@ same-nat a b e = grind (arith, common_steps)
 pub other-nat : (a b : ℕ) → (a == b) ≡ false → a ≡ b → ⊥
 other-nat a b e s = grind (arith, common_steps)
 
-pub in_none : (h : Hole) → IsIn h [] → ⊥
+pub in_none : (h : Hole) → IsHoleAmong h [] → ⊥
 in_none h (k, e) = cc e
 
-pub in_head : (h : Hole) (hs : List Hole) (o : Hole) → IsIn o (h ∷ hs) → (h ≡ o) ⊎ IsIn o hs
+pub in_head : (h : Hole) (hs : List Hole) (o : Hole) → IsHoleAmong o (h ∷ hs) → (h ≡ o) ⊎ IsHoleAmong o hs
 in_head h hs o (zero, e) = inl (same_Some h o e)
 in_head h hs o (suc k, e) = inr (k, e)
 
-pub in_tail : (h : Hole) (hs : List Hole) (o : Hole) → IsIn o hs → IsIn o (h ∷ hs)
+pub in_tail : (h : Hole) (hs : List Hole) (o : Hole) → IsHoleAmong o hs → IsHoleAmong o (h ∷ hs)
 in_tail h hs o (k, e) = (suc k, e)
 
-pub in_append : (hs ks : List Hole) (h : Hole) → IsIn h (hs ++ ks) → IsIn h hs ⊎ IsIn h ks
+pub in_append : (hs ks : List Hole) (h : Hole) → IsHoleAmong h (hs ++ ks) → IsHoleAmong h hs ⊎ IsHoleAmong h ks
 in_append hs ks h i = elim (get-append hs ks i.0 h i.1) [ inl e ↦ inl (i.0, e) | inr r ↦ inr r ]
 
-pub in_left : (hs ks : List Hole) (h : Hole) → IsIn h hs → IsIn h (hs ++ ks)
+pub in_left : (hs ks : List Hole) (h : Hole) → IsHoleAmong h hs → IsHoleAmong h (hs ++ ks)
 in_left hs ks h i = (i.0, get-left hs ks i.0 h i.1)
 
-pub in_right : (hs ks : List Hole) (h : Hole) → IsIn h ks → IsIn h (hs ++ ks)
+pub in_right : (hs ks : List Hole) (h : Hole) → IsHoleAmong h ks → IsHoleAmong h (hs ++ ks)
 in_right hs ks h i = get-right hs ks i.0 h i.1
 
 pub edge_append : (es fs : List Edge) (e : Edge) → IsEdge e (es ++ fs) → IsEdge e es ⊎ IsEdge e fs
@@ -50,19 +50,19 @@ pub edge_right : (es fs : List Edge) (e : Edge) → IsEdge e fs → IsEdge e (es
 edge_right es fs e i = get-right es fs i.0 e i.1
 
 -- the hole of an edge, and the edge of a hole
-pub to_hole : (es : List Edge) (e : Edge) → IsEdge e es → IsIn e.hole (holes_of es)
+pub to_hole : (es : List Edge) (e : Edge) → IsEdge e es → IsHoleAmong e.hole (holes_of es)
 to_hole es e (k, at) = (k, get-mapped hole_of es k e at)
 
-pub from_hole : (es : List Edge) (h : Hole) → IsIn h (holes_of es) → (e : Edge) × IsEdge e es × (h ≡ e.hole)
+pub from_hole : (es : List Edge) (h : Hole) → IsHoleAmong h (holes_of es) → (e : Edge) × IsEdge e es × (h ≡ e.hole)
 from_hole es h (k, at) = let m = get-map hole_of es k h at in (m.0, (k, m.1), m.2)
 
 -- an open target is that of an edge
-pub open_edge : (es : List Edge) (q : ℕ) (arm : Option ℕ) → IsOpen (holes_of es) q arm → (e : Edge) × IsEdge e es × (e.hole.pc ≡ q) × (e.hole.arm ≡ arm)
+pub open_edge : (es : List Edge) (q : ℕ) (arm : Option ℕ) → IsOpenTarget (holes_of es) q arm → (e : Edge) × IsEdge e es × (e.hole.pc ≡ q) × (e.hole.arm ≡ arm)
 open_edge es q arm o =
     let f = from_hole es o.0 o.1 in
     (f.0, f.1, ap (λ (h : Hole). h.pc) (sym f.2) ∙ o.2, ap (λ (h : Hole). h.arm) (sym f.2) ∙ o.3)
 
-pub edge_open : (es : List Edge) (q : ℕ) (arm : Option ℕ) (e : Edge) → IsEdge e es → e.hole.pc ≡ q → e.hole.arm ≡ arm → IsOpen (holes_of es) q arm
+pub edge_open : (es : List Edge) (q : ℕ) (arm : Option ℕ) (e : Edge) → IsEdge e es → e.hole.pc ≡ q → e.hole.arm ≡ arm → IsOpenTarget (holes_of es) q arm
 edge_open es q arm e i at is = (e.hole, to_hole es e i, at, is)
 
 -- the edges of a node
@@ -70,20 +70,20 @@ module _ (n : ℕ) where
   abbrev pub landing : Edge → Hole
   landing e = record { pc = e.hole.pc; arm = e.hole.arm; leaf = 0 }
 
-  pub landed : (es : List Edge) (e : Edge) → IsEdge e es → e.hole.leaf ≡ n → IsIn (landing e) (landing_of n es)
+  pub landed : (es : List Edge) (e : Edge) → IsEdge e es → e.hole.leaf ≡ n → IsHoleAmong (landing e) (landing_of n es)
   landed [] e (k, at) is = absurd cc
   landed (x ∷ es) e (zero, at) is =
       let same : x ≡ e = same_Some x e at in
       let test : (x.hole.leaf == n) ≡ true = (let leaf = ap (λ (y : Edge). y.hole.leaf) same ∙ is in grind (arith, common_steps)) in
-      subst (λ u. IsIn (landing e) (if u then landing x ∷ landing_of n es else landing_of n es)) (sym test) (0, ap (λ (y : Edge). Some (landing y)) same)
+      subst (λ u. IsHoleAmong (landing e) (if u then landing x ∷ landing_of n es else landing_of n es)) (sym test) (0, ap (λ (y : Edge). Some (landing y)) same)
   landed (x ∷ es) e (suc k, at) is =
       let r = landed es e (k, at) is in go (x.hole.leaf == n) r
     where
-      go : (u : Bool) → IsIn (landing e) (landing_of n es) → IsIn (landing e) (if u then landing x ∷ landing_of n es else landing_of n es)
+      go : (u : Bool) → IsHoleAmong (landing e) (landing_of n es) → IsHoleAmong (landing e) (if u then landing x ∷ landing_of n es else landing_of n es)
       go true r = (suc r.0, r.1)
       go false r = r
 
-  pub landed_from : (es : List Edge) (h : Hole) → IsIn h (landing_of n es) → (e : Edge) × IsEdge e es × (e.hole.leaf ≡ n) × (h ≡ landing e)
+  pub landed_from : (es : List Edge) (h : Hole) → IsHoleAmong h (landing_of n es) → (e : Edge) × IsEdge e es × (e.hole.leaf ≡ n) × (h ≡ landing e)
   landed_from [] h (k, at) = absurd cc
   landed_from (x ∷ es) h i = go (λ k at. landed_from es h (k, at)) (x.hole.leaf == n) refl i
     where
@@ -91,7 +91,7 @@ module _ (n : ℕ) where
       rest r = (r.0, (suc r.1.0, r.1.1), r.2, r.3)
 
       go : ((k : ℕ) → slice_get (landing_of n es) k ≡ Some h → (e : Edge) × IsEdge e es × (e.hole.leaf ≡ n) × (h ≡ landing e))
-          → (u : Bool) → (x.hole.leaf == n) ≡ u → IsIn h (if u then landing x ∷ landing_of n es else landing_of n es) → (e : Edge) × IsEdge e (x ∷ es) × (e.hole.leaf ≡ n) × (h ≡ landing e)
+          → (u : Bool) → (x.hole.leaf == n) ≡ u → IsHoleAmong h (if u then landing x ∷ landing_of n es else landing_of n es) → (e : Edge) × IsEdge e (x ∷ es) × (e.hole.leaf ≡ n) × (h ≡ landing e)
       go more true t (zero, at) = (x, (0, refl), same-nat x.hole.leaf n t, sym (same_Some (landing x) h at))
       go more true t (suc k, at) = rest (more k at)
       go more false t j = rest (more j.0 j.1)
@@ -128,24 +128,24 @@ module _ (n : ℕ) where
       go rest false = ap (λ l. x ∷ l) rest
 
 -- lists from each of their holes
-pub all_holes_from : (code : List Instr) (hs : List Hole) → ((h : Hole) → IsIn h hs → IsHole code h) → AreAllHoles code hs
+pub all_holes_from : (code : List Instr) (hs : List Hole) → ((h : Hole) → IsHoleAmong h hs → IsHole code h) → AreAllHoles code hs
 all_holes_from code [] f = tt
 all_holes_from code (h ∷ hs) f = (f h (0, refl), all_holes_from code hs (λ k i. f k (in_tail h hs k i)))
 
-pub closable_from : (from m : ℕ) (hs : List Hole) (ts : List ℕ) → ((h : Hole) → IsIn h hs → (from ≤ h.pc) × (h.pc < slice_index ts h.leaf) × (slice_index ts h.leaf ≤ m)) → AreClosable from m hs ts
+pub closable_from : (from m : ℕ) (hs : List Hole) (ts : List ℕ) → ((h : Hole) → IsHoleAmong h hs → (from ≤ h.pc) × (h.pc < slice_index ts h.leaf) × (slice_index ts h.leaf ≤ m)) → AreClosable from m hs ts
 closable_from from m [] ts f = tt
 closable_from from m (h ∷ hs) ts f = let x = f h (0, refl) in (x.0, x.1, x.2, closable_from from m hs ts (λ k i. f k (in_tail h hs k i)))
 
-pub patchable_from : (code : List Instr) (hs : List Hole) (ts : List ℕ) → ((h : Hole) → IsIn h hs → IsHole code h × (h.leaf < length ts) × (h.pc < slice_index ts h.leaf)) → ArePatchable code hs ts
+pub patchable_from : (code : List Instr) (hs : List Hole) (ts : List ℕ) → ((h : Hole) → IsHoleAmong h hs → IsHole code h × (h.leaf < length ts) × (h.pc < slice_index ts h.leaf)) → ArePatchable code hs ts
 patchable_from code [] ts f = tt
 patchable_from code (h ∷ hs) ts f = let x = f h (0, refl) in (x.0, x.1, x.2, patchable_from code hs ts (λ k i. f k (in_tail h hs k i)))
 
-pub holes_from : (from count : ℕ) (code : List Instr) (hs : List Hole) → ((h : Hole) → IsIn h hs → (from ≤ h.pc) × (h.leaf < count) × IsHole code h) → AreHoles from count code hs
+pub holes_from : (from count : ℕ) (code : List Instr) (hs : List Hole) → ((h : Hole) → IsHoleAmong h hs → (from ≤ h.pc) × (h.leaf < count) × IsHole code h) → AreHoles from count code hs
 holes_from from count code [] f = tt
 holes_from from count code (h ∷ hs) f = let x = f h (0, refl) in (x.0, x.1, x.2, holes_from from count code hs (λ k i. f k (in_tail h hs k i)))
 
 -- each of some holes is one
-pub hole_at : (from count : ℕ) (code : List Instr) (hs : List Hole) → AreHoles from count code hs → (h : Hole) → IsIn h hs → (from ≤ h.pc) × (h.leaf < count) × IsHole code h
+pub hole_at : (from count : ℕ) (code : List Instr) (hs : List Hole) → AreHoles from count code hs → (h : Hole) → IsHoleAmong h hs → (from ≤ h.pc) × (h.leaf < count) × IsHole code h
 hole_at from count code [] a h (k, at) = absurd cc
 hole_at from count code (x ∷ hs) a h (zero, at) = subst (λ (y : Hole). (from ≤ y.pc) × (y.leaf < count) × IsHole code y) (same_Some x h at) (a.0, a.1, a.2)
 hole_at from count code (x ∷ hs) a h (suc k, at) = hole_at from count code hs a.3 h (k, at)

@@ -3,7 +3,7 @@ use Rattle.std.proofs.Common.{◌≡◌, ℕ, zero, suc, ◌+◌, inl, inr, List
 use Rattle.std.specs.Prelude.{slice_get}
 use Rattle.std.proofs.lemmas.Option.{same_Some}
 use Rattle.rb_target.proofs.Growing.{below_or, get-append, get-seam}
-use Rattle.rb_fetch.specs.Pruning.{AreBelow}
+use Rattle.rb_fetch.specs.Pruning.{GroupsBelow}
 use Rattle.rb_match.specs.inner.Asking.{AreGroups}
 
 module _ {A : Type 0} (IsGroup : ℕ → A → Type 0) where
@@ -21,15 +21,15 @@ module _ {A : Type 0} (IsGroup : ℕ → A → Type 0) where
   }
 
 -- some number is above all of them
-pub above : (groups : List (Option ℕ)) → (count : ℕ) × AreBelow count groups
+pub above : (groups : List (Option ℕ)) → (count : ℕ) × GroupsBelow count groups
 above [] = (0, λ leaf g e. absurd cc)
 above (None ∷ groups) = let more = above groups in (more.0, none more.0 more.1)
   where
-    none : (count : ℕ) → AreBelow count groups → AreBelow count (None ∷ groups)
+    none : (count : ℕ) → GroupsBelow count groups → GroupsBelow count (None ∷ groups)
     none count below zero g e = absurd cc
     none count below (suc k) g e = below k g e
 above (Some h ∷ groups) = let more = above groups in (h + 1 + more.0, some more.0 more.1)
   where
-    some : (count : ℕ) → AreBelow count groups → AreBelow (h + 1 + count) (Some h ∷ groups)
+    some : (count : ℕ) → GroupsBelow count groups → GroupsBelow (h + 1 + count) (Some h ∷ groups)
     some count below zero g e = let same = same_Some h g e in omega (arith, same)
     some count below (suc k) g e = let lt = below k g e in omega (arith, lt)

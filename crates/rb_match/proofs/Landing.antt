@@ -5,7 +5,7 @@ use Rattle.std.proofs.lemmas.Option.{same_Some}
 use Rattle.rb_target.specs.declared.instr.Instr.{Instr}
 use Rattle.rb_target.specs.declared.body.Hole.{Hole}
 use Rattle.rb_target.specs.Sheet.{Sheet, patched, IsHole}
-use Rattle.rb_target.specs.Targets.{Finishes, IsIn, IsOpen, target_in}
+use Rattle.rb_target.specs.Targets.{Finishes, IsHoleAmong, IsOpenTarget, target_in}
 use Rattle.rb_target.proofs.Finishing.{agrees-sub, finishes_patched, leads_patched}
 use Rattle.rb_target.proofs.Shapes.{patch_is}
 use Rattle.rb_fragment.proofs.Closing.{is_open}
@@ -21,10 +21,10 @@ use Rattle.rb_match.proofs.Edges.{same-nat, other-nat, in_none, in_head, in_tail
 -- some holes that are closed, where others stay open
 pub record IsLanded (final : List Instr) (b : Sheet) (hs ks : List Hole) (ts : List ℕ) (lo hi : ℕ) : Type 0 where
   pub finishes : Finishes final b.code (hs ++ ks) lo hi
-  pub leads : (h : Hole) → IsIn h hs → lo ≤ h.pc → h.pc < hi → target_in (slice_get final h.pc) h.arm ≡ Some (slice_index ts h.leaf)
+  pub leads : (h : Hole) → IsHoleAmong h hs → lo ≤ h.pc → h.pc < hi → target_in (slice_get final h.pc) h.arm ≡ Some (slice_index ts h.leaf)
 
 pub closed_open : (final : List Instr) (ks : List Hole) (ts : List ℕ) (lo hi : ℕ) (hs : List Hole) (b : Sheet) → Finishes final (closed b hs ts).code ks lo hi → AreAllHoles b.code hs → AreOfOneWay hs
-    → ((h : Hole) → IsIn h hs → IsOpen ks h.pc h.arm → ⊥) → IsLanded final b hs ks ts lo hi
+    → ((h : Hole) → IsHoleAmong h hs → IsOpenTarget ks h.pc h.arm → ⊥) → IsLanded final b hs ks ts lo hi
 closed_open final ks ts lo hi [] b fin holes one apart = record { finishes = fin; leads = λ h i. absurd (in_none h i) }
 closed_open final ks ts lo hi (h ∷ hs) b fin holes one apart =
     let t = slice_index ts h.leaf in
@@ -56,7 +56,7 @@ module _ (b : Sheet) (edges : List Edge) (n from : ℕ) (stand : AreOpen from b.
   abbrev pub targets : List ℕ
   targets = length b.code ∷ []
 
-  pub landing_hole : (h : Hole) → IsIn h holes → (from ≤ h.pc) × IsHole b.code h × (h.leaf ≡ 0)
+  pub landing_hole : (h : Hole) → IsHoleAmong h holes → (from ≤ h.pc) × IsHole b.code h × (h.leaf ≡ 0)
   landing_hole h i =
       let f = landed_from n edges h i in
       let s = stand f.0 f.1 in
@@ -66,7 +66,7 @@ module _ (b : Sheet) (edges : List Edge) (n from : ℕ) (stand : AreOpen from b.
   pub landing_holes : AreAllHoles b.code holes
   landing_holes = all_holes_from b.code holes (λ h i. (landing_hole h i).1)
 
-  pub landing_target : (h : Hole) → IsIn h holes → (h.leaf < length targets) × (h.pc < slice_index targets h.leaf) × (slice_index targets h.leaf ≤ length b.code)
+  pub landing_target : (h : Hole) → IsHoleAmong h holes → (h.leaf < length targets) × (h.pc < slice_index targets h.leaf) × (slice_index targets h.leaf ≤ length b.code)
   landing_target h i =
       let f = landing_hole h i in
       let lt = hole_within b.code h f.1 in
@@ -93,7 +93,7 @@ module _ (job : Job) (b : Sheet) (edges : List Edge) (n : ℕ) (known : List Kno
   len = closed_length b L (length b.code ∷ [])
 
   module _ (final : List Instr) (fin : Finishes final landed_code.code (holes_of rest) lo (length landed_code.code)) where
-    apart : (h : Hole) → IsIn h L → IsOpen (holes_of rest) h.pc h.arm → ⊥
+    apart : (h : Hole) → IsHoleAmong h L → IsOpenTarget (holes_of rest) h.pc h.arm → ⊥
     apart h i o =
         let l = landed_from n edges h i in
         let e = open_edge rest h.pc h.arm o in
@@ -108,7 +108,7 @@ module _ (job : Job) (b : Sheet) (edges : List Edge) (n : ℕ) (known : List Kno
     is_landed : IsLanded final b L (holes_of rest) (length b.code ∷ []) lo (length b.code)
     is_landed = closed_open final (holes_of rest) (length b.code ∷ []) lo (length b.code) L b (subst (λ k. Finishes final landed_code.code (holes_of rest) lo k) len fin) (landing_holes b edges n lo st.stand.are_open) one apart
 
-    opens : (q : ℕ) (arm : Option ℕ) → IsOpen (L ++ holes_of rest) q arm → IsOpen (holes_of edges) q arm
+    opens : (q : ℕ) (arm : Option ℕ) → IsOpenTarget (L ++ holes_of rest) q arm → IsOpenTarget (holes_of edges) q arm
     opens q arm o = elim (in_append L (holes_of rest) o.0 o.1) [
       | inl i ↦
           let l = landed_from n edges o.0 i in

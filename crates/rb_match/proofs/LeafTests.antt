@@ -23,7 +23,7 @@ use Rattle.rb_core.specs.declared.types.Ty.TheVariants.{Named}
 use Rattle.rb_target.specs.declared.body.Hole.{Hole}
 use Rattle.rb_target.specs.Growth.{Keeps}
 use Rattle.rb_target.specs.Sheet.{Sheet, IsHole}
-use Rattle.rb_target.specs.Targets.{Finishes, IsIn}
+use Rattle.rb_target.specs.Targets.{Finishes, IsHoleAmong}
 use Rattle.rb_target.proofs.Finishing.{agrees-sub}
 use Rattle.rb_layout.specs.declared.agreed.LaidOut.{LaidOut}
 use Rattle.std.specs.Prelude.{slice_get}
@@ -146,21 +146,21 @@ module _ (agreed : LaidOut) (nodes : List GraphNode) (t : ℕ) (position : Bor (
   view_to h None e is = absurd cc
   view_to h (Some node) e is = (node, refl, sym (same_Some _ e is))
 
-  view : (hs : List Hole) (e : Edge) → IsEdge e (leaf_edges hs) → (h : Hole) × IsIn h hs × (node : ℕ) × (node_at h.leaf ≡ Some node) × (e ≡ to h node)
+  view : (hs : List Hole) (e : Edge) → IsEdge e (leaf_edges hs) → (h : Hole) × IsHoleAmong h hs × (node : ℕ) × (node_at h.leaf ≡ Some node) × (e ≡ to h node)
   view [] e (k, at) = absurd cc
   view (h ∷ hs) e i = go (λ j. view hs e j) (edge_for agreed nodes t position known arms other h) refl i
     where
-      later : (x : Hole) × IsIn x hs × (node : ℕ) × (node_at x.leaf ≡ Some node) × (e ≡ to x node) → (x : Hole) × IsIn x (h ∷ hs) × (node : ℕ) × (node_at x.leaf ≡ Some node) × (e ≡ to x node)
+      later : (x : Hole) × IsHoleAmong x hs × (node : ℕ) × (node_at x.leaf ≡ Some node) × (e ≡ to x node) → (x : Hole) × IsHoleAmong x (h ∷ hs) × (node : ℕ) × (node_at x.leaf ≡ Some node) × (e ≡ to x node)
       later r = (r.0, in_tail h hs r.0 r.1, r.2, r.3, r.4)
 
-      go : (IsEdge e (leaf_edges hs) → (x : Hole) × IsIn x hs × (node : ℕ) × (node_at x.leaf ≡ Some node) × (e ≡ to x node)) → (o : Option Edge) → edge_for agreed nodes t position known arms other h ≡ o → IsEdge e (keep_edge o (leaf_edges hs))
-          → (x : Hole) × IsIn x (h ∷ hs) × (node : ℕ) × (node_at x.leaf ≡ Some node) × (e ≡ to x node)
+      go : (IsEdge e (leaf_edges hs) → (x : Hole) × IsHoleAmong x hs × (node : ℕ) × (node_at x.leaf ≡ Some node) × (e ≡ to x node)) → (o : Option Edge) → edge_for agreed nodes t position known arms other h ≡ o → IsEdge e (keep_edge o (leaf_edges hs))
+          → (x : Hole) × IsHoleAmong x (h ∷ hs) × (node : ℕ) × (node_at x.leaf ≡ Some node) × (e ≡ to x node)
       go rest None is j = later (rest j)
       go rest (Some f) is (zero, at) = let r = view_to h (node_at h.leaf) e (is ∙ at) in (h, (0, refl), r.0, r.1, r.2)
       go rest (Some f) is (suc k, at) = later (rest (k, at))
 
   -- the edge of a hole
-  edge_of : (hs : List Hole) (h : Hole) (node : ℕ) → IsIn h hs → node_at h.leaf ≡ Some node → IsEdge (to h node) (leaf_edges hs)
+  edge_of : (hs : List Hole) (h : Hole) (node : ℕ) → IsHoleAmong h hs → node_at h.leaf ≡ Some node → IsEdge (to h node) (leaf_edges hs)
   edge_of [] h node (k, at) is = absurd cc
   edge_of (x ∷ hs) h node (zero, at) is =
       let same : x ≡ h = same_Some x h at in

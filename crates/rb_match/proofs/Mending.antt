@@ -19,10 +19,10 @@ use Rattle.rb_decide.specs.Decisions.{subpatterns}
 use Rattle.rb_layout.specs.declared.layout.Layout.{Layout}
 use Rattle.rb_layout.specs.declared.layout.Leaf.{Leaf}
 use Rattle.rb_layout.specs.Positions.{layout_of, leaves_of_layout, leaf_of}
-use Rattle.rb_rel.specs.Switches.{Head, choose_of, greatest, head_below, heads_below, heads_of, heads_step, inner_heads, is_shallow, mend_leaf, mend_of}
+use Rattle.rb_rel.specs.Switches.{HeadAt, choose_of, greatest, head_below, heads_below, heads_of, heads_step, inner_heads, is_shallow, mend_leaf, mend_of}
 use Rattle.rb_rel.proofs.Leaves.{leaf_matches}
 use Rattle.rb_fragment.specs.Plan.{Plan}
-use Rattle.rb_match.specs.Bounding.{is_plain, rebuilding}
+use Rattle.rb_match.specs.Bounding.{takes_none_apart, rebuilding}
 use Rattle.rb_match.specs.inner.Asking.{leaf_in}
 use Rattle.rb_match.specs.inner.Saving.{HasPart, mend_at, mend_below, mend_inside, mend_pattern, mends_at, pattern_at, prov_at, provenance}
 use Rattle.rb_match.proofs.Edges.{same-nat}
@@ -35,10 +35,10 @@ both false b e = absurd cc
 -- Sums
 
 module _ (layouts : List Layout) where
-  abbrev cost : Head → ℕ
+  abbrev cost : HeadAt → ℕ
   cost h = choose_of layouts h.con.ty h.con.con
 
-  sum-below : (i : ℕ) (hs : List Head) → sum_by cost (map (head_below i) hs) ≡ sum_by cost hs
+  sum-below : (i : ℕ) (hs : List HeadAt) → sum_by cost (map (head_below i) hs) ≡ sum_by cost hs
   sum-below i [] = refl
   sum-below i (h ∷ hs) = (let a = sum_by-cons cost (head_below i h) (map (head_below i) hs) in let b = sum_by-cons cost h hs in let r = sum-below i hs in omega (arith, a, b, r))
 
@@ -71,7 +71,7 @@ module _ (layouts : List Layout) where
     num = λ at n. (let e = ap (λ l. some (subpatterns l) i) (outs-Num at n) in let r = some-none i in omega (arith, e, r));
     con = λ at c ps each.
         let e = ap (λ l. some (subpatterns l) i) (outs-Con at c ps) in
-        let h = ap (λ hs. sum_by cost (drop 1 hs)) (fold-Con (List Head) heads_step at c ps) in
+        let h = ap (λ hs. sum_by cost (drop 1 hs)) (fold-Con (List HeadAt) heads_step at c ps) in
         let r = some-within ps 0 i in omega (arith, e, h, r);
   }) q
 
@@ -111,7 +111,7 @@ module _ (layouts : List Layout) where
   pub below_at : (t number : ℕ) (path : List ℕ) → mend_below layouts t number path ≤ mend_at layouts t number path
   below_at t number path = go (prov_at layouts t number path)
     where
-      less : (hs : List Head) → sum_by cost (drop 1 hs) ≤ sum_by cost hs
+      less : (hs : List HeadAt) → sum_by cost (drop 1 hs) ≤ sum_by cost hs
       less [] = omega arith
       less (h ∷ hs) = (let c = sum_by-cons cost h hs in omega (arith, c))
 
@@ -129,7 +129,7 @@ module _ (layouts : List Layout) where
   shallow-at (l ∷ ls) all zero leaf e = ap is_shallow (sym (same_Some l leaf e)) ∙ (both (is_shallow l) (list_all is_shallow ls) all).0
   shallow-at (l ∷ ls) all (suc k) leaf e = shallow-at ls (both (is_shallow l) (list_all is_shallow ls) all).1 k leaf e
 
-  no-heads : (hs : List Head) → (length hs == 0) ≡ true → sum_by cost hs ≡ 0
+  no-heads : (hs : List HeadAt) → (length hs == 0) ≡ true → sum_by cost hs ≡ 0
   no-heads [] e = refl
   no-heads (h ∷ hs) e = absurd (let x = same-nat (length (h ∷ hs)) 0 e in omega (arith, x))
 
@@ -140,7 +140,7 @@ module _ (layouts : List Layout) where
       here : (layout : Layout) → layout_of layouts t ≡ Some layout → (leaf : Leaf) → slice_get layout.leaves number ≡ Some leaf → mend_below layouts t number [] ≡ sum_by cost (inner_heads leaf)
       here layout is leaf at = ap (λ o. mend_inside layouts (pattern_at (provenance o) [])) (ap (λ o. leaf_in o number) is ∙ at)
 
-      in_both : (layout : Layout) → layout_of layouts t ≡ Some layout → (leaf : Leaf) → slice_get layout.leaves number ≡ Some leaf → (u : Bool) → is_plain layouts t ≡ u → mend_below layouts t number [] ≤ (if u then 0 else mend_of layouts t)
+      in_both : (layout : Layout) → layout_of layouts t ≡ Some layout → (leaf : Leaf) → slice_get layout.leaves number ≡ Some leaf → (u : Bool) → takes_none_apart layouts t ≡ u → mend_below layouts t number [] ≤ (if u then 0 else mend_of layouts t)
       in_both layout is leaf at true plain =
           let a = here layout is leaf at in
           let s = shallow-at layout.leaves (ap (λ o. list_all is_shallow (leaves_of_layout o)) (sym is) ∙ plain) number leaf at in
@@ -152,7 +152,7 @@ module _ (layouts : List Layout) where
 
       in_leaf : (layout : Layout) → layout_of layouts t ≡ Some layout → (o : Option Leaf) → slice_get layout.leaves number ≡ o → mend_below layouts t number [] ≤ rebuilding layouts (Named t)
       in_leaf layout is None none = (let z = ap (λ o. mend_inside layouts (pattern_at (provenance o) [])) (ap (λ o. leaf_in o number) is ∙ none) in omega (arith, z))
-      in_leaf layout is (Some leaf) at = in_both layout is leaf at (is_plain layouts t) refl
+      in_leaf layout is (Some leaf) at = in_both layout is leaf at (takes_none_apart layouts t) refl
 
       in_layout : (o : Option Layout) → layout_of layouts t ≡ o → mend_below layouts t number [] ≤ rebuilding layouts (Named t)
       in_layout None is = (let z = ap (λ o. mend_inside layouts (pattern_at (provenance (leaf_in o number)) [])) is in omega (arith, z))

@@ -12,7 +12,7 @@ use Rattle.rb_target.specs.declared.body.Hole.{Hole}
 use Rattle.rb_target.specs.Growth.{Grows}
 use Rattle.rb_target.specs.Meaning.{taken}
 use Rattle.rb_target.specs.Sheet.{Sheet, pushed, IsHole, IsHoleIn}
-use Rattle.rb_target.specs.Targets.{Finishes, IsIn, shape_in, target_in}
+use Rattle.rb_target.specs.Targets.{Finishes, IsHoleAmong, without_targets_in, target_in}
 use Rattle.rb_target.proofs.Finishing.{agrees-sub}
 use Rattle.rb_target.proofs.Growing.{Grows-trans, Grows-append, Keeps-refl, get-seam}
 use Rattle.rb_target.proofs.Shapes.{jump_shape}
@@ -20,7 +20,7 @@ use Rattle.rb_layout.specs.declared.agreed.LaidOut.{LaidOut}
 use Rattle.rb_rel.proofs.Lists.{got, get-append-at}
 use Rattle.rb_fragment.specs.declared.reads.Read.{Read}
 use Rattle.rb_fragment.specs.Arms.{AreHoles, AreOfOneWay, ArePatchable, HasHole, closed}
-use Rattle.rb_fragment.specs.Plan.{Plan, Rep, words_of}
+use Rattle.rb_fragment.specs.Plan.{Plan, Rep, words_needed}
 use Rattle.rb_fragment.specs.WordReads.{AllFit}
 use Rattle.rb_fragment.proofs.Adding.{push_adds}
 use Rattle.rb_fragment.proofs.Patching.{at_closed, closed_hole, closed_length, hole_within, retarget_none}
@@ -34,7 +34,7 @@ use Rattle.rb_fragment.proofs.Holds.{AllBelow-more}
 use Rattle.rb_match.specs.inner.Knowing.{IsEdge, IsCommon}
 use Rattle.rb_match.specs.inner.Places.{FindsPlace, IsLookedAt}
 use Rattle.rb_match.specs.inner.Asking.{AreSpots, holes_of, AreOpen, StandOpen, AskedAt, AskedThere, edge_at}
-use Rattle.rb_match.specs.inner.Flowing.{landing_of, others_of, job_of, Flows, JobStands, StepsNode, Begins, IsFineJob, IsClauseHole, AreClauseHoles, TakesGraph}
+use Rattle.rb_match.specs.inner.Flowing.{landing_of, others_of, job_of, Flows, JobStands, StepsNode, RootStands, IsFineJob, IsClauseHole, AreClauseHoles, TakesGraph}
 use Rattle.rb_match.proofs.Edges.{edge_append, edge_open, other_from, holes_from, patchable_from}
 use Rattle.rb_match.proofs.Landing.{landing_hole, landing_target, land_flows}
 use Rattle.rb_match.proofs.Passing.{begins_on, ends_on}
@@ -46,7 +46,7 @@ use Rattle.rb_match.proofs.Threads.{leads_refl, thread_append, thread_flows, thr
 -- from reads of the part to reads of the whole value
 pub asks_of : (agreed : LaidOut) (graph : Whole) (words : List Read) (spots : List Spot) (known : List Known) (position : List ℕ) (arms : List GraphArm) (other : Option ℕ) (old new : Sheet) (edges : List Edge) (place : Place)
     → FindsPlace agreed graph.ty words spots known position place → IsLookedAt agreed.covered.program.types graph.ty graph.pats.now position place.ty
-    → ((plan : Plan) (n : ℕ) → IsPlanOf agreed plan → AreSpots plan n old.slots spots → AllFit old.slots place.reads → length place.reads ≡ words_of plan place.ty → AskedThere (IsOnward agreed graph) plan place.ty n spots place.reads known position arms other old new edges)
+    → ((plan : Plan) (n : ℕ) → IsPlanOf agreed plan → AreSpots plan n old.slots spots → AllFit old.slots place.reads → length place.reads ≡ words_needed plan place.ty → AskedThere (IsOnward agreed graph) plan place.ty n spots place.reads known position arms other old new edges)
     → Asks agreed graph words spots known position arms other old new edges
 asks_of agreed graph words spots known position arms other old new edges place finds looked asks = λ plan n of are fit count.
     let p = finds plan of count are.count in
@@ -100,12 +100,12 @@ spots-more plan n m m1 spots le a = record {
 }
 
 -- where no hole is, code that is closed stays
-has_in : (pc : ℕ) (hs : List Hole) → HasHole pc hs → (h : Hole) × IsIn h hs × (pc ≡ h.pc)
+has_in : (pc : ℕ) (hs : List Hole) → HasHole pc hs → (h : Hole) × IsHoleAmong h hs × (pc ≡ h.pc)
 has_in pc [] h = absurd h
 has_in pc (x ∷ hs) (inl e) = (x, (0, refl), e)
 has_in pc (x ∷ hs) (inr h) = let r = has_in pc hs h in (r.0, (suc r.1.0, r.1.1), r.2)
 
-pub closed_grows : (first b : Sheet) (hs : List Hole) (ts : List ℕ) → Grows first.code b.code → ((h : Hole) → IsIn h hs → length first.code ≤ h.pc) → Grows first.code (closed b hs ts).code
+pub closed_grows : (first b : Sheet) (hs : List Hole) (ts : List ℕ) → Grows first.code b.code → ((h : Hole) → IsHoleAmong h hs → length first.code ≤ h.pc) → Grows first.code (closed b hs ts).code
 closed_grows first b hs ts g low = record {
   longer = (let n = closed_length b hs ts in omega (arith, n, g.longer));
   same = λ pc lt. at_closed b hs ts pc ∙ retarget_none pc hs ts _ (λ h. let r = has_in pc hs h in let l = low r.0 r.1 in omega (arith, l, r.2, lt)) ∙ g.same pc lt;
@@ -188,7 +188,7 @@ module _ (agreed : LaidOut) (graph : Whole) (words : List Read) (spots : List Sp
 -- the root
 pub begins_test : (agreed : LaidOut) (graph : Whole) (words : List Read) (spots : List Spot) (root : ℕ) (position : List ℕ) (arms : List GraphArm) (other : Option ℕ) (old new : Sheet) (edges onward : List Edge)
     → slice_get graph.nodes.now root ≡ Some (Test position arms other) → Asks agreed graph words spots [] position arms other old new edges → StandOpen old new edges → Threads agreed graph.ty graph.pats.now graph.nodes.now edges onward → Grows old.code new.code
-    → Begins agreed graph.ty words graph.pats.now spots graph.nodes.now root old new onward
+    → RootStands agreed graph.ty words graph.pats.now spots graph.nodes.now root old new onward
 begins_test agreed graph words spots root position arms other old new edges onward at asks stand threads grows = record {
   stands = record { grows = grows; stand = threads.stand old new stand };
   flows = λ plan base fine.
@@ -198,7 +198,7 @@ begins_test agreed graph words spots root position arms other old new edges onwa
       thread_flows agreed graph.ty graph.pats.now graph.nodes.now plan base spots words root old new edges onward fine.of fine.lower threads.threaded f;
 }
 
-pub begins_jump : (agreed : LaidOut) (ty : Ty) (words : List Read) (pats : List Pat) (spots : List Spot) (nodes : List GraphNode) (root : ℕ) (old : Sheet) → Begins agreed ty words pats spots nodes root old (pushed old (Jump (length old.code + 1))) (edge_at (length old.code) None root [] ∷ [])
+pub begins_jump : (agreed : LaidOut) (ty : Ty) (words : List Read) (pats : List Pat) (spots : List Spot) (nodes : List GraphNode) (root : ℕ) (old : Sheet) → RootStands agreed ty words pats spots nodes root old (pushed old (Jump (length old.code + 1))) (edge_at (length old.code) None root [] ∷ [])
 begins_jump agreed ty words pats spots nodes root old =
     let pc = length old.code in
     let code = old.code ++ Jump (pc + 1) ∷ [] in
@@ -216,7 +216,7 @@ begins_jump agreed ty words pats spots nodes root old =
         adds = push_adds plan old (Jump (pc + 1)) (record { bounded = tt; slots_fit = tt; targets = (omega arith, omega arith); calls = tt });
         arrives = λ final callee next law fin s w clean v long given.
             let a = fin pc (omega arith) (omega (arith, len)) in
-            let j = jump_shape (slice_get final pc) (pc + 1) (a.shapes ∙ ap shape_in (get-seam old.code (Jump (pc + 1)) [])) in
+            let j = jump_shape (slice_get final pc) (pc + 1) (a.shapes ∙ ap without_targets_in (get-seam old.code (Jump (pc + 1)) [])) in
             record {
               edge = here;
               is_edge = (0, refl);
@@ -240,13 +240,13 @@ begins_jump agreed ty words pats spots nodes root old =
 
 -- clauses
 module _ (nodes : List GraphNode) (count : ℕ) (edges : List Edge) (holes : List Hole) (are : AreClauseHoles nodes count edges holes) where
-  edge_at_hole : (h : Hole) → IsIn h holes → (e : Edge) × IsEdge e edges × IsClauseHole nodes count e.hole h
+  edge_at_hole : (h : Hole) → IsHoleAmong h holes → (e : Edge) × IsEdge e edges × IsClauseHole nodes count e.hole h
   edge_at_hole h (k, at) =
       let lt = slice_get_within holes k h at in
       let e = got edges k (omega (arith, lt, are.long)) in
       (e.0, (k, e.1), are.each k e.0 h e.1 at)
 
-  hole_at_edge : (e : Edge) → IsEdge e edges → (h : Hole) × IsIn h holes × IsClauseHole nodes count e.hole h
+  hole_at_edge : (e : Edge) → IsEdge e edges → (h : Hole) × IsHoleAmong h holes × IsClauseHole nodes count e.hole h
   hole_at_edge e (k, at) =
       let lt = slice_get_within edges k e at in
       let h = got holes k (omega (arith, lt, are.long)) in

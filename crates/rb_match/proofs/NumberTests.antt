@@ -21,7 +21,7 @@ use Rattle.rb_target.specs.declared.instr.Instr.TheVariants.{Switch}
 use Rattle.rb_target.specs.Growth.{Keeps, AgreesBut, Grows, Nowhere}
 use Rattle.rb_target.specs.Meaning.{taken, switched, target_of, after_switch}
 use Rattle.rb_target.specs.Sheet.{Sheet, pushed, IsHoleIn}
-use Rattle.rb_target.specs.Targets.{shape, shape_in, target_in}
+use Rattle.rb_target.specs.Targets.{without_targets, without_targets_in, target_in}
 use Rattle.rb_target.specs.Validity.{IsTarget}
 use Rattle.rb_target.proofs.Growing.{Grows-trans, Grows-append, get-append, get-seam}
 use Rattle.rb_target.proofs.Shapes.{arm_hole, else_hole, hole_in, hole_target, switch_shape, target_shaped, numbers, pick, next_arm}
@@ -108,13 +108,13 @@ module _ (nodes : List GraphNode) (read : Read) (known : List Known) (arms : Lis
   else_edge (Some l) link e = (0, ap (λ n. Some (edge_in nodes pc None n known)) (same_Some l link e))
 
   -- each is a hole of the switch
-  is_hole : (o : Option Instr) → shape_in o ≡ Some (shape switch) → (e : Edge) → IsEdge e edges → IsHoleIn o e.hole.arm
+  is_hole : (o : Option Instr) → without_targets_in o ≡ Some (without_targets switch) → (e : Edge) → IsEdge e edges → IsHoleIn o e.hole.arm
   is_hole o is e i = elim (view e i) [
     | inl a ↦
         let lt = slice_get_within arms a.0 a.1 a.2 in
         let n : length ways ≡ length arms = length-map arms (λ (x : GraphArm). number_arm (pc + 1) x.head) in
         subst (λ (x : Edge). IsHoleIn o x.hole.arm) (sym a.3) (arm_hole o slot (then_some (is_some other) (pc + 1)) ways a.0 is (omega (arith, lt, n)))
-    | inr l ↦ subst (λ (x : Edge). IsHoleIn o x.hole.arm) (sym l.2) (else_hole o slot (pc + 1) ways (is ∙ ap (λ x. Some (shape (Switch slot (then_some (is_some x) (pc + 1)) ways))) l.1))
+    | inr l ↦ subst (λ (x : Edge). IsHoleIn o x.hole.arm) (sym l.2) (else_hole o slot (pc + 1) ways (is ∙ ap (λ x. Some (without_targets (Switch slot (then_some (is_some x) (pc + 1)) ways))) l.1))
   ]
 
   is_pc : (e : Edge) → IsEdge e edges → e.hole.pc ≡ pc
@@ -135,7 +135,7 @@ module _ (nodes : List GraphNode) (read : Read) (known : List Known) (arms : Lis
   number_stand g = record {
     are_open = λ e i.
         let at = is_pc e i in
-        (omega (arith, at, g.longer), subst (λ q. IsHoleIn (slice_get new.code q) e.hole.arm) (sym at) (is_hole (slice_get new.code pc) (ap shape_in (get-seam mid.code switch [])) e i));
+        (omega (arith, at, g.longer), subst (λ q. IsHoleIn (slice_get new.code q) e.hole.arm) (sym at) (is_hole (slice_get new.code pc) (ap without_targets_in (get-seam mid.code switch [])) e i));
     one = λ e f i j p s. same_node e f (view e i) (view f j) s;
   }
 
@@ -203,7 +203,7 @@ module _ (nodes : List GraphNode) (read : Read) (known : List Known) (arms : Lis
             } in
             let r = (mk.runs x).runs final callee next law agrees s w (omega (arith, long)) (good, word) in
             let a = fin pc longer (omega (arith, len)) in
-            let shaped = a.shapes ∙ ap shape_in (get-seam mid.code switch []) in
+            let shaped = a.shapes ∙ ap without_targets_in (get-seam mid.code switch []) in
             let sw = switch_shape (slice_get final pc) slot (then_some (is_some other) (pc + 1)) ways shaped in
             let link : take_link arms other (V.Num x) ≡ Some node = ap (take_link arms other) (sym (outs-Num x)) ∙ ap (λ u. take_link arms other (out-Value u)) (sym int.1) ∙ takes in
             let i = edge_of x node (goes arms x node nums link) in

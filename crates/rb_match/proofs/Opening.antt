@@ -17,7 +17,7 @@ use Rattle.rb_target.specs.Growth.{AgreesBut, Grows, Nowhere}
 use Rattle.rb_target.specs.Laws.{Law}
 use Rattle.rb_target.specs.Meaning.{World, Next, Callee, slots_at, taken}
 use Rattle.rb_target.specs.Sheet.{Sheet, IsHole, IsHoleIn, pushed}
-use Rattle.rb_target.specs.Targets.{Finishes, IsIn, IsOpen, shape_in, target_in}
+use Rattle.rb_target.specs.Targets.{Finishes, IsHoleAmong, IsOpenTarget, without_targets_in, target_in}
 use Rattle.rb_target.proofs.Finishing.{agrees-sub}
 use Rattle.rb_target.proofs.Growing.{Grows-append, Grows-trans, Keeps-trans, get-append, get-seam}
 use Rattle.rb_layout.specs.declared.agreed.LaidOut.{LaidOut}
@@ -28,7 +28,7 @@ use Rattle.rb_rel.proofs.Lists.{get-map, get-mapped}
 use Rattle.rb_fragment.specs.declared.reads.Read.{Read}
 use Rattle.rb_fragment.specs.Arms.{AreHoles, AreOfOneWay, ArePatchable, closed}
 use Rattle.rb_fragment.specs.Plan.{Plan, Rep}
-use Rattle.rb_fragment.specs.Pieces.{Leaves}
+use Rattle.rb_fragment.specs.Pieces.{GoesOutBy}
 use Rattle.rb_fragment.specs.Slots.{AllBelow}
 use Rattle.rb_fragment.proofs.Adding.{Adds-trans, push_adds}
 use Rattle.rb_fragment.proofs.Holds.{AllBelow-more, slots_at-kept}
@@ -68,23 +68,23 @@ nat_le-true a b le = grind (arith, nat_tests)
 nat_le-is : (a b : ℕ) → nat_le a b ≡ true → a ≤ b
 nat_le-is a b e = grind (arith, nat_tests)
 
-pub pending_in : (i : ℕ) (hs : List Hole) (h : Hole) → IsIn h hs → i ≤ h.leaf → IsIn h (pending i hs)
+pub pending_in : (i : ℕ) (hs : List Hole) (h : Hole) → IsHoleAmong h hs → i ≤ h.leaf → IsHoleAmong h (pending i hs)
 pending_in i [] h (k, at) le = absurd cc
 pending_in i (x ∷ hs) h (zero, at) le =
     let same : x ≡ h = same_Some x h at in
     let test : nat_le i x.leaf ≡ true = nat_le-true i x.leaf (subst (λ (y : Hole). i ≤ y.leaf) (sym same) le) in
-    subst (λ u. IsIn h (if u then x ∷ pending i hs else pending i hs)) (sym test) (0, at)
+    subst (λ u. IsHoleAmong h (if u then x ∷ pending i hs else pending i hs)) (sym test) (0, at)
 pending_in i (x ∷ hs) h (suc k, at) le = let r = pending_in i hs h (k, at) le in go (nat_le i x.leaf) r
   where
-    go : (u : Bool) → IsIn h (pending i hs) → IsIn h (if u then x ∷ pending i hs else pending i hs)
+    go : (u : Bool) → IsHoleAmong h (pending i hs) → IsHoleAmong h (if u then x ∷ pending i hs else pending i hs)
     go true r = (suc r.0, r.1)
     go false r = r
 
-pub pending_from : (i : ℕ) (hs : List Hole) (h : Hole) → IsIn h (pending i hs) → IsIn h hs × (i ≤ h.leaf)
+pub pending_from : (i : ℕ) (hs : List Hole) (h : Hole) → IsHoleAmong h (pending i hs) → IsHoleAmong h hs × (i ≤ h.leaf)
 pending_from i [] h (k, at) = absurd cc
 pending_from i (x ∷ hs) h j = go (λ r. pending_from i hs h r) (nat_le i x.leaf) refl j
   where
-    go : (IsIn h (pending i hs) → IsIn h hs × (i ≤ h.leaf)) → (u : Bool) → nat_le i x.leaf ≡ u → IsIn h (if u then x ∷ pending i hs else pending i hs) → IsIn h (x ∷ hs) × (i ≤ h.leaf)
+    go : (IsHoleAmong h (pending i hs) → IsHoleAmong h hs × (i ≤ h.leaf)) → (u : Bool) → nat_le i x.leaf ≡ u → IsHoleAmong h (if u then x ∷ pending i hs else pending i hs) → IsHoleAmong h (x ∷ hs) × (i ≤ h.leaf)
     go more true e (zero, at) = ((0, at), subst (λ (y : Hole). i ≤ y.leaf) (same_Some x h at) (nat_le-is i x.leaf e))
     go more true e (suc k, at) = let r = more (k, at) in ((suc r.0.0, r.0.1), r.1)
     go more false e r = let q = more r in ((suc q.0.0, q.0.1), q.1)
@@ -145,7 +145,7 @@ module _ (agreed : LaidOut) (t : ℕ) (words : List ℕ) (spots : List Spot) (po
   Steps new more = StepsWay agreed t words spots position holes i found old edges new more
 
   -- fewer are pending
-  later_pending : (h : Hole) → IsIn h (pending (i + 1) holes) → IsIn h (pending i holes)
+  later_pending : (h : Hole) → IsHoleAmong h (pending (i + 1) holes) → IsHoleAmong h (pending i holes)
   later_pending h j = let f = pending_from (i + 1) holes h j in let le = f.1 in pending_in i holes h f.0 (omega (arith, le))
 
   -- a leaf that is no group by itself has no way
@@ -196,13 +196,13 @@ module _ (agreed : LaidOut) (t : ℕ) (words : List ℕ) (spots : List Spot) (po
     abbrev all : List Edge
     all = edges ++ way_edge ∷ []
 
-    way_of : (h : Hole) → IsIn h here → (g : Hole) × IsIn g (pending i holes) × (g.leaf ≡ i) × (h ≡ record { pc = g.pc; arm = g.arm; leaf = 0 })
+    way_of : (h : Hole) → IsHoleAmong h here → (g : Hole) × IsHoleAmong g (pending i holes) × (g.leaf ≡ i) × (h ≡ record { pc = g.pc; arm = g.arm; leaf = 0 })
     way_of h j = let f = way_from i 0 holes h j in let e = f.2 in (f.0, pending_in i holes f.0 f.1 (omega (arith, e)), f.2, f.3)
 
-    here_hole : (h : Hole) → IsIn h here → IsHole old.code h × (h.leaf ≡ 0)
+    here_hole : (h : Hole) → IsHoleAmong h here → IsHole old.code h × (h.leaf ≡ 0)
     here_hole h j = let f = way_of h j in (subst (λ (x : Hole). IsHole old.code x) (sym f.3) (patchable f.0 f.1), ap (λ (x : Hole). x.leaf) f.3)
 
-    to_here : (h : Hole) → IsIn h here → slice_index targets h.leaf ≡ length old.code
+    to_here : (h : Hole) → IsHoleAmong h here → slice_index targets h.leaf ≡ length old.code
     to_here h j = ap (slice_index targets) (here_hole h j).1
 
     all_here : AreAllHoles old.code here
@@ -216,7 +216,7 @@ module _ (agreed : LaidOut) (t : ℕ) (words : List ℕ) (spots : List Spot) (po
 
     module _ (grows : Grows b.code c.code) where
       module _ (mid : Sheet) (top : ℕ) (st : WaysStand mid top holes i old edges) where
-        low_here : (h : Hole) → IsIn h here → (length mid.code ≤ h.pc) × (h.pc < top)
+        low_here : (h : Hole) → IsHoleAmong h here → (length mid.code ≤ h.pc) × (h.pc < top)
         low_here h j =
             let f = way_of h j in
             let s = st.are_holes f.0 f.1 in
@@ -278,7 +278,7 @@ module _ (agreed : LaidOut) (t : ℕ) (words : List ℕ) (spots : List Spot) (po
                 ])
               ]) (fin q l (omega (arith, h, len, g, last)))
 
-          apart : (h : Hole) → IsIn h here → IsOpen rest h.pc h.arm → ⊥
+          apart : (h : Hole) → IsHoleAmong h here → IsOpenTarget rest h.pc h.arm → ⊥
           apart h j o =
               let a = way_of h j in
               let s = low_here h j in
@@ -320,7 +320,7 @@ module _ (agreed : LaidOut) (t : ℕ) (words : List ℕ) (spots : List Spot) (po
                 ]) ∙ get-append c.code (Jump (length c.code + 1) ∷ []) q hi;
           }
 
-          leads_here : (h : Hole) → IsIn h holes → h.leaf ≡ i → target_in (slice_get final h.pc) h.arm ≡ Some (length old.code)
+          leads_here : (h : Hole) → IsHoleAmong h holes → h.leaf ≡ i → target_in (slice_get final h.pc) h.arm ≡ Some (length old.code)
           leads_here h j is =
               let w = way_in i 0 holes h j is in
               let s = st.are_holes h (pending_in i holes h j (omega (arith, is))) in
@@ -359,7 +359,7 @@ module _ (agreed : LaidOut) (t : ℕ) (words : List ℕ) (spots : List Spot) (po
               → (s : List ℕ) (w : World) (clean : Bool) (v part : Value) (layout : Layout) (leaf node1 group : ℕ) → way_code.slots ≤ length s → IsThereWith plan clean t v part words spots known s w.memory
               → part_at v position.now ≡ Some part → layout_of plan.layouts t ≡ Some layout → leaf_of layout part ≡ Some leaf → take_link arms other (out-Value part) ≡ Some node1 → (group ≡ i → leaf ≡ i)
               → (group < i → LeavesWhere (IsOnward agreed graph node1) plan final next edges n (choosing_look plan.layouts (Named t)) (length mid.code) s w clean v spots)
-              × (i ≤ group → Leaves final next holes mid.slots (depth_of plan.layouts (Named t)) (length mid.code) s w group (λ s' m. Unit {0}))
+              × (i ≤ group → GoesOutBy final next holes mid.slots (depth_of plan.layouts (Named t)) (length mid.code) s w group (λ s' m. Unit {0}))
               → group < i + 1 → (u : Bool) → (group == i) ≡ u → LeavesWhere (IsOnward agreed graph node1) plan final next all n (choosing_look plan.layouts (Named t)) (length mid.code) s w clean v spots
           go known graph arms other plan n mid top goes of are low le st k ways final callee next law fin s w clean v part layout leaf node1 group long there is_part is_layout is_leaf takes mine r lt false e =
               let q = r.0 (below lt (other-nat group i e)) in
@@ -397,7 +397,7 @@ module _ (agreed : LaidOut) (t : ℕ) (words : List ℕ) (spots : List Spot) (po
               let m1 = st.grows.longer in
               let g1 = grows.longer in
               let a = fin pc (omega (arith, m1, g1, len)) (omega (arith, last)) in
-              let j = jump_shape (slice_get final pc) (pc + 1) (a.shapes ∙ ap shape_in (get-seam c.code (Jump (pc + 1)) [])) in
+              let j = jump_shape (slice_get final pc) (pc + 1) (a.shapes ∙ ap without_targets_in (get-seam c.code (Jump (pc + 1)) [])) in
               record {
                 edge = way_edge;
                 is_edge = edge_right edges (way_edge ∷ []) way_edge (0, refl);
@@ -475,10 +475,10 @@ module _ (nodes : List GraphNode) (known : List Known) (holes : List Hole) (coun
   abbrev pub both_edges : List Edge
   both_edges = edges ++ shared
 
-  shared_hole : (e : Edge) → IsEdge e shared → (h : Hole) × IsIn h (pending count holes) × (e ≡ shared_edge nodes count known h)
+  shared_hole : (e : Edge) → IsEdge e shared → (h : Hole) × IsHoleAmong h (pending count holes) × (e ≡ shared_edge nodes count known h)
   shared_hole e (k, at) = let m = get-map (shared_edge nodes count known) (pending count holes) k e at in (m.0, (k, m.1), m.2)
 
-  shared_in : (h : Hole) → IsIn h (pending count holes) → IsEdge (shared_edge nodes count known h) shared
+  shared_in : (h : Hole) → IsHoleAmong h (pending count holes) → IsEdge (shared_edge nodes count known h) shared
   shared_in h (k, at) = (k, get-mapped (shared_edge nodes count known) (pending count holes) k h at)
 
   pub ways_open : AreOfOneWay holes → Grows old.code new.code → StandOpen old new both_edges

@@ -16,11 +16,11 @@ use Rattle.rb_decide.specs.declared.decision_graph.GraphArm.{GraphArm}
 use Rattle.rb_decide.specs.declared.decision_graph.GraphNode.{GraphNode}
 use Rattle.rb_decide.specs.declared.decision_graph.GraphNode.TheVariants.{Test, Clause}
 use Rattle.rb_decide.specs.Graphs.{node_trees, node_tree, tree_under, arm_under, LinksAreLower}
-use Rattle.rb_decide.specs.Trees.{Taking, Way, taken, take_arm, take_at, ways}
+use Rattle.rb_decide.specs.Trees.{Taking, Way, clause_taken, take_arm, take_at, ways}
 use Rattle.rb_decide.proofs.TreeSteps.{taken-Test, taken-Clause, taken_arm, taken-arm, arm_ways, ways-Test, ways-Clause}
 use Rattle.rb_decide.proofs.Unfolding.{node-tree}
 use Rattle.rb_rel.proofs.Lists.{get-left, get-right, get-mapped}
-use Rattle.rb_match.specs.Bounding.{Place}
+use Rattle.rb_match.specs.Bounding.{TypedPosition}
 use Rattle.rb_match.proofs.Following.{snoc-at}
 use Rattle.rb_match.specs.inner.Asking.{take_link}
 use Rattle.rb_match.specs.inner.Places.{IsLookedAt}
@@ -31,11 +31,11 @@ module _ (trees : List Tree) where
   below = arm_under trees
 
   abbrev others : Option ℕ → Option Taking
-  others other = option_map taken (option_map (tree_under trees) other)
+  others other = option_map clause_taken (option_map (tree_under trees) other)
 
   -- the arm that is taken has a node
   abbrev Linked : List GraphArm → Option ℕ → Value-F Value → Value → ℕ → Type 0
-  Linked arms other l v k = (node : ℕ) × (take_link arms other l ≡ Some node) × (taken (tree_under trees node) v ≡ Some k)
+  Linked arms other l v k = (node : ℕ) × (take_link arms other l ≡ Some node) × (clause_taken (tree_under trees node) v ≡ Some k)
 
   takes_link : (arms : List GraphArm) (other : Option ℕ) (l : Value-F Value) (v : Value) (k : ℕ) → take_arm (map taken_arm (map below arms)) (others other) l v ≡ Some k → Linked arms other l v k
   takes_link [] None l v k e = absurd cc
@@ -43,9 +43,9 @@ module _ (trees : List Tree) where
   takes_link (a ∷ arms) other l v k e =
       go (layer_begins a.head l) (ap (λ (x : Head × Taking). take_arm (x ∷ map taken_arm (map below arms)) (others other) l v) (sym (taken-arm a.head (tree_under trees a.under))) ∙ e) (takes_link arms other l v k)
     where
-      go : (u : Bool) → (if u then taken (tree_under trees a.under) v else take_arm (map taken_arm (map below arms)) (others other) l v) ≡ Some k
+      go : (u : Bool) → (if u then clause_taken (tree_under trees a.under) v else take_arm (map taken_arm (map below arms)) (others other) l v) ≡ Some k
           → (take_arm (map taken_arm (map below arms)) (others other) l v ≡ Some k → Linked arms other l v k)
-          → (node : ℕ) × ((if u then Some a.under else take_link arms other l) ≡ Some node) × (taken (tree_under trees node) v ≡ Some k)
+          → (node : ℕ) × ((if u then Some a.under else take_link arms other l) ≡ Some node) × (clause_taken (tree_under trees node) v ≡ Some k)
       go true h rest = (a.under, refl, h)
       go false h rest = rest h
 
@@ -81,7 +81,7 @@ pub tree_of_node : (nodes : List GraphNode) → LinksAreLower nodes → (n : ℕ
 tree_of_node nodes lower n node at = ap (λ o. unwrap_or o (Trees.Clause 0)) (node-tree nodes lower n node at)
 
 -- places behind one another
-pub path-snoc : (path : List Place) (p : Place) (tail : Way) → map path_of (path ++ p ∷ []) ++ tail ≡ map path_of path ++ p.path ∷ tail
+pub path-snoc : (path : List TypedPosition) (p : TypedPosition) (tail : Way) → map path_of (path ++ p ∷ []) ++ tail ≡ map path_of path ++ p.path ∷ tail
 path-snoc [] p tail = refl
 path-snoc (x ∷ path) p tail = ap (λ l. x.path ∷ l) (path-snoc path p tail)
 
@@ -104,18 +104,18 @@ module _ (job : Job) (lower : LinksAreLower job.nodes) (n : ℕ) (position : Lis
     pub is_part : part_at v position ≡ Some part
     pub node : ℕ
     pub is_node : take_link arms other (out-Value part) ≡ Some node
-    pub takes : taken (tree_at job.nodes node) v ≡ Some k
+    pub takes : clause_taken (tree_at job.nodes node) v ≡ Some k
 
-  pub tested : (v : Value) (k : ℕ) → taken (tree_at job.nodes n) v ≡ Some k → IsTested v k
-  tested v k e = go (part_at v position) refl (sym (taken-Test position arms1 other1 v) ∙ ap (λ t. taken t v) (sym is_tree) ∙ e)
+  pub tested : (v : Value) (k : ℕ) → clause_taken (tree_at job.nodes n) v ≡ Some k → IsTested v k
+  tested v k e = go (part_at v position) refl (sym (taken-Test position arms1 other1 v) ∙ ap (λ t. clause_taken t v) (sym is_tree) ∙ e)
     where
-      go : (o : Option Value) → part_at v position ≡ o → take_at (map taken_arm arms1) (option_map taken other1) o v ≡ Some k → IsTested v k
+      go : (o : Option Value) → part_at v position ≡ o → take_at (map taken_arm arms1) (option_map clause_taken other1) o v ≡ Some k → IsTested v k
       go None is h = absurd cc
       go (Some part) is h =
           let r = takes_link trees arms other (out-Value part) v k h in
           record { part = part; is_part = is; node = r.0; is_node = r.1; takes = r.2 }
 
-  pub passes : (v : Value) (clause : ℕ) (path : List Place) (ty : Ty) → taken (tree_at job.nodes job.root) v ≡ Some clause → IsOn job v n path → IsLookedAt job.plan.program.types job.ty job.pats position ty
+  pub passes : (v : Value) (clause : ℕ) (path : List TypedPosition) (ty : Ty) → clause_taken (tree_at job.nodes job.root) v ≡ Some clause → IsOn job v n path → IsLookedAt job.plan.program.types job.ty job.pats position ty
       → (t : IsTested v clause) → IsOn job v t.node (path ++ record { path = position; ty = ty } ∷ [])
   passes v clause path ty root on looked t = record {
     same = λ k e. t.takes ∙ ap Some (same_Some clause k (sym root ∙ e));
@@ -127,7 +127,7 @@ module _ (job : Job) (lower : LinksAreLower job.nodes) (n : ℕ) (position : Lis
         (r.0, r.1 ∙ ap Some (sym (path-snoc path (record { path = position; ty = ty }) tail)));
     looked = λ p i. elim (snoc-at path (record { path = position; ty = ty }) p i.0 i.1) [
       | inl j ↦ on.looked p (i.0, j)
-      | inr is ↦ subst (λ (q : Place). IsLookedAt job.plan.program.types job.ty job.pats q.path q.ty) is looked
+      | inr is ↦ subst (λ (q : TypedPosition). IsLookedAt job.plan.program.types job.ty job.pats q.path q.ty) is looked
     ];
   }
 
@@ -136,11 +136,11 @@ pub begins_on : (job : Job) (v : Value) → IsOn job v job.root []
 begins_on job v = record { same = λ k e. e; onward = λ tail h. h; looked = λ p i. absurd (let e = i.1 in cc) }
 
 -- the value is at a clause
-pub ends_on : (job : Job) (lower : LinksAreLower job.nodes) (v : Value) (n k clause : ℕ) (path : List Place) → slice_get job.nodes n ≡ Some (Clause k) → IsOn job v n path → taken (tree_at job.nodes job.root) v ≡ Some clause
+pub ends_on : (job : Job) (lower : LinksAreLower job.nodes) (v : Value) (n k clause : ℕ) (path : List TypedPosition) → slice_get job.nodes n ≡ Some (Clause k) → IsOn job v n path → clause_taken (tree_at job.nodes job.root) v ≡ Some clause
     → (k ≡ clause) × HasWay (ways (tree_at job.nodes job.root)) (map path_of path)
 ends_on job lower v n k clause path at on root =
     let is = tree_of_node job.nodes lower n (Clause k) at in
-    let same : k ≡ clause = same_Some k clause (sym (taken-Clause k v) ∙ ap (λ t. taken t v) (sym is) ∙ on.same clause root) in
+    let same : k ≡ clause = same_Some k clause (sym (taken-Clause k v) ∙ ap (λ t. clause_taken t v) (sym is) ∙ on.same clause root) in
     let r = on.onward [] (0, ap (λ t. slice_get (ways t) 0) is ∙ ap (λ ws. slice_get ws 0) (ways-Clause k)) in
     (same, (r.0, r.1 ∙ ap Some (no_more (map path_of path))))
   where

@@ -26,7 +26,7 @@ use Rattle.rb_core.specs.Values.{part_at}
 use Rattle.rb_target.specs.Meaning.{slots_at}
 use Rattle.rb_fragment.specs.declared.reads.Read.{Read, Slot}
 use Rattle.rb_fragment.proofs.MakingAll.{slots_fit, slots_meant}
-use Rattle.rb_fragment.specs.Plan.{Rep, words_of}
+use Rattle.rb_fragment.specs.Plan.{Rep, words_needed}
 use Rattle.rb_fetch.specs.Fields.{ReadsField}
 use Rattle.rb_match.specs.declared.knowledge.Known.{Known}
 use Rattle.rb_match.specs.declared.place.Place.{Place}
@@ -63,7 +63,7 @@ pub reaches : (agreed : LaidOut) (place : Place) (known : List Known) (prefix pa
 reaches agreed place known prefix path t leaf ty reads root words spots named follow field_of read finds = λ plan of count have.
     let p = finds plan of count have in
     let f = field_of plan of in
-    let n : length place.reads ≡ words_of plan (Named t) = p.count ∙ ap (words_of plan) named in
+    let n : length place.reads ≡ words_needed plan (Named t) = p.count ∙ ap (words_needed plan) named in
     let r = read plan of ty f n in
     record {
       count = r.count;
@@ -118,7 +118,7 @@ spot_place agreed spots known position k spot at same follows = λ ty words plan
 
 -- Places
 
-in-below : (types : List DataDecl) (ps : List Pat) (ts : List Ty) (i f : ℕ) (sub : Pat) (ty : Ty) (p : bounding.Place) → slice_get ps f ≡ Some sub → slice_get ts f ≡ Some ty → IsPlaceIn p (places_in types sub ty)
+in-below : (types : List DataDecl) (ps : List Pat) (ts : List Ty) (i f : ℕ) (sub : Pat) (ty : Ty) (p : bounding.TypedPosition) → slice_get ps f ≡ Some sub → slice_get ts f ≡ Some ty → IsPlaceIn p (places_in types sub ty)
     → IsPlaceIn (place_below (i + f) p) (places_below (map (places_in types) ps) ts i)
 in-below types [] ts i f sub ty p a b h = absurd cc
 in-below types (q ∷ ps) [] i f sub ty p a b h = absurd cc
@@ -139,7 +139,7 @@ place-under types t at c ps field rest sub ty found a b h =
     let r = in-below types ps (field_types types c) 0 field sub ty (record { path = rest; ty = found }) a b h in
     let z : 0 + field ≡ field = omega arith in (
       suc r.0,
-      ap (λ (f : Ty → List bounding.Place). slice_get (f t) (suc r.0)) (fold-Con (Ty → List bounding.Place) (places_step types) at c ps)
+      ap (λ (f : Ty → List bounding.TypedPosition). slice_get (f t) (suc r.0)) (fold-Con (Ty → List bounding.TypedPosition) (places_step types) at c ps)
           ∙ r.1 ∙ ap (λ n. Some (place_below n (record { path = rest; ty = found }))) z,
     )
 

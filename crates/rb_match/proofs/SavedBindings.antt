@@ -24,15 +24,15 @@ use Rattle.rb_layout.specs.declared.agreed.LaidOut.{LaidOut}
 use Rattle.rb_rel.specs.Switches.{depth_of, mend_of}
 use Rattle.rb_fragment.specs.declared.held.Local.{Local}
 use Rattle.rb_fragment.specs.Holding.{Holds, scope_of}
-use Rattle.rb_fragment.specs.Pieces.{AtEnd, Piece}
-use Rattle.rb_fragment.specs.Plan.{Plan, Rep, words_of}
+use Rattle.rb_fragment.specs.Pieces.{AtEnd, CodePiece}
+use Rattle.rb_fragment.specs.Plan.{Plan, Rep, words_needed}
 use Rattle.rb_fragment.proofs.Adding.{Adds-refl, Adds-trans}
 use Rattle.rb_fragment.proofs.Holds.{AllBelow-more, AreGiven-more, AreGiven-append, Holds-append, IsOfLocal-append, slots_at-kept}
 use Rattle.rb_fragment.proofs.Moves.{one-from}
 use Rattle.rb_fragment.proofs.Pieces.{piece_none}
 use Rattle.rb_match.specs.declared.knowledge.Known.{Known}
 use Rattle.rb_match.specs.declared.knowledge.Spot.{Spot}
-use Rattle.rb_match.specs.Bounding.{binding_bound, binding_look, choosing_look, is_plain}
+use Rattle.rb_match.specs.Bounding.{binding_bound, binding_look, choosing_look, takes_none_apart}
 use Rattle.rb_match.specs.inner.Asking.{AreSpots}
 use Rattle.rb_match.specs.Choosing.{BindsPattern}
 use Rattle.rb_match.specs.inner.Binding.{AreSeen, BindsSaved, BindsSpot, BindsSpots, FieldMatches, FieldsMatch, SavesTogether, fields_bound, is_unbound}
@@ -74,7 +74,7 @@ spot_unbound agreed spots known sub field i old none = let n = unbound_binds sub
 pub spot_binds : (agreed : LaidOut) (spots : List Spot) (known : List Known) (sub : Pat) (field : Ty) (i k : ℕ) (spot : Spot) (old new : Sheet) (bound : List Local) → slice_get spots k ≡ Some spot → spot.position ≡ i ∷ [] → spot.ty ≡ field → FollowsSaved known k
     → BindsPattern agreed field sub spot.slots old new bound → BindsSpot agreed spots known sub field i old new bound
 spot_binds agreed spots known sub field i k spot old new bound at place of_type follows binds = λ plan n of are.
-    let b = binds plan of (are.below k spot at) (are.count k spot at ∙ ap (words_of plan) of_type) in
+    let b = binds plan of (are.below k spot at) (are.count k spot at ∙ ap (words_needed plan) of_type) in
     record {
       adds = b.adds;
       is_scope = b.scope;
@@ -134,7 +134,7 @@ spots_bind agreed spots known sub subs field fields i old mid new bound more fir
     go : (plan : Plan) (n : ℕ) → AreSpots plan n old.slots spots → (f : BindsSaved plan n (binding_bound plan.program.types plan.layouts field sub) spots known (binders plan.program.types sub field) old mid bound (FieldMatches sub i))
         (o : BindsSaved plan n (fields_bound plan subs fields) spots known (all_binders (map (binders plan.program.types) subs) fields) mid new more (FieldsMatch subs (i + 1)))
         → (clean : Bool) (v : Value) (bs : List Binding) (vs : List Value) → ((j : ℕ) → part_at v ((i + j) ∷ []) ≡ slice_get vs j) → all_pass (map matches_of (sub ∷ subs)) vs ≡ true → bs ≡ all_bound (map bindings (sub ∷ subs)) vs
-        → Piece plan old.slots old new Nowhere (fields_bound plan (sub ∷ subs) (field ∷ fields)) (λ s m. AreSeen plan clean v spots known s m) (AtEnd new (λ s m. Holds plan clean s m (bound ++ more) bs))
+        → CodePiece plan old.slots old new Nowhere (fields_bound plan (sub ∷ subs) (field ∷ fields)) (λ s m. AreSeen plan clean v spots known s m) (AtEnd new (λ s m. Holds plan clean s m (bound ++ more) bs))
     go plan n are f o clean v bs [] at pass is = absurd (false≢true pass)
     go plan n are f o clean v bs (u ∷ vs) at pass is =
         let b = both (matches_of sub u) (all_pass (map matches_of subs) vs) pass in
@@ -159,26 +159,26 @@ spots_bind agreed spots known sub subs field fields i old mid new bound more fir
         piece_less plan old.slots old.slots old new (k1 + k2) (fields_bound plan (sub ∷ subs) (field ∷ fields)) Pre Pre Post Post (omega arith) (omega (arith, most)) (λ s m x. x) (λ s m x. x) (pieces plan old.slots old mid new k1 k2 Pre Mid Post first1 second)
 
 -- a look that saves is within what binding may cost at a type that is not plain
-deep_look : (plan : Plan) (t : ℕ) → is_plain plan.layouts t ≡ false → choosing_look plan.layouts (Named t) ≡ binding_look plan.layouts (Named t)
+deep_look : (plan : Plan) (t : ℕ) → takes_none_apart plan.layouts t ≡ false → choosing_look plan.layouts (Named t) ≡ binding_look plan.layouts (Named t)
 deep_look plan t deep =
     ap (λ u. depth_of plan.layouts (Named t) + (if u then 0 else mend_of plan.layouts t)) deep ∙ sym (ap (λ u. if u then 0 else depth_of plan.layouts (Named t) + mend_of plan.layouts t) deep)
 
 -- a constructor with several leaves: spots for its fields, the ways of its leaves, and what they save is bound
-pub deep_binds : (agreed : LaidOut) (t : Ty) (token : ℕ) (c : ConRef) (subs : List Pat) (words : List ℕ) (spots : List Spot) (known : List Known) (old mid b new : Sheet) (bound : List Local) → is_plain agreed.layouts c.ty ≡ false → t ≡ Named c.ty
+pub deep_binds : (agreed : LaidOut) (t : Ty) (token : ℕ) (c : ConRef) (subs : List Pat) (words : List ℕ) (spots : List Spot) (known : List Known) (old mid b new : Sheet) (bound : List Local) → takes_none_apart agreed.layouts c.ty ≡ false → t ≡ Named c.ty
     → GivesSpots agreed old mid spots → SavesTogether agreed c words spots known mid b → BindsSpots agreed spots known subs (field_types agreed.covered.program.types c) 0 b new bound → BindsPattern agreed t (Con token c subs) words old new bound
 deep_binds agreed t token c subs words spots known old mid b new bound deep named gives saves binds = λ plan of all count.
     let types_is : field_types agreed.covered.program.types c ≡ field_types plan.program.types c = ap (λ (g : Rattle.rb_core.specs.declared.program.Program.Program). field_types g.types c) (sym of.program) in
     let g = gives plan of in
     let more1 = g.straight.adds.more in
     let n = old.slots in
-    let sv = saves plan n of g.are (AllBelow-more old.slots mid.slots words more1 all) (count ∙ ap (words_of plan) named) in
+    let sv = saves plan n of g.are (AllBelow-more old.slots mid.slots words more1 all) (count ∙ ap (words_needed plan) named) in
     let more2 = sv.adds.more in
     let are2 = spots-more plan n mid.slots b.slots spots more2 g.are in
     let f = binds plan n of are2 in
     let sum = con_bound plan t token c subs in
     let look = ap (binding_look plan.layouts) named in
     let some = ap (fields_bound plan subs) types_is in
-    let cost = deep_look plan c.ty (ap (λ ls. is_plain ls c.ty) of.layouts ∙ deep) in
+    let cost = deep_look plan c.ty (ap (λ ls. takes_none_apart ls c.ty) of.layouts ∙ deep) in
     let fields = field_types agreed.covered.program.types c in
     let k2 = choosing_look plan.layouts (Named c.ty) in
     let k3 = fields_bound plan subs fields in

@@ -8,7 +8,7 @@ use Rattle.rb_target.specs.declared.instr.Instr.TheVariants.{Const}
 use Rattle.rb_target.specs.Sheet.{Sheet, pushed, with_slot}
 use Rattle.rb_target.proofs.Growing.{Grows-refl, Grows-trans, Grows-append}
 use Rattle.rb_layout.specs.declared.agreed.LaidOut.{LaidOut}
-use Rattle.rb_fragment.specs.Plan.{Plan, words_of}
+use Rattle.rb_fragment.specs.Plan.{Plan, words_needed}
 use Rattle.rb_fragment.specs.Pieces.{AtEnd, Straight}
 use Rattle.rb_fragment.specs.Slots.{AllBelow, AllFrom, SlotsAreApart, IsDistinct, IsOneOf, slots_from}
 use Rattle.rb_fragment.proofs.Holds.{AllBelow-more}
@@ -28,7 +28,7 @@ use Rattle.rb_target.specs.Growth.{Nowhere}
 use Rattle.rb_target.specs.Meaning.{slots_at}
 use Rattle.rb_layout.specs.Positions.{layout_of, leaf_of}
 use Rattle.rb_fragment.specs.Plan.{Rep}
-use Rattle.rb_fragment.specs.Pieces.{Piece}
+use Rattle.rb_fragment.specs.Pieces.{CodePiece}
 use Rattle.rb_fragment.specs.Slots.{copied, copies}
 use Rattle.rb_fragment.proofs.Adding.{Adds-refl, Adds-trans}
 use Rattle.rb_fragment.proofs.Moves.{copied-other, slots_at-copied}
@@ -102,7 +102,7 @@ snoc-place (z ∷ xs) x y (suc i) e = elim (snoc-place xs x y i e) [ inl h ↦ i
 
 -- one spot more
 pub given-more : (agreed : LaidOut) (a b c : Sheet) (spots : List Spot) (spot : Spot) (count : ℕ) → GivesSpots agreed a b spots → Zeroes b c count → spot.slots ≡ slots_from b.slots count
-    → ((plan : Plan) → Rattle.rb_fetch.specs.Finding.IsPlanOf agreed plan → count ≡ words_of plan spot.ty) → GivesSpots agreed a c (spots ++ spot ∷ [])
+    → ((plan : Plan) → Rattle.rb_fetch.specs.Finding.IsPlanOf agreed plan → count ≡ words_needed plan spot.ty) → GivesSpots agreed a c (spots ++ spot ∷ [])
 given-more agreed a b c spots spot count gives z is words = λ plan of.
     let g = gives plan of in
     let w = words plan of in
@@ -125,7 +125,7 @@ given-more agreed a b c spots spot count gives z is words = λ plan of.
         ];
         count = λ k x at. elim (snoc-at spots spot x k at) [
           | inl h ↦ g.are.count k x h
-          | inr e ↦ subst (λ (q : Spot). length q.slots ≡ words_of plan q.ty) e (ap length is ∙ slots_from-length b.slots count ∙ w)
+          | inr e ↦ subst (λ (q : Spot). length q.slots ≡ words_needed plan q.ty) e (ap length is ∙ slots_from-length b.slots count ∙ w)
         ];
         distinct = λ k x at. elim (snoc-at spots spot x k at) [
           | inl h ↦ g.are.distinct k x h
@@ -231,7 +231,7 @@ fetches_part agreed t leaf path at words old new slots (layout, found, is, is_le
       runs = λ clean v part other is_other is_leaf1 is_part.
           let same : other ≡ layout = same_Some other layout (sym is_other ∙ layout1) in
           let r = f.runs clean v part (ap (λ (y : Layout). leaf_of y v) (sym same) ∙ is_leaf1) is_part in
-          subst (λ k. Piece plan old.slots old new Nowhere k (λ s m. IsThere plan clean t v words s m) (AtEnd new (λ s m. Rep plan m clean at part (slots_at s slots)))) (sym most) r;
+          subst (λ k. CodePiece plan old.slots old new Nowhere k (λ s m. IsThere plan clean t v words s m) (AtEnd new (λ s m. Rep plan m clean at part (slots_at s slots)))) (sym most) r;
     }
 
 below-origin : (n : ℕ) (xs words : List ℕ) → ((x : ℕ) → IsOneOf x xs → (n ≤ x) ⊎ IsOneOf x words) → (ds : List ℕ) → AllBelow n ds → SlotsAreApart ds words → SlotsAreApart ds xs
@@ -265,7 +265,7 @@ saves_part agreed t leaf path words spot old mid slots apart fetches = λ plan n
           let run = f.runs clean v part layout is is_leaf is_part in
           let framed = piece_frame plan old.slots old mid Nowhere most Kept (λ s m. IsThere plan clean t v words s m) (AtEnd mid Part) (λ s s' m k x. (k.long ∙ x.0, λ y lt. k.same y lt ∙ x.1 y lt)) run in
           let Long : List ℕ → Memory → Type 0 = λ s m. (mid.slots ≤ length s) × Pre s m in
-          let first : Piece plan n old mid Nowhere most Pre (AtEnd mid (λ s m. Kept s m × Part s m)) =
+          let first : CodePiece plan n old mid Nowhere most Pre (AtEnd mid (λ s m. Kept s m × Part s m)) =
           piece_weaken plan old.slots n old mid Nowhere most most (λ s m. Kept s m × IsThere plan clean t v words s m) Pre (λ pc s m. Kept s m × AtEnd mid Part pc s m) (AtEnd mid (λ s m. Kept s m × Part s m)) le (omega arith)
           (λ s m x. ((ap length x.0, λ y lt. ap (λ l. slice_index l y) x.0), x.1)) (λ pc s m x. (x.1.0, (x.0, x.1.1))) framed in
           let second = copies_straight plan n Post ds slots mid le1 from below1 f.given in

@@ -12,7 +12,7 @@ use Rattle.rb_decide.specs.Decisions.{AreDistinct}
 use Rattle.rb_decide.specs.Trees.{match_tree, size}
 use Rattle.rb_layout.specs.declared.layout.Layout.{Layout}
 use Rattle.rb_rel.specs.Switches.{depth_of, look_of, mend_of}
-use Rattle.rb_match.specs.Bounding.{BoundIsShared, Place, binding_bound, binding_look, choosing_bound, choosing_look, is_plain, looks_of, looks_with, place_below, places_below, places_in, places_of_patterns, places_step, rounds}
+use Rattle.rb_match.specs.Bounding.{BoundIsShared, TypedPosition, binding_bound, binding_look, choosing_bound, choosing_look, takes_none_apart, looks_of, looks_with, place_below, places_below, places_in, places_of_patterns, places_step, rounds}
 use Rattle.rb_match.specs.inner.Flowing.{path_of}
 use Rattle.rb_match.proofs.Bounds.{in_distinct, within_sum}
 use Rattle.rb_match.proofs.Placing.{in-flat}
@@ -42,7 +42,7 @@ append-distinct i (x ∷ xs) ys a b first later =
     differs : (r : List ℕ) → BeginsFrom (i + 1) r → x ≡ r → ⊥
     differs r h e = let same : i ≡ h.0 = ap head_of (sym first.0.1 ∙ e ∙ h.2) in let le = h.3 in omega (arith, same, le)
 
-below-paths : (i : ℕ) (ps : List Place) → map path_of (map (place_below i) ps) ≡ map (λ q. i ∷ q) (map path_of ps)
+below-paths : (i : ℕ) (ps : List TypedPosition) → map path_of (map (place_below i) ps) ≡ map (λ q. i ∷ q) (map path_of ps)
 below-paths i [] = refl
 below-paths i (p ∷ ps) = ap (λ l. (i ∷ p.path) ∷ l) (below-paths i ps)
 
@@ -65,7 +65,7 @@ all-first : (i : ℕ) (qs : List (List ℕ)) → AllByRecursion (λ q. (rest : L
 all-first i [] = tt
 all-first i (q ∷ qs) = ((q, refl), all-first i qs)
 
-map-paths : (ps qs : List Place) → map path_of (ps ++ qs) ≡ map path_of ps ++ map path_of qs
+map-paths : (ps qs : List TypedPosition) → map path_of (ps ++ qs) ≡ map path_of ps ++ map path_of qs
 map-paths [] qs = refl
 map-paths (p ∷ ps) qs = ap (λ l. p.path ∷ l) (map-paths ps qs)
 
@@ -100,15 +100,15 @@ module _ (types : List DataDecl) where
   root-apart : (qs : List (List ℕ)) → AllByRecursion (BeginsFrom 0) qs → AllByRecursion (λ r. [] ≡ r → ⊥) qs
   root-apart qs a = all-more (BeginsFrom 0) (λ r. [] ≡ r → ⊥) (λ r h e. absurd (let z = e ∙ h.2 in cc)) qs a
 
-  abbrev at_type : Ty → (Ty → List Place) → List Place
+  abbrev at_type : Ty → (Ty → List TypedPosition) → List TypedPosition
   at_type t f = f t
 
   pub pattern-once : (p : Pat) → Once p
   pattern-once = Q.induction Once (record {
-    wild = λ at t. subst (λ ps. AreDistinct (map path_of ps)) (sym (ap (at_type t) (Q.fold-Wild (Ty → List Place) (places_step types) at))) tt;
-    var = λ at x t. subst (λ ps. AreDistinct (map path_of ps)) (sym (ap (at_type t) (Q.fold-Var (Ty → List Place) (places_step types) at x))) tt;
-    num = λ at n t. subst (λ ps. AreDistinct (map path_of ps)) (sym (ap (at_type t) (Q.fold-Num (Ty → List Place) (places_step types) at n))) (tt, tt);
-    con = λ at c ps each t. subst (λ ps. AreDistinct (map path_of ps)) (sym (ap (at_type t) (Q.fold-Con (Ty → List Place) (places_step types) at c ps)))
+    wild = λ at t. subst (λ ps. AreDistinct (map path_of ps)) (sym (ap (at_type t) (Q.fold-Wild (Ty → List TypedPosition) (places_step types) at))) tt;
+    var = λ at x t. subst (λ ps. AreDistinct (map path_of ps)) (sym (ap (at_type t) (Q.fold-Var (Ty → List TypedPosition) (places_step types) at x))) tt;
+    num = λ at n t. subst (λ ps. AreDistinct (map path_of ps)) (sym (ap (at_type t) (Q.fold-Num (Ty → List TypedPosition) (places_step types) at n))) (tt, tt);
+    con = λ at c ps each t. subst (λ ps. AreDistinct (map path_of ps)) (sym (ap (at_type t) (Q.fold-Con (Ty → List TypedPosition) (places_step types) at c ps)))
         (root-apart (below ps (field_types types c) 0) (from ps (field_types types c) 0), all-once ps each (field_types types c) 0);
   })
 
@@ -116,13 +116,13 @@ module _ (types : List DataDecl) where
 
 look_sum : (layouts : List Layout) (t : Ty) → look_of layouts t ≡ choosing_look layouts t + binding_look layouts t
 look_sum layouts (Int bits) = refl
-look_sum layouts (Named t) = go (is_plain layouts t)
+look_sum layouts (Named t) = go (takes_none_apart layouts t)
   where
     go : (u : Bool) → (if u then depth_of layouts (Named t) else 2 * (depth_of layouts (Named t) + mend_of layouts t)) ≡ depth_of layouts (Named t) + (if u then 0 else mend_of layouts t) + (if u then 0 else depth_of layouts (Named t) + mend_of layouts t)
     go true = omega arith
     go false = omega arith
 
-looks_sum : (layouts : List Layout) (ps : List Place) → looks_of layouts ps ≡ looks_with (choosing_look layouts) ps + looks_with (binding_look layouts) ps
+looks_sum : (layouts : List Layout) (ps : List TypedPosition) → looks_of layouts ps ≡ looks_with (choosing_look layouts) ps + looks_with (binding_look layouts) ps
 looks_sum layouts [] = refl
 looks_sum layouts (p ∷ ps) = let a = look_sum layouts p.ty in let b = looks_sum layouts ps in omega (arith, a, b)
 

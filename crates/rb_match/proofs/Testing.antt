@@ -24,7 +24,7 @@ use Rattle.rb_match.specs.declared.knowledge.Spot.{Spot}
 use Rattle.rb_match.specs.declared.spots.Whole.{Whole}
 use Rattle.rb_layout.specs.declared.agreed.LaidOut.{LaidOut}
 use Rattle.rb_fetch.specs.Finding.{IsPlanOf}
-use Rattle.rb_match.specs.Bounding.{Place, choosing_look}
+use Rattle.rb_match.specs.Bounding.{TypedPosition, choosing_look}
 use Rattle.rb_match.specs.inner.Knowing.{AreKnown, seen}
 use Rattle.rb_match.specs.inner.Asking.{holes_of, AreOpen, StandOpen, Asked}
 use Rattle.rb_match.specs.inner.Flowing.{Job, looks, Flows, FlowsHere, job_of}
@@ -39,7 +39,7 @@ meant-kept n s s' m k [] (w ∷ ws) fit h = h
 meant-kept n s s' m k (r ∷ rs) [] fit h = h
 meant-kept n s s' m k (r ∷ rs) (w ∷ ws) fit h = (mean-kept n s s' m k r fit.0 ∙ h.0, meant-kept n s s' m k rs ws fit.1 h.1)
 
-pub looks-snoc : (plan : Plan) (path : List Place) (p : Place) → looks plan (path ++ p ∷ []) ≡ looks plan path + choosing_look plan.layouts p.ty
+pub looks-snoc : (plan : Plan) (path : List TypedPosition) (p : TypedPosition) → looks plan (path ++ p ∷ []) ≡ looks plan path + choosing_look plan.layouts p.ty
 looks-snoc plan [] p = omega arith
 looks-snoc plan (x ∷ path) p = let h = looks-snoc plan path p in omega (arith, h)
 
@@ -104,7 +104,7 @@ module _ (agreed : LaidOut) (graph : Whole) (plan : Plan) (base : ℕ) (spots : 
               let meant = meant-kept job.base s l.slots w.memory l.keeps job.words given.ws fit given.meant in
               let r = asked.leaves final callee next law (second_part final fin) l.slots l.world v t.part clean given.ws t.node (omega (arith, long, l.keeps.long)) (subst IsGood mem given.good)
               (subst (λ m. AreMeant job.words l.slots m given.ws) mem meant) (subst (λ m. Rep job.plan m clean job.ty v given.ws) mem given.represents) (subst (λ m. AreKnown (seen job.plan clean v job.spots l.slots m) known) mem l.is_known) t.is_part t.is_node in
-              let place : Place = record { path = position; ty = asked.at } in
+              let place : TypedPosition = record { path = position; ty = asked.at } in
               let p = passes job lower n position arms other at v given.clause l.path asked.at given.takes l.on asked.looked t in
               let sum = looks-snoc job.plan l.path place in
               let on = r.is_node.3.0 plan base spots words root first of lower clean v r.is_node.1 l.world.memory given.clause (l.path ++ place ∷ []) r.is_node.2 given.takes p in

@@ -21,7 +21,7 @@ use Rattle.rb_fragment.specs.Plan.{Plan}
 use Rattle.rb_match.specs.declared.knowledge.Known.{Known}
 use Rattle.rb_match.specs.declared.knowledge.Edge.{Edge}
 use Rattle.rb_match.specs.declared.knowledge.Spot.{Spot}
-use Rattle.rb_match.specs.Bounding.{Place}
+use Rattle.rb_match.specs.Bounding.{TypedPosition}
 use Rattle.rb_match.specs.inner.Knowing.{IsEdge, seen}
 use Rattle.rb_match.specs.inner.Places.{IsLookedAt}
 use Rattle.rb_match.specs.inner.Asking.{holes_of, take_link}
@@ -74,7 +74,7 @@ module _ (agreed : LaidOut) (ty : Ty) (pats : List Pat) (nodes : List GraphNode)
       let k = d.takes (seen plan clean v spots s w) of all in
       let same : t.part ≡ k.0 = same_Some t.part k.0 (sym t.is_part ∙ k.1) in
       let node : t.node ≡ m = same_Some t.node m (sym t.is_node ∙ ap (λ u. take_link arms other (out-Value u)) same ∙ k.2) in
-      let place : Place = record { path = position; ty = d.at } in
+      let place : TypedPosition = record { path = position; ty = d.at } in
       let looked = subst (λ (g : Program). IsLookedAt g.types ty pats position d.at) (sym of.program) d.looked in
       let p = passes job lower n position arms other at v clause path d.at root_takes on looked t in
       let sum = looks-snoc plan path place in

@@ -21,44 +21,44 @@ use Rattle.rb_decide.specs.Limits.{largest_tree}
 use Rattle.rb_decide.specs.Trees.{match_tree, size}
 
 -- a position in a value, as the numbers of the fields that lead to it, and the type of what stands there
-pub record Place : Type 0 where
+pub record TypedPosition : Type 0 where
   pub path : List ℕ
   pub ty : Ty
 
 -- a place in field i, seen from above the field
-abbrev pub place_below : ℕ → Place → Place
+abbrev pub place_below : ℕ → TypedPosition → TypedPosition
 place_below i p = record { path = i ∷ p.path; ty = p.ty }
 
 -- the places of subpatterns, the first of which stands in field i: each is taken at the type of its field, and its
 -- places are seen from above the fields; where one of the lists ends, so do the places
-abbrev pub places_below : List (Ty → List Place) → List Ty → ℕ → List Place
+abbrev pub places_below : List (Ty → List TypedPosition) → List Ty → ℕ → List TypedPosition
 places_below [] ts i = []
 places_below (p ∷ ps) [] i = []
 places_below (p ∷ ps) (t ∷ ts) i = map (place_below i) (p t) ++ places_below ps ts (i + 1)
 
 -- the places of a pattern at a type, from those of its subpatterns: its own first, if it is a number or a
 -- constructor, and none for a wildcard or a variable
-abbrev pub places_step : List DataDecl → Pat-F (Ty → List Place) → Ty → List Place
+abbrev pub places_step : List DataDecl → Pat-F (Ty → List TypedPosition) → Ty → List TypedPosition
 places_step types (P.Wild at) t = []
 places_step types (P.Var at x) t = []
 places_step types (P.Num at n) t = record { path = []; ty = t } ∷ []
 places_step types (P.Con at c ps) t = record { path = []; ty = t } ∷ places_below ps (field_types types c) 0
 
 -- the places at which a pattern, taken at a type, has a number or a constructor, its own first
-abbrev pub places_in : List DataDecl → Pat → Ty → List Place
-places_in types = fold-Pat (Ty → List Place) (places_step types)
+abbrev pub places_in : List DataDecl → Pat → Ty → List TypedPosition
+places_in types = fold-Pat (Ty → List TypedPosition) (places_step types)
 
 -- whether two places have the same position and the same type
-abbrev pub same_place : Place → Place → Bool
+abbrev pub same_place : TypedPosition → TypedPosition → Bool
 same_place a b = same_path a.path b.path && same_type a.ty b.ty
 
 -- the places of a list, each of them once, in the order in which they are first met
-abbrev pub distinct_places : List Place → List Place
+abbrev pub distinct_places : List TypedPosition → List TypedPosition
 distinct_places [] = []
 distinct_places (p ∷ ps) = p ∷ filter (λ other. not (same_place p other)) (distinct_places ps)
 
 -- the places at which some pattern of a match on values of type t has a number or a constructor, each of them once
-abbrev pub places_of_patterns : List DataDecl → Ty → List Pat → List Place
+abbrev pub places_of_patterns : List DataDecl → Ty → List Pat → List TypedPosition
 places_of_patterns types t pats = distinct_places (flat_map (λ pat. places_in types pat t) pats)
 
 -- how often places are looked at by a match on values of type t: once, or once a clause where its decision tree has
@@ -67,12 +67,12 @@ abbrev pub rounds : List DataDecl → Ty → List Pat → ℕ
 rounds types t pats = if nat_lt largest_tree (size (match_tree types t pats)) then length pats else 1
 
 -- what one look at each of some places costs together, where `look` says what it costs at a type; 0 for no places
-abbrev pub looks_with : (Ty → ℕ) → List Place → ℕ
+abbrev pub looks_with : (Ty → ℕ) → List TypedPosition → ℕ
 looks_with look [] = 0
 looks_with look (p ∷ ps) = look p.ty + looks_with look ps
 
 -- the switches that a match may spend on one look at each of some places, choosing and binding together
-abbrev pub looks_of : List Layout → List Place → ℕ
+abbrev pub looks_of : List Layout → List TypedPosition → ℕ
 looks_of layouts = looks_with (look_of layouts)
 
 -- the switches that a match on a value of type t with these patterns may cost
@@ -83,13 +83,13 @@ bound_of types layouts t pats = rounds types t pats * looks_of layouts (places_o
 
 -- whether no leaf of data type t takes a subvalue apart, that is, tells the subvalue's constructor and has its fields
 -- in place of its words; true of a type without leaves
-abbrev pub is_plain : List Layout → ℕ → Bool
-is_plain layouts t = list_all is_shallow (leaves_of_layout (layout_of layouts t))
+abbrev pub takes_none_apart : List Layout → ℕ → Bool
+takes_none_apart layouts t = list_all is_shallow (leaves_of_layout (layout_of layouts t))
 
 -- the switches that rebuild what the leaf of a value of this type has taken apart, at most; none for an integer
 abbrev pub rebuilding : List Layout → Ty → ℕ
 rebuilding layouts (Int bits) = 0
-rebuilding layouts (Named t) = if is_plain layouts t then 0 else mend_of layouts t
+rebuilding layouts (Named t) = if takes_none_apart layouts t then 0 else mend_of layouts t
 
 -- the switches of a test of a value of this type: those that find the leaf or the number, and those that rebuild what
 -- is saved of it
@@ -105,7 +105,8 @@ choosing_bound types layouts t pats =
 -- took apart; none where no leaf of the type takes a subvalue apart, and none at a number
 abbrev pub binding_look : List Layout → Ty → ℕ
 binding_look layouts (Int bits) = 0
-binding_look layouts (Named t) = if is_plain layouts t then 0 else depth_of layouts (Named t) + mend_of layouts t
+binding_look layouts (Named t) = if takes_none_apart layouts t then 0
+    else depth_of layouts (Named t) + mend_of layouts t
 
 -- the switches that bind the variables of a pattern at a value of type t, at most
 abbrev pub binding_bound : List DataDecl → List Layout → Ty → Pat → ℕ

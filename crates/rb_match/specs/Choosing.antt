@@ -20,8 +20,8 @@ use Rattle.rb_layout.specs.declared.agreed.LaidOut.{LaidOut}
 use Rattle.rb_fragment.specs.declared.held.Local.{Local}
 use Rattle.rb_fragment.specs.Adding.{Adds}
 use Rattle.rb_fragment.specs.Holding.{AreGiven, Holds, IsOfLocal, scope_of}
-use Rattle.rb_fragment.specs.Pieces.{AtEnd, Branches, Piece}
-use Rattle.rb_fragment.specs.Plan.{Plan, Rep, words_of}
+use Rattle.rb_fragment.specs.Pieces.{AtEnd, Branches, CodePiece}
+use Rattle.rb_fragment.specs.Plan.{Plan, Rep, words_needed}
 use Rattle.rb_fragment.specs.Slots.{AllBelow, IsOneOf}
 use Rattle.rb_fetch.specs.Finding.{IsPlanOf}
 use Rattle.rb_match.specs.Bounding.{binding_bound, choosing_bound}
@@ -34,7 +34,7 @@ PatternsAreTyped types t [] = Unit {0}
 PatternsAreTyped types t (p ∷ ps) = PatternIsTyped types t p × PatternsAreTyped types t ps
 
 -- the words represent, in memory m, a value of type t that chooses clause k of these patterns
-pub record IsChosen (plan : Plan) (t : Ty) (pats : List Pat) (k : ℕ) (ws : List ℕ) (m : Memory) : Type 0 where
+pub record WordsChoose (plan : Plan) (t : Ty) (pats : List Pat) (k : ℕ) (ws : List ℕ) (m : Memory) : Type 0 where
   pub clean : Bool
   pub value : Value
   pub represents : Rep plan m clean t value ws
@@ -43,12 +43,12 @@ pub record IsChosen (plan : Plan) (t : Ty) (pats : List Pat) (k : ℕ) (ws : Lis
 -- Run on words of a value, the appended code leaves by a hole (an open target, with the number of a clause) of the
 -- clause that the value chooses, within the share of the bound that is left to choosing, and keeps all slots that
 -- there were.
-abbrev pub Chooses : LaidOut → Ty → List Pat → List ℕ → Sheet → Sheet → List Hole → Type 0
-Chooses agreed t pats words old new holes =
+abbrev pub ChoosesClause : LaidOut → Ty → List Pat → List ℕ → Sheet → Sheet → List Hole → Type 0
+ChoosesClause agreed t pats words old new holes =
     (plan : Plan) → IsPlanOf agreed plan → PatternsAreTyped plan.program.types t pats
-    → IsExhaustive plan.program.types t pats → AllBelow old.slots words → length words ≡ words_of plan t
+    → IsExhaustive plan.program.types t pats → AllBelow old.slots words → length words ≡ words_needed plan t
     → Branches plan old.slots old new holes (choosing_bound plan.program.types plan.layouts t pats)
-    (λ k s m. IsChosen plan t pats k (slots_at s words) m) (λ k s m. Unit {0})
+    (λ k s m. WordsChoose plan t pats k (slots_at s words) m) (λ k s m. Unit {0})
 
 -- Binding ---------------------------------------------------------------------------------------
 
@@ -62,7 +62,7 @@ pub record Binds (plan : Plan) (pat : Pat) (t : Ty) (words : List ℕ) (old new 
   pub given : AreGiven plan new.slots bound
   pub origin : (x : ℕ) → IsOfLocal x bound → (old.slots ≤ x) ⊎ IsOneOf x words
   pub runs : (clean : Bool) (v : Value) → matches_of pat v ≡ true
-      → Piece plan old.slots old new Nowhere (binding_bound plan.program.types plan.layouts t pat)
+      → CodePiece plan old.slots old new Nowhere (binding_bound plan.program.types plan.layouts t pat)
       (λ s m. IsGood m × Rep plan m clean t v (slots_at s words))
       (AtEnd new (λ s m. Holds plan clean s m bound (bindings pat v)))
 
@@ -70,5 +70,5 @@ pub record Binds (plan : Plan) (pat : Pat) (t : Ty) (words : List ℕ) (old new 
 -- variables of a pattern that matches the value in these slots
 abbrev pub BindsPattern : LaidOut → Ty → Pat → List ℕ → Sheet → Sheet → List Local → Type 0
 BindsPattern agreed t pat words old new bound =
-    (plan : Plan) → IsPlanOf agreed plan → AllBelow old.slots words → length words ≡ words_of plan t
+    (plan : Plan) → IsPlanOf agreed plan → AllBelow old.slots words → length words ≡ words_needed plan t
     → Binds plan pat t words old new bound

@@ -14,7 +14,7 @@ ghost use Rattle.rb_target.specs.Growth.{Grows};
 ghost use Rattle.rb_fetch.specs.Finding.{leaf_count};
 ghost use Rattle.rb_match.specs.Choosing.{BindsPattern};
 ghost use Rattle.rb_match.specs.inner.Binding.{IsLeftOut, IsOnly, IsOnlyLeaf, BindsDeep, BindsFields, BindsField, BindsSpot, BindsSpots, SavesTogether};
-ghost use Rattle.rb_match.specs.Bounding.{is_plain};
+ghost use Rattle.rb_match.specs.Bounding.{takes_none_apart};
 ghost use Rattle.rb_match.specs.inner.Knowing.{FollowsSaved};
 ghost use Rattle.rb_match.specs.inner.Saving.{IsSpotAt};
 
@@ -170,7 +170,7 @@ fn leaf_for(agreed: &Agreed, ty: Ty, con: ConRef, pat: &Pat) -> Option<usize>
 
 // Whether a type is the data type with this number, and some leaf of it takes a subvalue apart.
 fn is_deep_at(agreed: &Agreed, ty: Ty, number: u32) -> bool
-    ensures { result ≡ true → (ty ≡ Named number) × (is_plain agreed.now.layouts number ≡ false) }
+    ensures { result ≡ true → (ty ≡ Named number) × (takes_none_apart agreed.now.layouts number ≡ false) }
 {
     match ty {
         Ty::Int(_) => false,

@@ -10,7 +10,7 @@
 ghost use Rattle.std.specs.Prelude.{IfOk, OnOk, length};
 ghost use Rattle.rb_target.specs.Growth.{Grows};
 ghost use Rattle.rb_fragment.specs.Arms.{AreHoles, AreOfOneWay};
-ghost use Rattle.rb_match.specs.Choosing.{Chooses};
+ghost use Rattle.rb_match.specs.Choosing.{ChoosesClause};
 ghost use Rattle.rb_match.specs.inner.Trees.{TakesShared, TakesTree};
 
 use crate::clauses::emit_clauses;
@@ -100,7 +100,7 @@ pub fn emit_match(
 ) -> Result<Seq<Hole>, AllocError>
     ensures holes { IfOk result (λ holes. AreHoles (length body.old.code) (length pats.now) body.new.code holes) }
     ensures ways { IfOk result (λ holes. AreOfOneWay holes) }
-    ensures chooses { IfOk result (λ holes. Chooses agreed.now ty pats.now words.now body.old body.new holes) }
+    ensures chooses { IfOk result (λ holes. ChoosesClause agreed.now ty pats.now words.now body.old body.new holes) }
     ensures grows { OnOk result (Grows body.old.code body.new.code) }
 {
     let types = agreed.covered().program().types.as_slice();

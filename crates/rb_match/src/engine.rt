@@ -17,7 +17,7 @@ ghost use Rattle.std.specs.Prelude.{◌≡◌, ◌∷◌, [], IfOk, OnOk, length
 ghost use Rattle.rb_target.specs.Growth.{Grows};
 ghost use Rattle.rb_fragment.specs.Arms.{AreHoles, AreOfOneWay, closed};
 ghost use Rattle.rb_match.specs.inner.Asking.{AreOpen};
-ghost use Rattle.rb_match.specs.inner.Flowing.{landing_of, others_of, StepsNode, Begins, IsClauseHole, AreClauseHoles, TakesGraph};
+ghost use Rattle.rb_match.specs.inner.Flowing.{landing_of, others_of, StepsNode, RootStands, IsClauseHole, AreClauseHoles, TakesGraph};
 
 use crate::asking::{ask, edge};
 use crate::knowledge::{Edge, Subject, Test, node_known};
@@ -137,7 +137,7 @@ fn begin<'a>(
     subject: &Subject,
     root: u32,
 ) -> Result<Seq<Edge<'a>>, AllocError>
-    ensures { IfOk result (λ edges. Begins agreed.now graph.now.ty subject.now.words.now graph.now.pats.now
+    ensures { IfOk result (λ edges. RootStands agreed.now graph.now.ty subject.now.words.now graph.now.pats.now
         subject.now.spots.now graph.now.nodes.now root body.old body.new edges) }
 {
     let Some(node) = graph.nodes.get(root as usize) else {

@@ -17,7 +17,7 @@ ghost use Rattle.std.specs.List.{list_any, starts_with};
 ghost use Rattle.rb_target.specs.Growth.{Grows};
 ghost use Rattle.rb_fragment.specs.Slots.{slots_from};
 ghost use Rattle.rb_rel.specs.Switches.{is_shallow};
-ghost use Rattle.rb_match.specs.Bounding.{is_plain};
+ghost use Rattle.rb_match.specs.Bounding.{takes_none_apart};
 ghost use Rattle.rb_match.specs.inner.Saving.{GivesSpots, HasConstructor, Zeroes, is_field};
 
 use crate::knowledge::{Spot, same_position};
@@ -68,7 +68,7 @@ fn has_constructor(subs: &[Pat]) -> bool
 
 /// Whether some leaf of a type takes a subvalue apart; false where the type has no layout.
 pub fn is_deep(agreed: &Agreed, ty: u32) -> bool
-    ensures { result ≡ true → is_plain agreed.now.layouts ty ≡ false }
+    ensures { result ≡ true → takes_none_apart agreed.now.layouts ty ≡ false }
 {
     match agreed.layouts().get(ty as usize) {
         None => false,

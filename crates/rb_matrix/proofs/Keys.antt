@@ -16,7 +16,7 @@ use Rattle.rb_core.specs.Matching.{all_pass, is_con, matches_of}
 use Rattle.rb_core.specs.Values.{subs, subs_in}
 use Rattle.rb_matrix.specs.declared.index.Index.{Index}
 use Rattle.rb_matrix.specs.Apart.{PatternsAreApart}
-use Rattle.rb_matrix.specs.inner.Index.{key_of, HasKey, IsIn, IsGrouped, ExtendsIndex, AreNear}
+use Rattle.rb_matrix.specs.inner.Index.{key_of, HasKey, IsInGroup, IsGrouped, ExtendsIndex, AreNear}
 use Rattle.rb_matrix.proofs.Differing.{at-con, pass-at}
 use Rattle.rb_matrix.proofs.Vectors.{and-right}
 
@@ -89,7 +89,7 @@ extends-grouped i p old new k has g = λ ps len h j q at. elim (get-push ps p j 
     | inl c ↦ inl (subst (λ (l : List ℕ). Contains l j) (sym g.keyless) c)
     | inr m ↦ inr (m.0, subst (λ path. HasKey q path m.0) (sym g.path) m.1, g.kept m.0 j m.2)
   ]
-  | inr s ↦ inr (k, subst (λ path. HasKey q path k) (sym g.path) (subst (λ (x : Pat). HasKey x old.path k) s.1 has), subst (IsIn new k) (sym (s.0 ∙ len)) g.here)
+  | inr s ↦ inr (k, subst (λ path. HasKey q path k) (sym g.path) (subst (λ (x : Pat). HasKey x old.path k) s.1 has), subst (IsInGroup new k) (sym (s.0 ∙ len)) g.here)
 ]
 
 -- all numbers
@@ -108,11 +108,11 @@ below-push js more n is h j lt = subst (λ (l : List ℕ). Contains l j) (sym is
 
 module _ (p : Pat) (n : ℕ) (x : Index) (js : List ℕ) (key : ℕ) (has : HasKey p x.path key) where
   -- those without a key and those of this one
-  near-some : ((j : ℕ) → Contains x.keyless j → Contains js j) → ((j : ℕ) → IsIn x key j → Contains js j) → AreNear p n x js
+  near-some : ((j : ℕ) → Contains x.keyless j → Contains js j) → ((j : ℕ) → IsInGroup x key j → Contains js j) → AreNear p n x js
   near-some keyless same = λ ps len h j q at. elim (h j q at) [
     | inl c ↦ inl (keyless j c)
     | inr m ↦ elim (cases_eq m.0 key) [
-      | inl e ↦ inl (same j (subst (λ k. IsIn x k j) e m.2))
+      | inl e ↦ inl (same j (subst (λ k. IsInGroup x k j) e m.2))
       | inr ne ↦ inr (keys-apart q p x.path m.0 key m.1 has ne)
     ]
   ]

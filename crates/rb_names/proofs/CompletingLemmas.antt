@@ -24,7 +24,7 @@ use Rattle.rb_names.specs.declared.tables.Tables.{Tables}
 use Rattle.rb_names.specs.Tables.{Name, Table, meaning}
 use Rattle.rb_names.specs.Definitions.{defined_twice, numbered_from, tables_of, type_names}
 use Rattle.rb_names.specs.Programs.{main_number, no_twice, numbered, numbered_items}
-use Rattle.rb_names.specs.Completing.{AreDerived, IsCompleted, IsWhole, first_refusal, kinds_of, layouts_in, left_in, left_types, numbers_of, with_number}
+use Rattle.rb_names.specs.Completing.{AreDerived, IsCompleted, IsCompletion, first_refusal, kinds_of, layouts_in, left_in, left_types, type_numbers, with_number}
 use Rattle.rb_names.specs.inner.Deriving.{IsAllDerived, IsWith}
 use Rattle.rb_names.proofs.Inverting.{then-ok, ok-is}
 use Rattle.rb_names.proofs.DistinctNumbers.{AreDistinct, IsIn, IsNotIn, apart-from-front, other-way, without-distinct}
@@ -114,23 +114,23 @@ behind-number (Some t) n ns h = by (nat_eq n t)
     by false = h
 
 -- the number of a type's name is among those of the types that are left
-number-in : (types : Table ℕ) (left : Table Auto) (name : Name) (n : ℕ) (kind : Auto) → meaning types name ≡ Some n → meaning left name ≡ Some kind → IsIn n (numbers_of types left)
+number-in : (types : Table ℕ) (left : Table Auto) (name : Name) (n : ℕ) (kind : Auto) → meaning types name ≡ Some n → meaning left name ≡ Some kind → IsIn n (type_numbers types left)
 number-in types [] name n kind is e = absurd cc
 number-in types (l ∷ left) name n kind is e = by (bytes_eq name l.0) refl e (number-in types left name n kind is)
   where
-    first : meaning types l.0 ≡ Some n → IsIn n (with_number (meaning types l.0) (numbers_of types left))
+    first : meaning types l.0 ≡ Some n → IsIn n (with_number (meaning types l.0) (type_numbers types left))
     first found = rw (found, eq-eqb n n refl) refl
 
-    by : (b : Bool) → bytes_eq name l.0 ≡ b → cond b (Some l.1) (meaning left name) ≡ Some kind → (meaning left name ≡ Some kind → IsIn n (numbers_of types left))
-        → IsIn n (with_number (meaning types l.0) (numbers_of types left))
+    by : (b : Bool) → bytes_eq name l.0 ≡ b → cond b (Some l.1) (meaning left name) ≡ Some kind → (meaning left name ≡ Some kind → IsIn n (type_numbers types left))
+        → IsIn n (with_number (meaning types l.0) (type_numbers types left))
     by true same e later = first (ap (meaning types) (sym ((bytes_decides name l.0).0 same)) ∙ is)
-    by false other e later = behind-number (meaning types l.0) n (numbers_of types left) (later e)
+    by false other e later = behind-number (meaning types l.0) n (type_numbers types left) (later e)
 
-numbers-each : (P : ℕ → Type 0) (types : Table ℕ) (left : Table Auto) → ((name : Name) (n : ℕ) → meaning types name ≡ Some n → P n) → Each P (numbers_of types left)
+numbers-each : (P : ℕ → Type 0) (types : Table ℕ) (left : Table Auto) → ((name : Name) (n : ℕ) → meaning types name ≡ Some n → P n) → Each P (type_numbers types left)
 numbers-each P types [] all = tt
 numbers-each P types (l ∷ left) all = by (meaning types l.0) refl (numbers-each P types left all)
   where
-    by : (o : Option ℕ) → meaning types l.0 ≡ o → Each P (numbers_of types left) → Each P (with_number o (numbers_of types left))
+    by : (o : Option ℕ) → meaning types l.0 ≡ o → Each P (type_numbers types left) → Each P (with_number o (type_numbers types left))
     by None e rest = rest
     by (Some n) e rest = (all l.0 n e, rest)
 
@@ -227,7 +227,7 @@ module _ (file : FileTree) (p : Program) (named : numbered file ≡ Ok p) where
           alone = λ t kind e. no-layout p.layouts t (apart-from-front t (types_of p.layouts) (left_types file) laid-distinct (in-left t kind e));
         }
 
-    is-whole : c.refused ≡ None → IsWhole file p c
+    is-whole : c.refused ≡ None → IsCompletion file p c
     is-whole none = record { derived = added; completes = all-completes none; program = done.program }
 
     completed-well : IsWellNumbered p → IsWellNumbered (completed p added)
@@ -270,8 +270,8 @@ module _ {E : Type 0} (file : FileTree) (p : Program) (r : Result Completed E) w
       })
 
 module _ {E : Type 0} (file : FileTree) (p : Program) (named : numbered file ≡ Ok p) (r : Result Completed E) (done : IfOk r (IsCompleted file p)) where
-  pub answer-whole : IfOk r (λ c. c.refused ≡ None → IsWhole file p c)
-  answer-whole = if-ok r (IsCompleted file p) (λ c. c.refused ≡ None → IsWhole file p c) (is-whole file p named) done
+  pub answer-whole : IfOk r (λ c. c.refused ≡ None → IsCompletion file p c)
+  answer-whole = if-ok r (IsCompleted file p) (λ c. c.refused ≡ None → IsCompletion file p c) (is-whole file p named) done
 
   pub answer-well : IsWellNumbered p → IfOk r (λ c. IsWellNumbered c.program)
   answer-well well = if-ok r (IsCompleted file p) (λ c. IsWellNumbered c.program) (λ c d. is-well file p named c d well) done

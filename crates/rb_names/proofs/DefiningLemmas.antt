@@ -9,7 +9,7 @@ use Rattle.rb_names.specs.declared.fault.NameFault.TheVariants.{Twice, Unknown, 
 use Rattle.rb_names.specs.Numbering.{Resolved}
 use Rattle.rb_names.specs.declared.tables.Defining.{Defining}
 use Rattle.rb_names.specs.Tables.{Name, Table, meaning}
-use Rattle.rb_names.specs.Definitions.{Kind, OfType, OfConstructor, OfFunction, OfLayout, Definition, same_kind, first_again}
+use Rattle.rb_names.specs.Definitions.{TableKind, OfType, OfConstructor, OfFunction, OfLayout, Definition, same_kind, first_again}
 use Rattle.rb_names.specs.Programs.{no_twice}
 use Rattle.rb_names.specs.Answers.{AnswersNumbering}
 use Rattle.rb_names.specs.inner.Defining.{is_defined, Knows, AreKnown, AreAdded, IsAgain, made_again}
@@ -31,7 +31,7 @@ is_some-append {A} name (e ∷ t) u = by (bytes_eq name e.0) (is_some-append nam
     by true rest = refl
     by false rest = rest
 
-pub Knows-append : {A : Type 0} (k : Kind) (before more : List Definition) (t u : Table A) → Knows k before t → Knows k more u → Knows k (before ++ more) (t ++ u)
+pub Knows-append : {A : Type 0} (k : TableKind) (before more : List Definition) (t u : Table A) → Knows k before t → Knows k more u → Knows k (before ++ more) (t ++ u)
 Knows-append k before more t u a b name =
     is_some-append name t u ∙ rw (a name, b name) refl ∙ sym (any-append (λ (d : Definition). same_kind k d.kind && bytes_eq name d.name.text) before more)
 
@@ -40,7 +40,7 @@ or-false true = refl
 or-false false = refl
 
 -- a definition in another table
-pub Knows-other : {A : Type 0} (k : Kind) (before more : List Definition) (t : Table A) → Knows k before t → ((name : Name) → is_defined k name more ≡ false) → Knows k (before ++ more) t
+pub Knows-other : {A : Type 0} (k : TableKind) (before more : List Definition) (t : Table A) → Knows k before t → ((name : Name) → is_defined k name more ≡ false) → Knows k (before ++ more) t
 Knows-other k before more t a none name =
     a name ∙ sym (any-append (λ (d : Definition). same_kind k d.kind && bytes_eq name d.name.text) before more ∙ rw (none name) (or-false (is_defined k name before)))
 
@@ -123,7 +123,7 @@ not-refused (Unknown name at) gives h = cc
 not-refused NoMain gives h = cc
 
 -- a definition that is made again
-module _ {A : Type 0} (k : Kind) (before : List Definition) (table : Table A) (a : Knows k before table) (name : NameTree) (fault : NameFault) where
+module _ {A : Type 0} (k : TableKind) (before : List Definition) (table : Table A) (a : Knows k before table) (name : NameTree) (fault : NameFault) where
   pub made-again : AnswersNumbering {A = Unit {0}} (Err fault) (no_twice (made_again (is_some (meaning table name.text)) name)) → IsAgain before (record { kind = k; name = name } ∷ []) fault
   made-again h rest = by (is_some (meaning table name.text)) refl h
     where

@@ -24,8 +24,8 @@ use Rattle.rb_syntax.specs.declared.tree.FunTree.{FunTree}
 use Rattle.rb_syntax.specs.declared.tree.LayoutTree.{LayoutTree}
 use Rattle.rb_syntax.specs.declared.tree.ItemTree.{ItemTree}
 use Rattle.rb_syntax.specs.declared.tree.ItemTree.TheVariants as top
-use Rattle.rb_syntax.specs.Written.{Written, Writing, token, checked, each, each_behind, some_with, any_with}
-use Rattle.rb_syntax.specs.Spelling.{at_level, is_width, uint_written, ty_written, fields_written, pat_written, expr_written, clause_written, con_written, type_written, param_written, fun_written, layout_written, item_written, split_written, arm_written, range_written, field_written, path_written, loc_step_written, loc_written, lay_item_written, kind_written, part_written, below_written, prov_written, root_checked, width_written}
+use Rattle.rb_syntax.specs.Written.{Written, Writing, token, flaw_unless, each, each_behind, some_with, any_with}
+use Rattle.rb_syntax.specs.Spelling.{at_level, is_uint_width, uint_written, ty_written, fields_written, pat_written, expr_written, clause_written, con_written, type_written, param_written, fun_written, layout_written, item_written, split_written, arm_written, range_written, field_written, path_written, loc_step_written, loc_written, lay_item_written, kind_written, part_written, below_written, prov_written, root_checked, width_written}
 use Rattle.rb_syntax.proofs.SpellingLemmas as spelled
 use Rattle.rb_syntax.proofs.LayoutSpelling as shapes
 use Rattle.rb_core.proofs.LayoutInduction as layouts
@@ -45,7 +45,7 @@ module _ (P : List Written → Type 0) (next : (w : Written) (ws : List Written)
   EachDrops [] = Unit {0}
   EachDrops (w ∷ ws) = Drops w × EachDrops ws
 
-  checked-drops : (b : Bool) → Drops (checked b)
+  checked-drops : (b : Bool) → Drops (flaw_unless b)
   checked-drops true rest h = h
   checked-drops false rest h = drops h
 
@@ -77,7 +77,7 @@ module _ (P : List Written → Type 0) (next : (w : Written) (ws : List Written)
   listed w all (x ∷ xs) = (all x, listed w all xs)
 
   uint-drops : (bits : ℕ) → Drops (uint_written bits)
-  uint-drops bits rest h = drops (checked-drops (is_width bits) (token (tok.Uint bits) ∷ rest) h)
+  uint-drops bits rest h = drops (checked-drops (is_uint_width bits) (token (tok.Uint bits) ∷ rest) h)
 
   pub type-drops : (x : TyTree) → Drops (ty_written x)
   type-drops (ty.Int bits) rest h = uint-drops bits rest h

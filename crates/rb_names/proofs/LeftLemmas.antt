@@ -12,7 +12,7 @@ use Rattle.rb_names.specs.inner.Defining.{defined}
 use Rattle.rb_names.specs.Definitions.{defined_twice, tables_of, type_names}
 use Rattle.rb_names.specs.Numbering.{and_then}
 use Rattle.rb_names.specs.Programs.{no_twice}
-use Rattle.rb_names.specs.Completing.{kinds_of, left_in, left_types, numbers_of}
+use Rattle.rb_names.specs.Completing.{kinds_of, left_in, left_types, type_numbers}
 use Rattle.rb_names.specs.inner.Deriving.{MeanTheSame}
 use Rattle.rb_names.proofs.Inverting.{ok-is}
 use Rattle.rb_names.proofs.ListLemmas.{drop-here}
@@ -80,10 +80,10 @@ kinds-all file items left (Err e) is same h = tt
 
 pub numbers-all : (file : FileTree) (items : List ItemTree) (tables : Tables) (i : ℕ) (numbers : List ℕ) → items ≡ file.items → defined_twice file.items ≡ None
     → and_then (no_twice (defined_twice items)) (λ done. Ok (tables_of items)) ≡ Ok tables → length items ≤ i
-    → numbers ++ numbers_of tables.types (left_in (drop i items)) ≡ numbers_of tables.types (left_in items) → numbers ≡ left_types file
+    → numbers ++ type_numbers tables.types (left_in (drop i items)) ≡ type_numbers tables.types (left_in items) → numbers ≡ left_types file
 numbers-all file items tables i numbers is once found le h =
     let same : defined_twice items ≡ None = ap defined_twice is ∙ once in
     let these : tables_of items ≡ tables = ok-is (tables_of items) tables (rw same at found) in
     sym (append-nil numbers)
-    ∙ ap (λ us. numbers ++ numbers_of tables.types (left_in us)) (sym (drop_all i items le)) ∙ h
-    ∙ ap (λ t. numbers_of t.types (left_in items)) (sym these) ∙ ap (λ us. numbers_of (tables_of us).types (left_in us)) is
+    ∙ ap (λ us. numbers ++ type_numbers tables.types (left_in us)) (sym (drop_all i items le)) ∙ h
+    ∙ ap (λ t. type_numbers t.types (left_in items)) (sym these) ∙ ap (λ us. type_numbers (tables_of us).types (left_in us)) is

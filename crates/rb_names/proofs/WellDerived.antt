@@ -28,7 +28,7 @@ use Rattle.rb_auto.specs.declared.form.Form.{Form}
 use Rattle.rb_auto.specs.declared.form.Form.TheVariants.{Boxed, Packed}
 use Rattle.rb_auto.specs.declared.room.Room.{Room}
 use Rattle.rb_auto.specs.Fields.{cons_in, cons_of}
-use Rattle.rb_auto.specs.FieldWords.{content, content_in, words_of}
+use Rattle.rb_auto.specs.FieldWords.{content, content_in, constructor_words}
 use Rattle.rb_auto.specs.Items.{block_items, boxed_parts, field_item, form_parts, form_tag, form_width, group_item, groups, leaf_items, packed_parts, part, parts_from, pointer_parts, whole_word}
 use Rattle.rb_auto.specs.Derived.{arms_from, derived, leaf, provenance, tag_loc, tree_of}
 use Rattle.rb_auto.proofs.Leaves.{leaves_from, tree-leaves}
@@ -254,7 +254,7 @@ module _ (p : Program) (numbered : IsWellNumbered p) (rooms : List Room) (t : �
 
   leaf-good : (k : ℕ) (c : Con) → length c.fields ≤ 32 → tree_short (leaf p rooms t form k c) ≡ true
   leaf-good k c few =
-      short-Leaf 0 (provenance t k c) (leaf_items form k (words_of p rooms c.fields)) ∙ leaf-short form k (words_of p rooms c.fields) (words-count p numbered rooms c few)
+      short-Leaf 0 (provenance t k c) (leaf_items form k (constructor_words p rooms c.fields)) ∙ leaf-short form k (constructor_words p rooms c.fields) (words-count p numbered rooms c few)
 
   arms-good : (k : ℕ) (cs : List Con) → AreCons k cs → Each (λ a. under_short a ≡ true) (arms_from p rooms t form k cs)
   arms-good k [] h = tt

@@ -38,7 +38,7 @@ use Rattle.rb_syntax.proofs.ExpressionInduction.{Each, EachBody, induction}
 use Rattle.rb_names.specs.declared.tables.Tables.{Tables}
 use Rattle.rb_names.specs.Tables.{Name, meaning}
 use Rattle.rb_names.specs.Scopes.{Scope, inside, with_name, with_names, names_in, binders_of}
-use Rattle.rb_names.specs.Numbering.{known, Numbered, Numbering, in_turn, numbered_type, numbered_pattern, numbered_expression}
+use Rattle.rb_names.specs.Numbering.{name_found, Numbered, Numbering, in_turn, numbered_type, numbered_pattern, numbered_expression}
 use Rattle.rb_names.specs.inner.Parts.{numbered_clause}
 use Rattle.rb_names.proofs.ExpressionEquations as numbering
 use Rattle.rb_names.proofs.Rising.{Rise, rise-wider, rise-append, Right, place}
@@ -257,7 +257,7 @@ module _ (total : ℕ) (small : total < 2 ^ 32) (types : List DataDecl) (funs : 
         right = record { formed = s.formed; numbers = s.numbers.1.1; fits = omega (arith, s.fits) };
         shorter = short;
         well = λ scope next q xs e c.
-            let f = then-ok (known v (meaning scope v.text)) _ q (sym (numbering.expr-Var t at v scope next) ∙ e) in
+            let f = then-ok (name_found v (meaning scope v.text)) _ q (sym (numbering.expr-Var t at v scope next) ∙ e) in
             let same : C.Var at f.0 ≡ q.what = ap (λ p. p.what) (ok-is _ q f.2) in
             rw (← same) (record {
               numbered = fine-is types funs (E.Var at f.0) xs ∙ c v.text f.0 (known-ok v (meaning scope v.text) f.0 f.1);
@@ -293,7 +293,7 @@ module _ (total : ℕ) (small : total < 2 ^ 32) (types : List DataDecl) (funs : 
         right = record { formed = a.right.formed; numbers = a.right.numbers; fits = omega (arith, a.right.fits) };
         shorter = rw (call-written at x es l rest) (omega (arith, a.count));
         well = λ scope next q xs e c.
-            let f = then-ok (known x (meaning t.functions x.text)) _ q (sym (numbering.expr-Call t at x es scope next) ∙ e) in
+            let f = then-ok (name_found x (meaning t.functions x.text)) _ q (sym (numbering.expr-Call t at x es scope next) ∙ e) in
             let g = then-ok (in_turn (map (numbered_expression t) es) scope next) _ q f.2 in
             let v = a.well scope next g.0 xs g.1 c in
             let same : C.Call at f.0 g.0.what ≡ q.what = ap (λ p. p.what) (ok-is _ q g.2) in
@@ -315,7 +315,7 @@ module _ (total : ℕ) (small : total < 2 ^ 32) (types : List DataDecl) (funs : 
         right = a.right;
         shorter = rw (build-written at x es l rest) (omega (arith, a.count));
         well = λ scope next q xs e c.
-            let f = then-ok (known x (meaning t.constructors x.text)) _ q (sym (numbering.expr-Build t at x es scope next) ∙ e) in
+            let f = then-ok (name_found x (meaning t.constructors x.text)) _ q (sym (numbering.expr-Build t at x es scope next) ∙ e) in
             let g = then-ok (in_turn (map (numbered_expression t) es) scope next) _ q f.2 in
             let v = a.well scope next g.0 xs g.1 c in
             let same : C.Build at f.0 g.0.what ≡ q.what = ap (λ p. p.what) (ok-is _ q g.2) in

@@ -19,7 +19,7 @@ use Rattle.rb_syntax.specs.Spelling.{ty_written, param_written, expr_written, fu
 use Rattle.rb_names.specs.declared.tables.Tables.{Tables}
 use Rattle.rb_names.specs.Tables.{Name, meaning}
 use Rattle.rb_names.specs.Scopes.{Scope, inside, param_binders}
-use Rattle.rb_names.specs.Numbering.{all_of, known, numbered_type, numbered_expression, numbered_param, numbered_function}
+use Rattle.rb_names.specs.Numbering.{all_of, name_found, numbered_type, numbered_expression, numbered_param, numbered_function}
 use Rattle.rb_names.proofs.Rising.{Rise, rise-wider, Right, place}
 use Rattle.rb_names.proofs.Inverting.{then-ok, known-ok, ok-is}
 use Rattle.rb_names.proofs.WellTypes.{TypeWell, type-well}
@@ -60,7 +60,7 @@ module _ (total : ℕ) (small : total < 2 ^ 32) (types : List DataDecl) (funs : 
       let a = then-ok (numbered_param t scope p) _ qs e in
       let b = then-ok (all_of (map (numbered_param t scope) ps)) _ qs a.2 in
       let u = then-ok (numbered_type t p.ty) _ a.0 a.1 in
-      let v = then-ok (known p.var (meaning scope p.var.text)) _ a.0 u.2 in
+      let v = then-ok (name_found p.var (meaning scope p.var.text)) _ a.0 u.2 in
       let m : meaning scope p.var.text ≡ Some v.0 = known-ok p.var (meaning scope p.var.text) v.0 v.1 in
       let w = gw scope b.0 b.1 in
       let made : record { at = p.at; var = v.0; ty = u.0 } ≡ a.0 = ok-is _ a.0 v.2 in

@@ -15,7 +15,7 @@ use Rattle.rb_syntax.specs.declared.token.Token.TheVariants as tok
 use Rattle.rb_names.specs.declared.tables.Tables.{Tables}
 use Rattle.rb_names.specs.declared.items.Items.{Items}
 use Rattle.rb_names.specs.Tables.{Name, meaning}
-use Rattle.rb_names.specs.Numbering.{known, numbered_data, numbered_layout, numbered_function}
+use Rattle.rb_names.specs.Numbering.{name_found, numbered_data, numbered_layout, numbered_function}
 use Rattle.rb_names.specs.Programs.{numbered_items}
 use Rattle.rb_names.specs.Written.{AreNamed, item_is_counted}
 use Rattle.rb_names.proofs.Rising.{Rise, rise-wider, rise-append, Right, place}
@@ -108,7 +108,7 @@ module _ (total : ℕ) (small : total < 2 ^ 32) (types : List DataDecl) (funs : 
   functions-well (top.Derived name k ∷ items) rest r n c all e =
       let x = top.Derived name k in
       let ws : List Written = each (map item_written items) rest in
-      let a = then-ok (known name (meaning t.types name.text)) _ all e in
+      let a = then-ok (name_found name (meaning t.types name.text)) _ all e in
       let w = functions-well items rest (right-behind total x ws r) (named-behind x ws n) (and-second (item_is_counted x) _ c) all a.2 in
       let s = shorter-behind x ws in
       record { numbered = w.numbered; rises = rise-wider _ _ _ _ (tokens_of all.functions) (omega (arith, s)) (omega arith) w.rises }

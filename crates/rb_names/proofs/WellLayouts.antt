@@ -32,7 +32,7 @@ use Rattle.rb_syntax.specs.Spelling.{comma, prov_written, loc_step_written, loc_
 use Rattle.rb_syntax.proofs.SpellingLemmas.{arm-is, split-Leaf, split-None, split-Some}
 use Rattle.rb_names.specs.declared.tables.Tables.{Tables}
 use Rattle.rb_names.specs.Tables.{Name, meaning}
-use Rattle.rb_names.specs.Numbering.{Resolved, and_then, all_of, known, numbered_pattern, numbered_else, split_step, arm_step, numbered_split, numbered_layout}
+use Rattle.rb_names.specs.Numbering.{Resolved, and_then, all_of, name_found, numbered_pattern, numbered_else, split_step, arm_step, numbered_split, numbered_layout}
 use Rattle.rb_names.specs.inner.Parts.{numbered_arm}
 use Rattle.rb_names.proofs.Rising.{Right}
 use Rattle.rb_names.proofs.Inverting.{then-ok, known-ok, ok-is}
@@ -336,7 +336,7 @@ module _ (total : ℕ) (small : total < 2 ^ 32) (types : List DataDecl) (t : Tab
           right = off-token total _ _ x.right;
           shorter = omega (arith, a.1.count, x.shorter);
           well = λ d e.
-              let f = then-ok (known l.ty (meaning t.types l.ty.text)) _ d e in
+              let f = then-ok (name_found l.ty (meaning t.types l.ty.text)) _ d e in
               let g = then-ok (numbered_split t l.tree) _ d f.2 in
               let v = x.well g.0 g.1 in
               let few : is_short (leaves g.0) ≡ true = short-of total small (leaves g.0) (omega (arith, v.0, a.1.count, s.fits)) in

@@ -23,10 +23,10 @@ use Rattle.rb_names.specs.declared.tables.Tables.{Tables}
 use Rattle.rb_names.specs.declared.items.Items.{Items}
 use Rattle.rb_names.specs.Tables.{Name, Table, meaning}
 use Rattle.rb_names.specs.Scopes.{param_binders, inside}
-use Rattle.rb_names.specs.Definitions.{Kind, OfType, OfConstructor, OfFunction, OfLayout, Definition, same_kind, same_definition, constructor_definition, layout_definition, definitions, first_again, defined_twice, types_in, functions_in, numbered_from, constructors_from, constructors_of, type_names, function_names, tables_of}
-use Rattle.rb_names.specs.Numbering.{Resolved, and_then, all_of, known, numbered_type, numbered_constructor, numbered_data, numbered_split, numbered_layout, numbered_function, numbered_param, numbered_expression}
-use Rattle.rb_names.specs.Programs.{with_type, with_layout, with_function, numbered_items, main_number}
-use Rattle.rb_names.specs.Completing.{left_in, numbers_of}
+use Rattle.rb_names.specs.Definitions.{TableKind, OfType, OfConstructor, OfFunction, OfLayout, Definition, same_kind, same_definition, constructor_definition, layout_definition, definitions, first_again, defined_twice, types_in, functions_in, numbered_from, constructors_from, constructors_of, type_names, function_names, tables_of}
+use Rattle.rb_names.specs.Numbering.{Resolved, and_then, all_of, name_found, numbered_type, numbered_constructor, numbered_data, numbered_split, numbered_layout, numbered_function, numbered_param, numbered_expression}
+use Rattle.rb_names.specs.Programs.{items_with_type, with_layout, with_function, numbered_items, main_number}
+use Rattle.rb_names.specs.Completing.{left_in, type_numbers}
 use Rattle.rb_names.proofs.DefiningLemmas.{any-append}
 use Rattle.rb_names.proofs.DistinctNumbers.{AreDistinct, front-distinct, moved-distinct, moved-not-in}
 use Rattle.rb_names.proofs.Inverting.{then-ok, known-ok, ok-is}
@@ -69,7 +69,7 @@ module _ (t : Tables) where
   items-types (top.Types d ∷ items) all e =
       let a = then-ok (numbered_data t d) _ all e in
       let b = then-ok (numbered_items t items) _ all a.2 in
-      rw (← ok-is (with_type a.0 b.0) all b.2) (all-join (numbered_data t d) (all_of (map (numbered_data t) (types_in items))) a.0 (b.0).types a.1 (items-types items b.0 b.1))
+      rw (← ok-is (items_with_type a.0 b.0) all b.2) (all-join (numbered_data t d) (all_of (map (numbered_data t) (types_in items))) a.0 (b.0).types a.1 (items-types items b.0 b.1))
   items-types (top.Layouts l ∷ items) all e =
       let a = then-ok (numbered_layout t l) _ all e in
       let b = then-ok (numbered_items t items) _ all a.2 in
@@ -79,14 +79,14 @@ module _ (t : Tables) where
       let b = then-ok (numbered_items t items) _ all a.2 in
       rw (← ok-is (with_function a.0 b.0) all b.2) (items-types items b.0 b.1)
   items-types (top.Derived name auto ∷ items) all e =
-      let a = then-ok (known name (meaning t.types name.text)) _ all e in items-types items all a.2
+      let a = then-ok (name_found name (meaning t.types name.text)) _ all e in items-types items all a.2
 
   pub items-functions : (items : List ItemTree) (all : Items) → numbered_items t items ≡ Ok all → all_of (map (numbered_function t) (functions_in items)) ≡ Ok all.functions
   items-functions [] all e = rw (← ok-is _ all e) refl
   items-functions (top.Types d ∷ items) all e =
       let a = then-ok (numbered_data t d) _ all e in
       let b = then-ok (numbered_items t items) _ all a.2 in
-      rw (← ok-is (with_type a.0 b.0) all b.2) (items-functions items b.0 b.1)
+      rw (← ok-is (items_with_type a.0 b.0) all b.2) (items-functions items b.0 b.1)
   items-functions (top.Layouts l ∷ items) all e =
       let a = then-ok (numbered_layout t l) _ all e in
       let b = then-ok (numbered_items t items) _ all a.2 in
@@ -96,7 +96,7 @@ module _ (t : Tables) where
       let b = then-ok (numbered_items t items) _ all a.2 in
       rw (← ok-is (with_function a.0 b.0) all b.2) (all-join (numbered_function t f) (all_of (map (numbered_function t) (functions_in items))) a.0 (b.0).functions a.1 (items-functions items b.0 b.1))
   items-functions (top.Derived name auto ∷ items) all e =
-      let a = then-ok (known name (meaning t.types name.text)) _ all e in items-functions items all a.2
+      let a = then-ok (name_found name (meaning t.types name.text)) _ all e in items-functions items all a.2
 
   -- what a numbered item keeps of its tree
   pub constructor-name : (c : ConTree) (k : Con) → numbered_constructor t c ≡ Ok k → k.name ≡ c.name.text
@@ -199,7 +199,7 @@ distinct-last (x ∷ xs) y d n =
     any-append (bytes_eq x) xs (y ∷ []) ∙ rw (not-true _ e.0, bytes-symm x y, f.0) refl in
     and-all (not (list_any (bytes_eq x) (xs ++ y ∷ []))) _ (ap not apart) (distinct-last xs y e.1 f.1)
 
-kind-same : (k l : Kind) → same_kind k l ≡ true → k ≡ l
+kind-same : (k l : TableKind) → same_kind k l ≡ true → k ≡ l
 kind-same OfType OfType e = refl
 kind-same OfType OfConstructor e = absurd cc
 kind-same OfType OfFunction e = absurd cc
@@ -218,11 +218,11 @@ kind-same OfLayout OfFunction e = absurd cc
 kind-same OfLayout OfLayout e = refl
 
 -- the names that are defined in one table
-abbrev pub names_of : Kind → List Definition → List Name
+abbrev pub names_of : TableKind → List Definition → List Name
 names_of k [] = []
 names_of k (d ∷ ds) = cond (same_kind k d.kind) (d.name.text ∷ names_of k ds) (names_of k ds)
 
-names-append : (k : Kind) (ds es : List Definition) → names_of k (ds ++ es) ≡ names_of k ds ++ names_of k es
+names-append : (k : TableKind) (ds es : List Definition) → names_of k (ds ++ es) ≡ names_of k ds ++ names_of k es
 names-append k [] es = refl
 names-append k (d ∷ ds) es = by (same_kind k d.kind) (names-append k ds es)
   where
@@ -242,7 +242,7 @@ any-named d (e ∷ es) = by (same_kind d.kind e.kind) (any-named d es)
     by false rest = rest
 
 -- with one more definition, which none before it equals
-one-more : (k : Kind) (ds : List Definition) (d : Definition) → list_any (same_definition d) ds ≡ false → is_distinct bytes_eq (names_of k ds) ≡ true
+one-more : (k : TableKind) (ds : List Definition) (d : Definition) → list_any (same_definition d) ds ≡ false → is_distinct bytes_eq (names_of k ds) ≡ true
     → is_distinct bytes_eq (names_of k (ds ++ d ∷ [])) ≡ true
 one-more k ds d none h = rw (names-append k ds (d ∷ [])) (by (same_kind k d.kind) refl)
   where
@@ -253,7 +253,7 @@ one-more k ds d none h = rw (names-append k ds (d ∷ [])) (by (same_kind k d.ki
         distinct-last (names_of k ds) d.name.text h same
     by false e = rw (append-nil (names_of k ds)) h
 
-first-distinct : (k : Kind) (before ds : List Definition) → first_again before ds ≡ None → is_distinct bytes_eq (names_of k before) ≡ true
+first-distinct : (k : TableKind) (before ds : List Definition) → first_again before ds ≡ None → is_distinct bytes_eq (names_of k before) ≡ true
     → is_distinct bytes_eq (names_of k (before ++ ds)) ≡ true
 first-distinct k before [] e h = rw (append-nil before) h
 first-distinct k before (d ∷ ds) e h = by (list_any (same_definition d) before) refl e (λ n f. first-distinct k (before ++ d ∷ []) ds f (one-more k before d n h))
@@ -264,11 +264,11 @@ first-distinct k before (d ∷ ds) e h = by (list_any (same_definition d) before
     by true n e later = absurd cc
     by false n e later = rw (← append_assoc before (d ∷ []) ds) (later n e)
 
-skip-constructors : (k : Kind) → same_kind k OfConstructor ≡ false → (cs : List ConTree) (ds : List Definition) → names_of k (map constructor_definition cs ++ ds) ≡ names_of k ds
+skip-constructors : (k : TableKind) → same_kind k OfConstructor ≡ false → (cs : List ConTree) (ds : List Definition) → names_of k (map constructor_definition cs ++ ds) ≡ names_of k ds
 skip-constructors k e [] ds = refl
 skip-constructors k e (c ∷ cs) ds = rw e (skip-constructors k e cs ds)
 
-skip-layout : (k : Kind) → same_kind k OfLayout ≡ false → (types : List Name) (name : NameTree) (ds : List Definition) → names_of k (layout_definition types name ++ ds) ≡ names_of k ds
+skip-layout : (k : TableKind) → same_kind k OfLayout ≡ false → (types : List Name) (name : NameTree) (ds : List Definition) → names_of k (layout_definition types name ++ ds) ≡ names_of k ds
 skip-layout k e types name ds = by (list_any (bytes_eq name.text) types)
   where
     by : (b : Bool) → names_of k (cond b (record { kind = OfLayout; name = name } ∷ []) [] ++ ds) ≡ names_of k ds
@@ -351,18 +351,18 @@ module _ (t : Tables) (types : List Name)
       }
 
   abbrev laid : List ItemTree → Items → List ℕ
-  laid items all = map (λ l. l.ty) all.layouts ++ numbers_of t.types (left_in items)
+  laid items all = map (λ l. l.ty) all.layouts ++ type_numbers t.types (left_in items)
 
   apart : (items : List ItemTree) (all : Items) → numbered_items t items ≡ Ok all → Apart (names_of OfLayout (defs types items)) (laid items all)
   apart [] all e = rw (← ok-is _ all e) (record { absent = λ q n m f. refl; distinct = λ f. refl })
   apart (top.Types d ∷ items) all e =
       let a = then-ok (numbered_data t d) _ all e in
       let b = then-ok (numbered_items t items) _ all a.2 in
-      rw (← ok-is (with_type a.0 b.0) all b.2, skip-type types d (defs types items)) (apart items b.0 b.1)
+      rw (← ok-is (items_with_type a.0 b.0) all b.2, skip-type types d (defs types items)) (apart items b.0 b.1)
   apart (top.Layouts l ∷ items) all e =
       let a = then-ok (numbered_layout t l) _ all e in
       let b = then-ok (numbered_items t items) _ all a.2 in
-      let k = then-ok (known l.ty (meaning t.types l.ty.text)) _ a.0 a.1 in
+      let k = then-ok (name_found l.ty (meaning t.types l.ty.text)) _ a.0 a.1 in
       let s = then-ok (numbered_split t l.tree) _ a.0 k.2 in
       let is : meaning t.types l.ty.text ≡ Some k.0 = known-ok l.ty _ k.0 k.1 in
       let same : (a.0).ty ≡ k.0 = ap (λ (x : LayoutDecl). x.ty) (sym (ok-is _ a.0 s.2)) in
@@ -373,10 +373,10 @@ module _ (t : Tables) (types : List Name)
       let b = then-ok (numbered_items t items) _ all a.2 in
       rw (← ok-is (with_function a.0 b.0) all b.2) (apart items b.0 b.1)
   apart (top.Derived name auto ∷ items) all e =
-      let a = then-ok (known name (meaning t.types name.text)) _ all e in
+      let a = then-ok (name_found name (meaning t.types name.text)) _ all e in
       let is : meaning t.types name.text ≡ Some a.0 = known-ok name _ a.0 a.1 in
       rw (layout-named types name (defs types items) (named name.text a.0 is), is)
-      (apart-inside _ (map (λ l. l.ty) all.layouts) (numbers_of t.types (left_in items)) name.text a.0 is (apart items all a.2))
+      (apart-inside _ (map (λ l. l.ty) all.layouts) (type_numbers t.types (left_in items)) name.text a.0 is (apart items all a.2))
 
 number-named : (k : ℕ) (names : List Name) (name : Name) (n : ℕ) → meaning (numbered_from k names) name ≡ Some n → (k ≤ n) × (list_any (bytes_eq name) names ≡ true)
 number-named k [] name n e = absurd cc
@@ -431,7 +431,7 @@ module _ (items : List ItemTree) (all : Items) (found : numbered_items (tables_o
       main-is (Some n) e = cc
 
   module _ (once : defined_twice items ≡ None) where
-    distinct-of : (k : Kind) → is_distinct bytes_eq (names_of k (defs (type_names items) items)) ≡ true
+    distinct-of : (k : TableKind) → is_distinct bytes_eq (names_of k (defs (type_names items) items)) ≡ true
     distinct-of k = first-distinct k [] (defs (type_names items) items) once refl
 
     pub distinct-names : is_distinct bytes_eq (type_names items) ≡ true
@@ -453,9 +453,9 @@ module _ (items : List ItemTree) (all : Items) (found : numbered_items (tables_o
         (λ d x e. all-map (numbered_constructor t) (λ (c : ConTree). c.name.text) (λ (c : Con). c.name) (constructor-name t) d.cons x.cons (data-cons t d x e))
         (types_in items) all.types (items-types t items all found) ∙ sym (defined-constructors (type_names items) items)) ∙ distinct-of OfConstructor
 
-    pub distinct-laid : AreDistinct (map (λ l. l.ty) all.layouts ++ numbers_of t.types (left_in items))
+    pub distinct-laid : AreDistinct (map (λ l. l.ty) all.layouts ++ type_numbers t.types (left_in items))
     distinct-laid =
         (apart t (type_names items) (λ name n e. (number-named 0 (type_names items) name n e).1) (number-one 0 (type_names items)) items all found).distinct (distinct-of OfLayout)
 
     pub distinct-layouts : is_distinct nat_eq (map (λ l. l.ty) all.layouts) ≡ true
-    distinct-layouts = front-distinct (map (λ l. l.ty) all.layouts) (numbers_of t.types (left_in items)) distinct-laid
+    distinct-layouts = front-distinct (map (λ l. l.ty) all.layouts) (type_numbers t.types (left_in items)) distinct-laid

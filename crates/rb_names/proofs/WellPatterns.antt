@@ -25,7 +25,7 @@ use Rattle.rb_syntax.proofs.PatternInduction.{Each, induction}
 use Rattle.rb_names.specs.declared.tables.Tables.{Tables}
 use Rattle.rb_names.specs.Tables.{Name, meaning}
 use Rattle.rb_names.specs.Scopes.{Scope, names_in}
-use Rattle.rb_names.specs.Numbering.{Resolved, all_of, known, numbered_pattern}
+use Rattle.rb_names.specs.Numbering.{Resolved, all_of, name_found, numbered_pattern}
 use Rattle.rb_names.proofs.PatternEquations.{names-Wild, names-Var, names-Num, names-Con, pattern-Wild, pattern-Var, pattern-Num, pattern-Con}
 use Rattle.rb_names.proofs.Rising.{Right}
 use Rattle.rb_names.proofs.Inverting.{then-ok, known-ok, ok-is}
@@ -185,7 +185,7 @@ module _ (total : ℕ) (small : total < 2 ^ 32) (types : List DataDecl) (t : Tab
         right = record { formed = s.formed; numbers = s.numbers.1.1; fits = omega (arith, s.fits) };
         shorter = rw (pat-Var at v l rest) (omega arith);
         well = λ scope q e.
-            let f = then-ok (known v (meaning scope v.text)) _ q (sym (pattern-Var t scope at v) ∙ e) in
+            let f = then-ok (name_found v (meaning scope v.text)) _ q (sym (pattern-Var t scope at v) ∙ e) in
             let m : meaning scope v.text ≡ Some f.0 = known-ok v (meaning scope v.text) f.0 f.1 in
             rw (← ok-is (C.Var at f.0) q f.2) (record {
               numbered = fold-Var Bool (numbered_pattern_step types) at f.0;
@@ -213,7 +213,7 @@ module _ (total : ℕ) (small : total < 2 ^ 32) (types : List DataDecl) (t : Tab
         right = b.right;
         shorter = rw (con-written at x ps l rest) (omega (arith, b.count));
         well = λ scope q e.
-            let f = then-ok (known x (meaning t.constructors x.text)) _ q (sym (pattern-Con t scope at x ps) ∙ e) in
+            let f = then-ok (name_found x (meaning t.constructors x.text)) _ q (sym (pattern-Con t scope at x ps) ∙ e) in
             let g = then-ok (all_of (map (numbered_pattern t scope) ps)) _ q f.2 in
             let v = b.well scope g.0 g.1 in
             let short : is_short (map (pattern_is_numbered types) g.0) ≡ true =

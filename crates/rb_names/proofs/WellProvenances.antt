@@ -21,7 +21,7 @@ use Rattle.rb_syntax.proofs.LayoutSpelling.{below-Wild, below-Var, below-Num, be
 use Rattle.rb_syntax.proofs.PatternInduction as pattern
 use Rattle.rb_names.specs.declared.tables.Tables.{Tables}
 use Rattle.rb_names.specs.Tables.{Name, meaning}
-use Rattle.rb_names.specs.Numbering.{all_of, known, numbered_pattern}
+use Rattle.rb_names.specs.Numbering.{all_of, name_found, numbered_pattern}
 use Rattle.rb_names.proofs.PatternEquations.{pattern-Wild, pattern-Con}
 use Rattle.rb_names.proofs.Rising.{Right}
 use Rattle.rb_names.proofs.Inverting.{then-ok, known-ok, ok-is}
@@ -115,7 +115,7 @@ module _ (total : ℕ) (small : total < 2 ^ 32) (types : List DataDecl) (t : Tab
       let a : Fields ps vs rest = fields ps h (suc l) rest (off-token total _ _ (off-number total _ _ (off-number total _ _ (off-node total _ _ s)))) in
       is-as total PatTree Pat (numbered_pattern t []) no_size IsProvenance (below_at l) (P.Con at x ps) rest _ (con-written at x ps l rest) a.right (omega (arith, a.count))
       (λ q e.
-      let f = then-ok (known x (meaning t.constructors x.text)) _ q (sym (pattern-Con t [] at x ps) ∙ e) in
+      let f = then-ok (name_found x (meaning t.constructors x.text)) _ q (sym (pattern-Con t [] at x ps) ∙ e) in
       let g = then-ok (all_of (map (numbered_pattern t []) ps)) _ q f.2 in
       let v = a.well g.0 g.1 in (
         omega (arith, a.count),

@@ -34,13 +34,13 @@ with_number None ts = ts
 with_number (Some t) ts = t ∷ ts
 
 -- the numbers of the types that a table names, in its order; a name that no type has is left out
-abbrev pub numbers_of : Table ℕ → Table Auto → List ℕ
-numbers_of types [] = []
-numbers_of types (l ∷ ls) = with_number (meaning types l.0) (numbers_of types ls)
+abbrev pub type_numbers : Table ℕ → Table Auto → List ℕ
+type_numbers types [] = []
+type_numbers types (l ∷ ls) = with_number (meaning types l.0) (type_numbers types ls)
 
 -- the numbers of the types whose layouts a file leaves to the compiler, in the file's order
 abbrev pub left_types : FileTree → List ℕ
-left_types file = numbers_of (tables_of file.items).types (left_in file.items)
+left_types file = type_numbers (tables_of file.items).types (left_in file.items)
 
 -- r, a layout or a refusal, is what is derived for type t of program p, where kinds has the kind for each type; want
 -- of memory is no answer here
@@ -77,7 +77,7 @@ pub record IsCompleted (file : FileTree) (p : Program) (c : Completed) : Type 0 
 
 -- c is program p with a derived layout for each type whose layout the file leaves to the compiler, none of which has
 -- a written one
-pub record IsWhole (file : FileTree) (p : Program) (c : Completed) : Type 0 where
+pub record IsCompletion (file : FileTree) (p : Program) (c : Completed) : Type 0 where
   pub derived : List LayoutDecl
   pub completes : Completes p (kinds_of file) derived
   pub program : c.program ≡ completed p derived

@@ -67,14 +67,14 @@ tables_of items = record {
 -- Twice -------------------------------------------------------------------------------------
 
 -- the tables in which a name is defined; a type's name stands in the last of them by its layout
-pub data Kind : Type 0 where
-  OfType : Kind
-  OfConstructor : Kind
-  OfFunction : Kind
-  OfLayout : Kind
+pub data TableKind : Type 0 where
+  OfType : TableKind
+  OfConstructor : TableKind
+  OfFunction : TableKind
+  OfLayout : TableKind
 
 -- whether two kinds are the same, so that names of them are defined in the same table
-abbrev pub same_kind : Kind → Kind → Bool
+abbrev pub same_kind : TableKind → TableKind → Bool
 same_kind OfType OfType = true
 same_kind OfConstructor OfConstructor = true
 same_kind OfFunction OfFunction = true
@@ -83,7 +83,7 @@ same_kind k l = false
 
 -- a name that is defined, and in which table
 pub record Definition : Type 0 where
-  pub kind : Kind
+  pub kind : TableKind
   pub name : NameTree
 
 -- whether two definitions are of the same name in the same table

@@ -63,16 +63,16 @@ all_of [] = Ok []
 all_of (r ∷ rs) = and_then r (λ x. and_then (all_of rs) (λ xs. Ok (x ∷ xs)))
 
 -- what a name was found to stand for; where nothing was found, the fault that it is unknown at its place
-abbrev pub known : {A : Type 0} → NameTree → Option A → Resolved A
-known name None = Err (Unknown name.text name.at)
-known name (Some a) = Ok a
+abbrev pub name_found : {A : Type 0} → NameTree → Option A → Resolved A
+name_found name None = Err (Unknown name.text name.at)
+name_found name (Some a) = Ok a
 
 -- Types and patterns ------------------------------------------------------------------------
 
 -- a written type: an integer type as it is, a data type by its number in the tables, or the fault of its name
 abbrev pub numbered_type : Tables → TyTree → Resolved Ty
 numbered_type t (ty.Int bits) = Ok (core_ty.Int bits)
-numbered_type t (ty.Named name) = and_then (known name (meaning t.types name.text)) (λ n. Ok (core_ty.Named n))
+numbered_type t (ty.Named name) = and_then (name_found name (meaning t.types name.text)) (λ n. Ok (core_ty.Named n))
 
 -- a declared constructor under its name, with the types of its fields numbered, in their order
 abbrev pub numbered_constructor : Tables → ConTree → Resolved Con
@@ -88,10 +88,11 @@ numbered_data t d =
 -- variable in the scope, which is that inside the whole pattern's own binders
 abbrev pub pattern_step : Tables → Scope → PatTree-F (Resolved Pat) → Resolved Pat
 pattern_step t scope (pat.Wild at) = Ok (core_pat.Wild at)
-pattern_step t scope (pat.Var at name) = and_then (known name (meaning scope name.text)) (λ x. Ok (core_pat.Var at x))
+pattern_step t scope (pat.Var at name) = and_then (name_found name (meaning scope name.text))
+    (λ x. Ok (core_pat.Var at x))
 pattern_step t scope (pat.Num at n) = Ok (core_pat.Num at n)
 pattern_step t scope (pat.Con at name ps) =
-    and_then (known name (meaning t.constructors name.text))
+    and_then (name_found name (meaning t.constructors name.text))
     (λ c. and_then (all_of ps) (λ qs. Ok (core_pat.Con at c qs)))
 
 -- a pattern with its constructors' numbers from the tables and its variables' from the scope
@@ -131,12 +132,12 @@ clause_step t c scope next =
 abbrev pub expr_step : Tables → ExprTree-F (Numbering Expr) (Numbering Clause) → Numbering Expr
 expr_step t (expr.Num at n) scope next = numbered_as (core.Num at n) next
 expr_step t (expr.Var at name) scope next =
-    and_then (known name (meaning scope name.text)) (λ x. numbered_as (core.Var at x) next)
+    and_then (name_found name (meaning scope name.text)) (λ x. numbered_as (core.Var at x) next)
 expr_step t (expr.Call at name es) scope next =
-    and_then (known name (meaning t.functions name.text))
+    and_then (name_found name (meaning t.functions name.text))
     (λ f. and_then (in_turn es scope next) (λ xs. numbered_as (core.Call at f xs.what) xs.next))
 expr_step t (expr.Build at name es) scope next =
-    and_then (known name (meaning t.constructors name.text))
+    and_then (name_found name (meaning t.constructors name.text))
     (λ c. and_then (in_turn es scope next) (λ xs. numbered_as (core.Build at c xs.what) xs.next))
 expr_step t (expr.Binary at op a b) scope next =
     and_then (a scope next) (λ x. and_then (b scope x.next) (λ y. numbered_as (core.Binary at op x.what y.what) y.next))
@@ -158,7 +159,7 @@ numbered_expression t = fold-ExprTree (Numbering Expr) (Numbering Clause) (expr_
 -- a parameter, with its type numbered and its variable's number from the scope of all parameters
 abbrev pub numbered_param : Tables → Scope → ParamTree → Resolved Param
 numbered_param t scope p =
-    and_then (numbered_type t p.ty) (λ u. and_then (known p.var (meaning scope p.var.text))
+    and_then (numbered_type t p.ty) (λ u. and_then (name_found p.var (meaning scope p.var.text))
     (λ x. Ok (record { at = p.at; var = x; ty = u })))
 
 -- a function: its parameters are its first binders, from number 0 on, and are the scope of its body
@@ -192,5 +193,5 @@ numbered_split t = fold-SplitTree (Resolved LayTree) (Resolved Arm) (split_step 
 -- a written layout, with its type's number and its tree numbered
 abbrev pub numbered_layout : Tables → LayoutTree → Resolved LayoutDecl
 numbered_layout t l =
-    and_then (known l.ty (meaning t.types l.ty.text)) (λ n. and_then (numbered_split t l.tree) (λ tree.
+    and_then (name_found l.ty (meaning t.types l.ty.text)) (λ n. and_then (numbered_split t l.tree) (λ tree.
     Ok (record { at = l.at; ty = n; shape = l.shape; tree = tree })))

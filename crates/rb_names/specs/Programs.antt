@@ -15,11 +15,11 @@ use Rattle.rb_names.specs.declared.tables.Tables.{Tables}
 use Rattle.rb_names.specs.declared.items.Items.{Items}
 use Rattle.rb_names.specs.Tables.{meaning}
 use Rattle.rb_names.specs.Definitions.{tables_of, defined_twice}
-use Rattle.rb_names.specs.Numbering.{Resolved, and_then, known, numbered_data, numbered_layout, numbered_function}
+use Rattle.rb_names.specs.Numbering.{Resolved, and_then, name_found, numbered_data, numbered_layout, numbered_function}
 
 -- these items with one more type in front of their types
-abbrev pub with_type : DataDecl → Items → Items
-with_type d rest = record { types = d ∷ rest.types; layouts = rest.layouts; functions = rest.functions }
+abbrev pub items_with_type : DataDecl → Items → Items
+items_with_type d rest = record { types = d ∷ rest.types; layouts = rest.layouts; functions = rest.functions }
 
 -- these items with one more layout in front of their layouts
 abbrev pub with_layout : LayoutDecl → Items → Items
@@ -34,13 +34,13 @@ with_function f rest = record { types = rest.types; layouts = rest.layouts; func
 abbrev pub numbered_items : Tables → List ItemTree → Resolved Items
 numbered_items t [] = Ok (record { types = []; layouts = []; functions = [] })
 numbered_items t (top.Types d ∷ items) =
-    and_then (numbered_data t d) (λ x. and_then (numbered_items t items) (λ rest. Ok (with_type x rest)))
+    and_then (numbered_data t d) (λ x. and_then (numbered_items t items) (λ rest. Ok (items_with_type x rest)))
 numbered_items t (top.Layouts l ∷ items) =
     and_then (numbered_layout t l) (λ x. and_then (numbered_items t items) (λ rest. Ok (with_layout x rest)))
 numbered_items t (top.Funs f ∷ items) =
     and_then (numbered_function t f) (λ x. and_then (numbered_items t items) (λ rest. Ok (with_function x rest)))
 numbered_items t (top.Derived name a ∷ items) =
-    and_then (known name (meaning t.types name.text)) (λ n. numbered_items t items)
+    and_then (name_found name (meaning t.types name.text)) (λ n. numbered_items t items)
 
 -- the fault that this name is defined twice; no fault where there is no such name
 abbrev pub no_twice : Option NameTree → Resolved (Unit {0})

@@ -50,7 +50,7 @@ pub record AreCounted (items : List ItemTree) : Type 0 where
 
 -- what is known of a file that was read: its tokens, of which there are fewer than 2^32, spell it, their names are of
 -- their kind, and its counts are within the limits
-pub record IsWritten (ts : List Token) (file : FileTree) : Type 0 where
+pub record IsReadFile (ts : List Token) (file : FileTree) : Type 0 where
   pub tree : IsTreeOf ts file
   pub short : length ts < 2 ^ 32
   pub named : AreNamed ts

@@ -3,7 +3,7 @@
 
 ghost use Rattle.std.specs.Prelude.{◌≡◌, Ok, None, IfOk};
 ghost use Rattle.rb_core.specs.WellNumbered.{IsWellNumbered};
-ghost use Rattle.rb_names.specs.Completing.{IsCompleted, IsWhole};
+ghost use Rattle.rb_names.specs.Completing.{IsCompleted, IsCompletion};
 ghost use Rattle.rb_names.specs.Programs.{numbered};
 ghost use Rattle.rb_names.specs.inner.Deriving.{IsWith};
 
@@ -32,7 +32,7 @@ pub struct Completed {
 pub fn complete(alloc: Global, tree: &FileTree, program: Program) -> Result<Completed, AllocError>
     requires named { numbered tree.now ≡ Ok program }
     ensures completed { IfOk result (IsCompleted tree.now program) }
-    ensures whole { IfOk result (λ c. c.refused ≡ None → IsWhole tree.now program c) }
+    ensures whole { IfOk result (λ c. c.refused ≡ None → IsCompletion tree.now program c) }
     ensures well { IsWellNumbered program → IfOk result (λ c. IsWellNumbered c.program) }
 {
     let kinds = kinds_of(alloc, tree)?;

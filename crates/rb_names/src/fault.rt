@@ -51,7 +51,7 @@ pub(crate) fn known<T: Copy>(
     name: &NameTree,
     found: Option<T>,
 ) -> Result<T, NameFault>
-    ensures { AnswersNumbering result (numbering.known name.now found) }
+    ensures { AnswersNumbering result (numbering.name_found name.now found) }
 {
     match found {
         Some(meaning) => Ok(meaning),

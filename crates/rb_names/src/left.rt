@@ -5,7 +5,7 @@
 ghost use Rattle.std.specs.Prelude.{◌≡◌, ◌++◌, [], ◌∷◌, List, None, IfOk, OnOk, map};
 ghost use Rattle.rb_syntax.specs.declared.tree.ItemTree.{ItemTree as Tree};
 ghost use Rattle.rb_names.specs.Completing as spec;
-ghost use Rattle.rb_names.specs.Completing.{numbers_of};
+ghost use Rattle.rb_names.specs.Completing.{type_numbers};
 ghost use Rattle.rb_names.specs.Definitions.{defined_twice, type_names};
 ghost use Rattle.rb_names.specs.Tables.{meaning};
 ghost use Rattle.rb_names.specs.inner.Deriving.{MeanTheSame};
@@ -110,7 +110,7 @@ pub fn left_types(alloc: Global, tree: &FileTree) -> Result<Seq<u32>, AllocError
 // Adds the number of the type whose layout the item leaves to the compiler, if it does and there is
 // such a type.
 fn add_number(types: &Table<u32>, item: &ItemTree, numbers: &mut Seq<u32>) -> Result<(), AllocError>
-    ensures { OnOk result (numbers.new ≡ numbers.old ++ numbers_of types.now (spec.left_in (item.now ∷ []))) }
+    ensures { OnOk result (numbers.new ≡ numbers.old ++ type_numbers types.now (spec.left_in (item.now ∷ []))) }
 {
     match item {
         ItemTree::Derived(name, _) => match types.get(name.text.as_slice()) {

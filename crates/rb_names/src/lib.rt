@@ -26,7 +26,7 @@ ghost use Rattle.rb_core.specs.WellNumbered.{IsWellNumbered};
 ghost use Rattle.rb_syntax.specs.declared.token.Token.{Token};
 ghost use Rattle.rb_names.specs.Answers.{AnswersNumbering};
 ghost use Rattle.rb_names.specs.Programs.{numbered};
-ghost use Rattle.rb_names.specs.Written.{IsWritten};
+ghost use Rattle.rb_names.specs.Written.{IsReadFile};
 
 pub mod complete;
 mod derivation;
@@ -62,7 +62,7 @@ use std::alloc::Global;
 pub fn resolve(alloc: Global, tree: &FileTree) -> Result<Program, NameFault>
     ensures answers { AnswersNumbering result (numbered tree.now) }
     // the program of a file that was read is well numbered
-    ensures well { (ts : List Token) → IsWritten ts tree.now → IfOk result IsWellNumbered }
+    ensures well { (ts : List Token) → IsReadFile ts tree.now → IfOk result IsWellNumbered }
 {
     number_file(alloc, tree)
 }

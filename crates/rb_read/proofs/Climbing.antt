@@ -19,8 +19,8 @@ use Rattle.rb_syntax.specs.declared.tree.ArmTree.{ArmTree}
 use Rattle.rb_syntax.specs.declared.tree.ItemTree.{ItemTree}
 use Rattle.rb_syntax.specs.declared.tree.ItemTree.TheVariants as top
 use Rattle.rb_syntax.specs.declared.tree.FileTree.{FileTree}
-use Rattle.rb_syntax.specs.Written.{Written, node, tokens_in, HasNode, Writing, checked, each, each_behind, some_with, any_with}
-use Rattle.rb_syntax.specs.Spelling.{is_width, Deep, at_level, comma, bar, root_checked, ty_written, fields_written, pat_written, below_written, prov_written, expr_written, clause_written, field_written, path_written, loc_step_written, loc_written, kind_written, part_written, lay_item_written, split_written, arm_written, con_written, width_written, param_written, item_written, file_written}
+use Rattle.rb_syntax.specs.Written.{Written, node, tokens_in, HasNode, Writing, flaw_unless, each, each_behind, some_with, any_with}
+use Rattle.rb_syntax.specs.Spelling.{is_uint_width, Deep, at_level, comma, bar, root_checked, ty_written, fields_written, pat_written, below_written, prov_written, expr_written, clause_written, field_written, path_written, loc_step_written, loc_written, kind_written, part_written, lay_item_written, split_written, arm_written, con_written, width_written, param_written, item_written, file_written}
 use Rattle.rb_syntax.proofs.PatternInduction as patterns
 use Rattle.rb_syntax.proofs.ExpressionInduction as expressions
 use Rattle.rb_syntax.proofs.SpellingLemmas.{pat-Wild, pat-Var, pat-Num, pat-Con, clause-is, expr-Num, expr-Var, expr-Call, expr-Build, expr-Binary, expr-To, expr-Let, expr-Match, arm-is, split-Leaf, split-None, split-Some}
@@ -81,12 +81,12 @@ module _ (total limit : ℕ) where
   map-keeps w h [] = tt
   map-keeps w h (x ∷ xs) = (h x, map-keeps w h xs)
 
-  checked-keeps : (b : Bool) → Keeps (checked b)
+  checked-keeps : (b : Bool) → Keeps (flaw_unless b)
   checked-keeps true rest g = g
   checked-keeps false rest g = g
 
   ty-keeps : (t : TyTree) → Keeps (ty_written t)
-  ty-keeps (ty.Int bits) rest g = checked-keeps (is_width bits) _ g
+  ty-keeps (ty.Int bits) rest g = checked-keeps (is_uint_width bits) _ g
   ty-keeps (ty.Named name) rest g = g
 
   -- Patterns and provenances.
@@ -137,7 +137,7 @@ module _ (total limit : ℕ) where
     call = λ at name es h l k rest g. node-climbs l (expr-Call at name es l rest) k (λ j. any_with-keeps comma _ (expressions-keep (suc l) es j h) _ g);
     build = λ at name es h l k rest g. node-climbs l (expr-Build at name es l rest) k (λ j. fields-keeps _ (expressions-keep (suc l) es j h) rest g);
     binary = λ at op a b p q l k rest g. node-climbs l (expr-Binary at op a b l rest) k (λ j. p (suc l) j _ (q (suc l) j _ g));
-    to = λ at bits a p l k rest g. node-climbs l (expr-To at bits a l rest) k (λ j. checked-keeps (is_width bits) _ (p (suc l) j _ g));
+    to = λ at bits a p l k rest g. node-climbs l (expr-To at bits a l rest) k (λ j. checked-keeps (is_uint_width bits) _ (p (suc l) j _ g));
     bound = λ at name t a b p q l k rest g. node-climbs l (expr-Let at name t a b l rest) k (λ j. ty-keeps t _ (p (suc l) j _ (q (suc l) j rest g)));
     choice = λ at e cs p h l k rest g. node-climbs l (expr-Match at e cs l rest) k (λ j. p (suc l) j _ (some_with-keeps comma _ (clauses-keep (suc l) cs j h) _ g));
   })

@@ -4,11 +4,11 @@ use Rattle.std.proofs.lemmas.List.{append-nil}
 use Rattle.rb_syntax.specs.declared.token.Token.{Token}
 use Rattle.rb_read.specs.declared.stop.Stop.{Stop}
 use Rattle.rb_read.specs.declared.stop.Stop.TheVariants as stop
-use Rattle.rb_read.specs.inner.Combining.{Fault, stuck, deep, Reading, Reader, at_front, with_all, many_of}
+use Rattle.rb_read.specs.inner.Combining.{Fault, stuck, deep, ReadOutcome, Reader, at_front, with_all, many_of}
 use Rattle.rb_read.specs.inner.Gives.{Fails}
 use Rattle.rb_read.proofs.Loops.{with_all-more}
 
-module _ {A : Type 0} (test : Token → Bool) (r : Reader A) (front : List A) (count i : ℕ) (ts : List Token) (all : Reading (List A))
+module _ {A : Type 0} (test : Token → Bool) (r : Reader A) (front : List A) (count i : ℕ) (ts : List Token) (all : ReadOutcome (List A))
     (below : i < count) (so_far : with_all front (many_of test r (count - i) ts) ≡ all) where
   one_more : count - i ≡ suc (count - (i + 1))
   one_more = omega arith
@@ -39,7 +39,7 @@ module _ {A : Type 0} (test : Token → Bool) (r : Reader A) (front : List A) (c
       with_all-more front x (many_of test r (count - (i + 1)) rest) ∙ sym g ∙ so_far
 
 -- no turn is left
-pub no_more : {A : Type 0} (test : Token → Bool) (r : Reader A) (front : List A) (count i : ℕ) (ts : List Token) (all : Reading (List A))
+pub no_more : {A : Type 0} (test : Token → Bool) (r : Reader A) (front : List A) (count i : ℕ) (ts : List Token) (all : ReadOutcome (List A))
     → count - i ≡ 0 → with_all front (many_of test r (count - i) ts) ≡ all → all ≡ Ok (front, ts)
 unfolding many_of
 no_more test r front count i ts all z h = sym h ∙ (rw z (ap (λ xs. Ok (xs, ts)) (append-nil front)))

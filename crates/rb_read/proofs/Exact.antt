@@ -6,7 +6,7 @@ use Rattle.rb_syntax.specs.declared.tree.ItemTree.{ItemTree}
 use Rattle.rb_syntax.specs.declared.tree.FileTree.{FileTree}
 use Rattle.rb_syntax.specs.Written.{Written, token, number, node, flaw, tokens_in, AreWithin, HasNode, each}
 use Rattle.rb_syntax.specs.Spelling.{item_written, file_written, IsTreeOf}
-use Rattle.rb_read.specs.inner.Combining.{Fault, stuck, deep, Reading, Reader}
+use Rattle.rb_read.specs.inner.Combining.{Fault, stuck, deep, ReadOutcome, Reader}
 use Rattle.rb_read.proofs.Open.{Open, step, is_done, End, whole, stopped, too_deep, end_of_tokens, go_on, run, start}
 use Rattle.rb_read.specs.Exact.{IsSpelled, StopsAt, IsTooDeepAt, IsNowhereTooDeep, IsFirstTooDeep}
 use Rattle.rb_read.specs.inner.Ending.{IsPrefix, ended, whole_file}
@@ -98,13 +98,13 @@ unfolding run step go_on ended is_done end_of_tokens end_of
 ended-goes limit items [] = refl
 ended-goes limit items (u ∷ us) = refl
 
-whole_file-goes : (limit : ℕ) (r : Reading (List ItemTree)) → goes limit [] r ≡ end_of (whole_file r)
+whole_file-goes : (limit : ℕ) (r : ReadOutcome (List ItemTree)) → goes limit [] r ≡ end_of (whole_file r)
 unfolding whole_file end_of
 whole_file-goes limit (Ok x) = ended-goes limit x.0 x.1
 whole_file-goes limit (Err (stuck m)) = refl
 whole_file-goes limit (Err (deep m)) = refl
 
-taken : (total limit : ℕ) (ts : List Token) (r : Reading (List ItemTree)) (file : FileTree)
+taken : (total limit : ℕ) (ts : List Token) (r : ReadOutcome (List ItemTree)) (file : FileTree)
     → IfOk r (λ x. Took total limit ts (each (map item_written x.0)) x.1) → whole_file r ≡ Ok file → Spells total limit ts (file_written file)
 unfolding whole_file ended
 taken total limit ts (Ok x) file h e = at_rest x.0 x.1 h e where
@@ -197,7 +197,7 @@ module _ (bars : Token → Bool) (reader : (total limit : ℕ) → Reader (List 
   node-of : (ts : List Token) (file : FileTree) (m : ℕ) → IsTreeOf ts file → run 128 start ts ≡ too_deep m → HasNode (length ts) 129 (length ts - m) (file_written file)
   unfolding run is_done end_of_tokens
   node-of ts file m h r = by_again (again 128 ts file h) where
-    at_end : (x : Reading (List ItemTree)) → reader (length ts) 128 ts ≡ x → too_deep m ≡ goes 128 [] x
+    at_end : (x : ReadOutcome (List ItemTree)) → reader (length ts) 128 ts ≡ x → too_deep m ≡ goes 128 [] x
     at_end x e = sym r ∙ (form (length ts) 128).follows ts [] ∙ ap (λ y. goes 128 [] y) e
 
     by_again : Again (length ts) 128 (reader (length ts) 128) file.items (file_written file) [] → HasNode (length ts) 129 (length ts - m) (file_written file)

@@ -3,32 +3,32 @@ use Rattle.std.proofs.Common.{◌≡◌, ℕ, suc, ◌<◌, List, [], ◌∷◌,
 use Rattle.std.proofs.lemmas.Grind.{common_steps}
 use Rattle.rb_syntax.specs.declared.token.Token.{Token}
 use Rattle.rb_syntax.specs.Written.{Written, tokens_in, Writing}
-use Rattle.rb_read.specs.inner.Combining.{stuck, deep, Reading, Reader, ◌>>=◌, pair, into, nothing}
+use Rattle.rb_read.specs.inner.Combining.{stuck, deep, ReadOutcome, Reader, ◌>>=◌, pair, into, nothing}
 use Rattle.rb_read.proofs.Open.{Kind, Open, one, Step, ahead_of, if_so, begins, step, is_done, go_on, run}
 use Rattle.rb_read.proofs.Forms.{goes, Spells, IsRight, Again, fits, exceeds, Clear, IsForm}
 
-pub ok-bind : {A B : Type 0} (P : A × List Token → Type 0) (Q : B × List Token → Type 0) (r : Reading A) (f : A × List Token → Reading B)
+pub ok-bind : {A B : Type 0} (P : A × List Token → Type 0) (Q : B × List Token → Type 0) (r : ReadOutcome A) (f : A × List Token → ReadOutcome B)
     → IfOk r P → ((x : A × List Token) → P x → IfOk (f x) Q) → IfOk (r >>= f) Q
 ok-bind P Q (Ok x) f p h = h x p
 ok-bind P Q (Err e) f p h = tt
 
-pub ok-same : {A : Type 0} {P Q : A × List Token → Type 0} (r : Reading A) → IfOk r P → ((x : A × List Token) → P x → Q x) → IfOk r Q
+pub ok-same : {A : Type 0} {P Q : A × List Token → Type 0} (r : ReadOutcome A) → IfOk r P → ((x : A × List Token) → P x → Q x) → IfOk r Q
 ok-same (Ok x) p h = h x p
 ok-same (Err e) p h = tt
 
 -- an answer under a test
-pub ok-if : {B : Type 0} (Q : B × List Token → Type 0) (b : Bool) (r s : Reading B) → (b ≡ true → IfOk r Q) → (b ≡ false → IfOk s Q) → IfOk (if b then r else s) Q
+pub ok-if : {B : Type 0} (Q : B × List Token → Type 0) (b : Bool) (r s : ReadOutcome B) → (b ≡ true → IfOk r Q) → (b ≡ false → IfOk s Q) → IfOk (if b then r else s) Q
 ok-if Q true r s h k = h refl
 ok-if Q false r s h k = k refl
 
-pub goes-bind : {A B : Type 0} (limit : ℕ) (k k' : List Open) (r : Reading A) (f : A × List Token → Reading B)
+pub goes-bind : {A B : Type 0} (limit : ℕ) (k k' : List Open) (r : ReadOutcome A) (f : A × List Token → ReadOutcome B)
     → ((x : A × List Token) → run limit k' x.1 ≡ goes limit k (f x)) → goes limit k' r ≡ goes limit k (r >>= f)
 goes-bind limit k k' (Ok x) f h = h x
 goes-bind limit k k' (Err (stuck m)) f h = refl
 goes-bind limit k k' (Err (deep m)) f h = refl
 
 -- the same, where the first reading says what it gives
-pub goes-bind-ok : {A B : Type 0} (limit : ℕ) (k k' : List Open) (P : A × List Token → Type 0) (r : Reading A) (f : A × List Token → Reading B)
+pub goes-bind-ok : {A B : Type 0} (limit : ℕ) (k k' : List Open) (P : A × List Token → Type 0) (r : ReadOutcome A) (f : A × List Token → ReadOutcome B)
     → IfOk r P → ((x : A × List Token) → P x → run limit k' x.1 ≡ goes limit k (f x)) → goes limit k' r ≡ goes limit k (r >>= f)
 goes-bind-ok limit k k' P (Ok x) f p h = h x p
 goes-bind-ok limit k k' P (Err (stuck m)) f p h = refl

@@ -2,11 +2,11 @@
 use Rattle.std.proofs.Common.{◌≡◌, ℕ, ◌≤◌, List, [], ◌∷◌, ◌++◌, length, Bool, false, nat_lt, if◌then◌else◌, Option, Some, None, Ok, Err, IfOk}
 use Rattle.rb_syntax.specs.declared.token.Token.{Token}
 use Rattle.rb_syntax.specs.Written.{Written, token, number, node, flaw, tokens_in, AreNumbered, AreWithin, HaveNoFlaw, Writing}
-use Rattle.rb_read.specs.inner.Combining.{stuck, deep, Reading, Reader}
+use Rattle.rb_read.specs.inner.Combining.{stuck, deep, ReadOutcome, Reader}
 use Rattle.rb_read.proofs.Open.{Open, End, stopped, too_deep, run}
 
 -- the end of what goes on behind what was read
-abbrev pub goes : {A : Type 0} → ℕ → List Open → Reading A → End
+abbrev pub goes : {A : Type 0} → ℕ → List Open → ReadOutcome A → End
 goes limit k (Ok x) = run limit k x.1
 goes limit k (Err (stuck m)) = stopped m
 goes limit k (Err (deep m)) = too_deep m

@@ -16,7 +16,7 @@ use Rattle.rb_syntax.specs.Written.{Written, Writing, token, node, flaw, tokens_
 use Rattle.rb_syntax.specs.Spelling.{num, reserved, range_written, field_written, kind_written, part_written, lay_item_written}
 use Rattle.rb_syntax.proofs.LayoutSpelling.{item-Word, item-Inline, part-is, kind-Const, kind-Whole, kind-Slice, kind-Word, kind-Pointer}
 use Rattle.rb_read.specs.inner.Starting.{is_symbol}
-use Rattle.rb_read.specs.inner.Combining.{Reader, Reading, ◌>>=◌, pair, into, expect, optional, any_closed}
+use Rattle.rb_read.specs.inner.Combining.{Reader, ReadOutcome, ◌>>=◌, pair, into, expect, optional, any_closed}
 use Rattle.rb_read.proofs.Open.{Open, one, maybe, many, first, the, a_number, a_field, a_range, into_field, begins, if_so, ahead_of}
 use Rattle.rb_read.proofs.Open as open_at
 use Rattle.rb_read.specs.inner.Tokens.{number, field}
@@ -95,7 +95,7 @@ field_part-written n ns None l rest = kind-Whole (n ∷ ns) l rest
 field_part-written n ns (Some (sliced a b)) l rest = kind-Slice (n ∷ ns) a b l rest
 field_part-written n ns (Some (numbered j)) l rest = kind-Word (n ∷ ns) j l rest
 
-into-into : {A B X : Type 0} (f : B → X) (g : A → B) (r : Reading A) → ((r >>= λ x. Ok (g x.0, x.1)) >>= λ y. Ok (f y.0, y.1)) ≡ (r >>= λ x. Ok (f (g x.0), x.1))
+into-into : {A B X : Type 0} (f : B → X) (g : A → B) (r : ReadOutcome A) → ((r >>= λ x. Ok (g x.0, x.1)) >>= λ y. Ok (f y.0, y.1)) ≡ (r >>= λ x. Ok (f (g x.0), x.1))
 into-into f g (Ok x) = refl
 into-into f g (Err e) = refl
 

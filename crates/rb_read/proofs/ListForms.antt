@@ -7,7 +7,7 @@ use Rattle.rb_syntax.specs.declared.token.Token.TheVariants as tok
 use Rattle.rb_syntax.specs.Written.{Written, token, tokens_in, Writing, each, each_behind, some_with, any_with}
 use Rattle.rb_syntax.specs.Spelling.{comma, fields_written}
 use Rattle.rb_read.specs.inner.Starting.{is_symbol}
-use Rattle.rb_read.specs.inner.Combining.{stuck, deep, Reading, Reader, ◌>>=◌, into, passing, expect, at_front, begins_with, with_all, behind, some_of, some_closed, any_closed, in_parens, optional, many_of, each_of}
+use Rattle.rb_read.specs.inner.Combining.{stuck, deep, ReadOutcome, Reader, ◌>>=◌, into, passing, expect, at_front, begins_with, with_all, behind, some_of, some_closed, any_closed, in_parens, optional, many_of, each_of}
 use Rattle.rb_read.proofs.Open.{Kind, fields, Open, one, maybe, many, first, next, Step, ahead_of, if_so, or_else, begins, step, is_done, stopped, end_of_tokens, go_on, run}
 use Rattle.rb_read.proofs.Forms.{goes, Spells, Took, IsRight, Again, fits, exceeds, Clear, IsForm}
 use Rattle.rb_read.proofs.FormLaws.{ok-bind, ok-same, ok-if, goes-bind, goes-bind-ok, nat_lt-zero, IsStrict, into-again, clear-more, all-clear}
@@ -21,7 +21,7 @@ unfolding run step is_done end_of_tokens go_on
 run-nothing limit n [] l e = cc
 run-nothing limit n (t ∷ ts) l e = let h : n ≡ suc (length ts) = cc in absurd (omega arith)
 
-stopped-goes : {A : Type 0} (limit n : ℕ) (q : Reading A) → IfOk q (λ x. length x.1 < n) → stopped n ≡ goes limit [] q → q ≡ Err (stuck n)
+stopped-goes : {A : Type 0} (limit n : ℕ) (q : ReadOutcome A) → IfOk q (λ x. length x.1 < n) → stopped n ≡ goes limit [] q → q ≡ Err (stuck n)
 stopped-goes limit n (Ok x) l e = absurd (run-nothing limit n x.1 l e)
 stopped-goes limit n (Err (stuck m)) l e = let h : n ≡ m = cc in rw h refl
 stopped-goes limit n (Err (deep m)) l e = absurd cc
@@ -40,7 +40,7 @@ module _ {A : Type 0} {total limit : ℕ} {bars : Token → Bool} {a : Kind} {w 
       → (x : A) (ws rest : List Written) → Again total limit r x ws rest → Q (tokens_in ws)
   again-begun Q h x ws rest g = by_list (tokens_in ws) (read g) where
     -- nothing else than a place at which nothing goes on is read
-    IsFine : Reading A → Type 0
+    IsFine : ReadOutcome A → Type 0
     IsFine q = (n : ℕ) → q ≡ Err (stuck n) → ⊥
 
     read : Again total limit r x ws rest → (n : ℕ) → r (tokens_in ws) ≡ Err (stuck n) → ⊥
@@ -59,7 +59,7 @@ module _ {A : Type 0} {total limit : ℕ} {bars : Token → Bool} {a : Kind} {w 
   again-longer = again-begun (λ ts. 0 < length ts) (λ t ts b. omega arith)
 
 -- reading that goes on behind what is read again
-bind-again : {A B : Type 0} (total limit : ℕ) (r : Reader A) (q : Reader B) (f : A × List Token → Reading B) (x : A) (y : B) (ws vs rest : List Written)
+bind-again : {A B : Type 0} (total limit : ℕ) (r : Reader A) (q : Reader B) (f : A × List Token → ReadOutcome B) (x : A) (y : B) (ws vs rest : List Written)
     → q (tokens_in ws) ≡ (r (tokens_in ws) >>= f) → Again total limit r x ws vs
     → (r (tokens_in ws) ≡ Ok (x, tokens_in vs) → IsRight total vs → Again total limit (λ us. f (x, us)) y vs rest) → Again total limit q y ws rest
 bind-again total limit r q f x y ws vs rest s (exceeds m o e) h = exceeds m o (s ∙ ap (λ z. z >>= f) e)

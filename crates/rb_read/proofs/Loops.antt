@@ -7,7 +7,7 @@ use Rattle.rb_syntax.specs.declared.token.Symbol.{Symbol}
 use Rattle.rb_syntax.specs.Tokens.{tokens}
 use Rattle.rb_read.specs.declared.stop.Stop.{Stop}
 use Rattle.rb_read.specs.declared.stop.Stop.TheVariants as stop
-use Rattle.rb_read.specs.inner.Combining.{Fault, stuck, deep, Reading, Reader, ◌>>=◌, begins_with, expect, at_front, with_all, behind, some_of, beyond}
+use Rattle.rb_read.specs.inner.Combining.{Fault, stuck, deep, ReadOutcome, Reader, ◌>>=◌, begins_with, expect, at_front, with_all, behind, some_of, beyond}
 use Rattle.rb_read.specs.inner.Gives.{Fails}
 
 -- the tokens behind the first
@@ -15,11 +15,11 @@ pub tokens-rest : (ps : List Placed) → tokens (take (length ps - 1) (drop 1 ps
 tokens-rest [] = refl
 tokens-rest (p ∷ ps) = let e : length (p ∷ ps) - 1 ≡ length ps = omega arith in rw (e, take-length) refl
 
-pub with_all-more : {A : Type 0} (xs : List A) (x : A) (r : Reading (List A)) → with_all (xs ++ x ∷ []) r ≡ with_all xs (with_all (x ∷ []) r)
+pub with_all-more : {A : Type 0} (xs : List A) (x : A) (r : ReadOutcome (List A)) → with_all (xs ++ x ∷ []) r ≡ with_all xs (with_all (x ∷ []) r)
 with_all-more xs x (Ok y) = ap (λ us. Ok (us, y.1)) (append_assoc xs (x ∷ []) y.0)
 with_all-more xs x (Err e) = refl
 
-module _ {A : Type 0} (r : Reader A) (separator close : Symbol) (front : List A) (count i : ℕ) (ts : List Token) (all : Reading (List A))
+module _ {A : Type 0} (r : Reader A) (separator close : Symbol) (front : List A) (count i : ℕ) (ts : List Token) (all : ReadOutcome (List A))
     (below : i < count) (so_far : with_all front (some_of r separator close (count - i) ts) ≡ all) where
   one_more : count - i ≡ suc (count - (i + 1))
   one_more = omega arith
@@ -43,7 +43,7 @@ module _ {A : Type 0} (r : Reader A) (separator close : Symbol) (front : List A)
       with_all-more front x (some_of r separator close (count - (i + 1)) (drop 1 rest)) ∙ sym g ∙ so_far
 
   -- a part, and no separator
-  last : (x : A) (rest : List Token) (c : Reading (Unit {0})) → r ts ≡ Ok (x, rest) → begins_with separator rest ≡ false
+  last : (x : A) (rest : List Token) (c : ReadOutcome (Unit {0})) → r ts ≡ Ok (x, rest) → begins_with separator rest ≡ false
       → expect close rest ≡ c → all ≡ with_all front (c >>= λ y. Ok (x ∷ [], y.1))
   unfolding some_of behind
   last x rest c e b h = let g : with_all front (some_of r separator close (count - i) ts) ≡ with_all front (c >>= λ y. Ok (x ∷ [], y.1)) = rw (one_more, e, b, h) refl in sym so_far ∙ g
@@ -59,7 +59,7 @@ module _ {A : Type 0} (r : Reader A) (separator close : Symbol) (front : List A)
   is_done x rest us h b c = last x rest (Ok (tt, us)) h b c
 
 -- no turn is left
-pub no_turn : {A : Type 0} (r : Reader A) (separator close : Symbol) (front : List A) (count i : ℕ) (ts : List Token) (all : Reading (List A))
+pub no_turn : {A : Type 0} (r : Reader A) (separator close : Symbol) (front : List A) (count i : ℕ) (ts : List Token) (all : ReadOutcome (List A))
     → count - i ≡ 0 → with_all front (some_of r separator close (count - i) ts) ≡ all → all ≡ Err (stuck 0)
 unfolding some_of
 no_turn r separator close front count i ts all z h = sym h ∙ rw z refl

@@ -26,8 +26,8 @@ use Rattle.rb_syntax.specs.declared.tree.ArmTree.{ArmTree}
 use Rattle.rb_syntax.specs.declared.tree.ItemTree.{ItemTree}
 use Rattle.rb_syntax.specs.declared.tree.ItemTree.TheVariants as top
 use Rattle.rb_syntax.specs.declared.tree.FileTree.{FileTree}
-use Rattle.rb_syntax.specs.Written.{Written, token, number, node, flaw, tokens_in, AreNumbered, HaveNoFlaw, HasNode, Writing, checked, each, each_behind, some_with, any_with}
-use Rattle.rb_syntax.specs.Spelling.{is_width, Deep, at_level, comma, bar, ty_written, upper_written, lower_written, fields_written, pat_written, root_checked, below_written, prov_written, expr_written, clause_written, field_written, path_written, loc_step_written, loc_written, range_written, auto_word, kind_written, part_written, lay_item_written, split_written, arm_written, con_written, width_written, param_written, item_written, file_written, spell, IsTreeOf}
+use Rattle.rb_syntax.specs.Written.{Written, token, number, node, flaw, tokens_in, AreNumbered, HaveNoFlaw, HasNode, Writing, flaw_unless, each, each_behind, some_with, any_with}
+use Rattle.rb_syntax.specs.Spelling.{is_uint_width, Deep, at_level, comma, bar, ty_written, upper_written, lower_written, fields_written, pat_written, root_checked, below_written, prov_written, expr_written, clause_written, field_written, path_written, loc_step_written, loc_written, range_written, auto_word, kind_written, part_written, lay_item_written, split_written, arm_written, con_written, width_written, param_written, item_written, file_written, spell, IsTreeOf}
 use Rattle.rb_syntax.proofs.PatternInduction as patterns
 use Rattle.rb_syntax.proofs.ExpressionInduction as expressions
 use Rattle.rb_syntax.proofs.SpellingLemmas.{pat-Wild, pat-Var, pat-Num, pat-Con, clause-is, expr-Num, expr-Var, expr-Call, expr-Build, expr-Binary, expr-To, expr-Let, expr-Match, arm-is, split-Leaf, split-None, split-Some}
@@ -79,7 +79,7 @@ module _ (total : ℕ) where
   flawed : {us ws : List Written} → Numbered us ws → Numbered (flaw ∷ us) (flaw ∷ ws)
   flawed n = record { same = ap (λ z. flaw ∷ z) n.same; numbered = n.numbered }
 
-  checked-numbered : (b : Bool) {us ws : List Written} → Numbered us ws → Numbered (checked b us) (checked b ws)
+  checked-numbered : (b : Bool) {us ws : List Written} → Numbered us ws → Numbered (flaw_unless b us) (flaw_unless b ws)
   checked-numbered true n = n
   checked-numbered false n = flawed n
 
@@ -148,7 +148,7 @@ module _ (total : ℕ) where
   -- Types, constructors and parameters.
 
   ty-fresh : (t : TyTree) → Fresh ty_written t
-  ty-fresh (ty.Int bits) us ws n = (ty.Int bits, checked-numbered (is_width bits) (behind n))
+  ty-fresh (ty.Int bits) us ws n = (ty.Int bits, checked-numbered (is_uint_width bits) (behind n))
   ty-fresh (ty.Named name) us ws n = let r = upper name n in (ty.Named r.0, r.1)
 
   con-fresh : (c : ConTree) → Fresh con_written c
@@ -252,7 +252,7 @@ module _ (total : ℕ) where
     to = λ old bits a p l us ws n.
         let f = p (suc l) _ _ (behind {t = tok.Symbol symbol.CloseParen} n) in
         by_node (λ e. expr_written e l us) (λ at. X.To at bits f.0) l old (λ at. expr-To at bits f.0 l us) (expr-To old bits a l ws)
-        (behind (checked-numbered (is_width bits) (behind (behind f.1))));
+        (behind (checked-numbered (is_uint_width bits) (behind (behind f.1))));
     bound = λ old name t a b p q l us ws n.
         let g = q (suc l) us ws n in
         let f = p (suc l) _ _ (behind {t = tok.Reserved word.In} g.1) in

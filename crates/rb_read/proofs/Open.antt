@@ -6,7 +6,7 @@ use Rattle.rb_syntax.specs.declared.token.Symbol.{Symbol}
 use Rattle.rb_syntax.specs.declared.token.Symbol.TheVariants as symbol
 use Rattle.rb_syntax.specs.declared.token.Token.{Token}
 use Rattle.rb_syntax.specs.declared.token.Token.TheVariants as token
-use Rattle.rb_syntax.specs.Spelling.{is_width}
+use Rattle.rb_syntax.specs.Spelling.{is_uint_width}
 use Rattle.rb_read.specs.declared.starting.Form.{Form}
 use Rattle.rb_read.specs.declared.starting.Form.TheVariants as form
 use Rattle.rb_read.specs.inner.Starting.{is_symbol, is_word, form_of}
@@ -110,11 +110,11 @@ begins an_upper (token.Upper name) = Some (0, [])
 begins an_upper _ = None
 begins a_number (token.Num n) = Some (0, [])
 begins a_number _ = None
-begins a_width (token.Uint bits) = if_so (is_width bits) []
+begins a_width (token.Uint bits) = if_so (is_uint_width bits) []
 begins a_width _ = None
 begins a_field (token.Num n) = if_so (nat_lt n (2 ^ 32)) []
 begins a_field _ = None
-begins a_type (token.Uint bits) = if_so (is_width bits) []
+begins a_type (token.Uint bits) = if_so (is_uint_width bits) []
 begins a_type (token.Upper name) = Some (0, [])
 begins a_type _ = None
 begins a_con (token.Upper name) = Some (0, maybe (fields a_type) ∷ [])

@@ -8,8 +8,8 @@ use Rattle.rb_syntax.specs.declared.token.Symbol.{Symbol}
 use Rattle.rb_syntax.specs.declared.token.Symbol.TheVariants as symbol
 use Rattle.rb_syntax.specs.declared.token.Token.{Token}
 use Rattle.rb_syntax.specs.declared.token.Token.TheVariants as tok
-use Rattle.rb_syntax.specs.Written.{Written, token, number, Writing, checked}
-use Rattle.rb_syntax.specs.Spelling.{is_width, num, uint_written, lower_written, upper_written}
+use Rattle.rb_syntax.specs.Written.{Written, token, number, Writing, flaw_unless}
+use Rattle.rb_syntax.specs.Spelling.{is_uint_width, num, uint_written, lower_written, upper_written}
 use Rattle.rb_read.specs.inner.Starting.{symbol_number, word_number, is_symbol, is_word}
 use Rattle.rb_read.specs.inner.Combining.{into, nothing, passing, expect, expect_word}
 use Rattle.rb_read.proofs.Open.{Kind, the, the_word, a_lower, an_upper, a_number, a_width, a_field, if_so, begins}
@@ -155,12 +155,12 @@ number-part total limit = part-form refl on
       on (tok.Num n) = node-at (nothing-form total limit) 0 refl (nat_lt-zero limit) (λ at y. n) (λ ts. refl) (λ at. []) (λ at. tt) (λ at. tt) (λ at. refl) (λ at y rest. refl)
       on _ = none-at refl (λ ts. refl)
 
-pub checked-right : (total : ℕ) (b : Bool) (ws : List Written) → IsRight total (checked b ws) → b ≡ true
+pub checked-right : (total : ℕ) (b : Bool) (ws : List Written) → IsRight total (flaw_unless b ws) → b ≡ true
 checked-right total true ws h = refl
 checked-right total false ws h = absurd h.0
 
 abbrev pub field_number : ℕ → Writing
-field_number n rest = checked (nat_lt n (2 ^ 32)) (num n ∷ rest)
+field_number n rest = flaw_unless (nat_lt n (2 ^ 32)) (num n ∷ rest)
 
 pub field-part : (total limit : ℕ) → IsPart total limit (λ _. false) a_field field_number tokens.field
 unfolding begins tokens.field into nothing
@@ -176,10 +176,10 @@ field-part total limit = part-form refl on
 pub width-part : (total limit : ℕ) → IsPart total limit (λ _. false) a_width uint_written tokens.width
 unfolding begins tokens.width into nothing
 width-part total limit = part-form refl on
-    (λ x rest i c. let e : is_width x ≡ true = checked-right total _ _ i in
+    (λ x rest i c. let e : is_uint_width x ≡ true = checked-right total _ _ i in
     node-again (nothing-form total limit) (tok.Uint x) (λ at y. x) (λ ts. rw e refl) [] tt refl x tt rest _ (rw e refl) (λ at h. refl) i c) where
       on : (t : Token) → AtToken total limit a_width uint_written tokens.width t
-      on (tok.Uint bits) = if-at (is_width bits)
+      on (tok.Uint bits) = if-at (is_uint_width bits)
           (λ e. node-at (nothing-form total limit) 0 (rw e refl) (nat_lt-zero limit) (λ at y. bits) (λ ts. rw e refl) (λ at. []) (λ at. tt) (λ at. tt) (λ at. refl) (λ at y rest. rw e refl))
           (λ e. none-at (rw e refl) (λ ts. rw e refl))
       on _ = none-at refl (λ ts. refl)

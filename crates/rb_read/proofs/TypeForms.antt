@@ -6,9 +6,9 @@ use Rattle.rb_syntax.specs.declared.token.Token.TheVariants as tok
 use Rattle.rb_syntax.specs.declared.tree.TyTree.{TyTree}
 use Rattle.rb_syntax.specs.declared.tree.TyTree.TheVariants as ty
 use Rattle.rb_syntax.specs.Written.{Written, Writing, token, number, tokens_in}
-use Rattle.rb_syntax.specs.Spelling.{is_width, ty_written, fields_written, con_written, param_written}
+use Rattle.rb_syntax.specs.Spelling.{is_uint_width, ty_written, fields_written, con_written, param_written}
 use Rattle.rb_read.specs.inner.Starting.{is_symbol}
-use Rattle.rb_read.specs.inner.Combining.{Reading, Reader, ◌>>=◌, pair, into, nothing, expect, in_parens}
+use Rattle.rb_read.specs.inner.Combining.{ReadOutcome, Reader, ◌>>=◌, pair, into, nothing, expect, in_parens}
 use Rattle.rb_read.specs.inner.Tokens.{lower_name}
 use Rattle.rb_read.proofs.Open.{Open, one, maybe, the, an_upper, fields, a_type, a_con, a_param, begins, ahead_of}
 use Rattle.rb_read.specs.inner.Reading.{named, type_from, type_tree, con_tree, param_tree, parameter_of}
@@ -32,7 +32,7 @@ pub type-part : (total limit : ℕ) → IsPart total limit (λ _. false) a_type 
 unfolding begins type_tree type_from into nothing
 type-part total limit = part-form refl on again where
   on : (t : Token) → AtToken total limit a_type ty_written (type_tree total) t
-  on (tok.Uint bits) = if-at (is_width bits)
+  on (tok.Uint bits) = if-at (is_uint_width bits)
       (λ e. node-at (nothing-form total limit) 0 (rw e refl) (nat_lt-zero limit) (λ at y. ty.Int bits) (λ ts. rw e refl) (λ at. []) (λ at. tt) (λ at. tt) (λ at. refl) (λ at y rest. rw e refl))
       (λ e. none-at (rw e refl) (λ ts. rw e refl))
   on (tok.Upper name) = node-at (nothing-form total limit) 0 refl (nat_lt-zero limit) (λ at y. ty.Named (named at name)) (λ ts. refl) (λ at. number at ∷ [])
@@ -41,7 +41,7 @@ type-part total limit = part-form refl on again where
 
   again : (x : TyTree) (rest : List Written) → IsRight total (ty_written x rest) → Clear (λ _. false) (tokens_in rest)
       → Again total limit (type_tree total) x (ty_written x rest) rest
-  again (ty.Int bits) rest i c = let e : is_width bits ≡ true = checked-right total _ _ i in
+  again (ty.Int bits) rest i c = let e : is_uint_width bits ≡ true = checked-right total _ _ i in
       node-again (nothing-form total limit) (tok.Uint bits) (λ at y. ty.Int bits) (λ ts. rw e refl) [] tt refl (ty.Int bits) tt rest _ (rw e refl) (λ at h. refl) i c
   again (ty.Named x) rest i c =
       node-again (nothing-form total limit) (tok.Upper x.text) (λ at y. ty.Named (named at x.text)) (λ ts. refl) (number x.at ∷ []) tt refl (ty.Named x) tt rest _ refl
@@ -65,7 +65,7 @@ con-part total limit = record {
   begun _ = refl
 
 -- what is made of a name and of what stands behind it
-behind-name : {A B X : Type 0} (make : A × B → X) (a : A) (r : Reading B)
+behind-name : {A B X : Type 0} (make : A × B → X) (a : A) (r : ReadOutcome B)
     → ((r >>= λ y. Ok ((a, y.0), y.1)) >>= λ z. Ok (make z.0, z.1)) ≡ (r >>= λ y. Ok (make (a, y.0), y.1))
 behind-name make a (Ok y) = refl
 behind-name make a (Err e) = refl

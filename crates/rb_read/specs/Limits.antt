@@ -14,14 +14,14 @@ use Rattle.rb_read.specs.declared.fault.Quantity.TheVariants.{FileBytes, Types, 
 
 -- the most that is allowed of a quantity: of bytes, types and functions in a file, of constructors in a type, of
 -- fields in a constructor, of parameters in a function, of words in a layout's shape
-abbrev pub greatest : Quantity → ℕ
-greatest FileBytes = limits.most_file_bytes
-greatest Types = limits.most_types
-greatest Functions = limits.most_functions
-greatest Constructors = limits.most_constructors
-greatest Fields = limits.most_fields
-greatest Parameters = limits.most_parameters
-greatest ShapeWords = limits.most_words
+abbrev pub limit_of : Quantity → ℕ
+limit_of FileBytes = limits.most_file_bytes
+limit_of Types = limits.most_types
+limit_of Functions = limits.most_functions
+limit_of Constructors = limits.most_constructors
+limit_of Fields = limits.most_fields
+limit_of Parameters = limits.most_parameters
+limit_of ShapeWords = limits.most_words
 
 -- the count of a quantity of which there are `n`
 abbrev pub counted : Quantity → ℕ → Count
@@ -29,7 +29,7 @@ counted q n = record { quantity = q; count = n }
 
 -- whether a count is over the limit of its quantity; a count equal to the limit is not
 abbrev pub is_over : Count → Bool
-is_over c = nat_lt (greatest c.quantity) c.count
+is_over c = nat_lt (limit_of c.quantity) c.count
 
 -- the count of a constructor's fields
 abbrev pub field_count : ConTree → Count

@@ -25,7 +25,7 @@ pub struct Count {
 
 /// The greatest number of a quantity that is allowed.
 pub fn greatest(quantity: Quantity) -> u64
-    ensures { result ≡ limits.greatest quantity }
+    ensures { result ≡ limits.limit_of quantity }
 {
     match quantity {
         Quantity::FileBytes => MOST_FILE_BYTES as u64,

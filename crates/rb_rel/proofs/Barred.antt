@@ -21,7 +21,7 @@ use Rattle.rb_bits.specs.Words.{take_of}
 use Rattle.rb_layout.specs.Excluded.{Bars, differs, null, within}
 use Rattle.rb_rel.proofs.Lawful.{AllFlat}
 use Rattle.rb_layout.specs.Flat.{IsFlat}
-use Rattle.rb_rel.specs.Relation.{PartHolds, HoldsKind, Placed, Represents}
+use Rattle.rb_rel.specs.Relation.{PartHolds, HoldsKind, LeafStands, Represents}
 use Rattle.rb_bits.proofs.WordLemmas.{bit_at_take}
 use Rattle.rb_bits.proofs.RangeLemmas.{take_take}
 use Rattle.rb_rel.proofs.Represented.{opened}
@@ -39,7 +39,7 @@ module _ (types : List DataDecl) (layouts : List Layout) (m : Memory) (clean : B
   NoNull parts ats = (k : ℕ) (p : Part) (align b : ℕ) → slice_get parts k ≡ Some p → p.kind ≡ Pointer align b → 1 ≤ ats b
 
   module _ (good : IsGood m) where
-    pub no_null : (leaf : Leaf) (ws : List ℕ) (subs : List ℕ → List ℕ) (ats : ℕ → ℕ) → IsFlat leaf → Placed leaf ws m clean subs ats
+    pub no_null : (leaf : Leaf) (ws : List ℕ) (subs : List ℕ → List ℕ) (ats : ℕ → ℕ) → IsFlat leaf → LeafStands leaf ws m clean subs ats
         → (r : WordRef) (f : FlatWord) → flat_at leaf r ≡ Some f → NoNull f.parts ats
     no_null leaf ws subs ats flat placed r f is k p align b at kind =
         let e = (flat.below r p.l align b (record { word = f; number = k; part = p; is_word = is; is_part = at; is_length = refl; is_pointer = kind })).0 in

@@ -6,11 +6,11 @@ use Rattle.rb_core.specs.declared.types.DataDecl.{DataDecl}
 use Rattle.rb_bytes.specs.Memory.{Memory}
 use Rattle.rb_layout.specs.declared.layout.Leaf.{Leaf}
 use Rattle.rb_layout.specs.declared.layout.Layout.{Layout}
-use Rattle.rb_rel.specs.Relation.{Placed, Made, Represents, number, built}
+use Rattle.rb_rel.specs.Relation.{LeafStands, Made, Represents, number, built}
 use Rattle.rb_rel.proofs.Elsewhere.{made_elsewhere}
 
 module _ (types : List DataDecl) (layouts : List Layout) (m : Memory) where
-  Placed-clean : (leaf : Leaf) (ws : List ℕ) (subs : List ℕ → List ℕ) (ats : ℕ → ℕ) → Placed leaf ws m true subs ats → Placed leaf ws m false subs ats
+  Placed-clean : (leaf : Leaf) (ws : List ℕ) (subs : List ℕ → List ℕ) (ats : ℕ → ℕ) → LeafStands leaf ws m true subs ats → LeafStands leaf ws m false subs ats
   Placed-clean leaf ws subs ats p = record {
     count = p.count;
     blocks = p.blocks;

@@ -10,13 +10,13 @@ use Rattle.rb_layout.specs.declared.layout.FlatTree.TheOpen as T
 use Rattle.rb_layout.specs.declared.layout.FlatTree.TheFolds.{fold-FlatArm, fold-roll-FlatArm}
 use Rattle.rb_layout.specs.declared.layout.FlatArm.{FlatArm}
 use Rattle.rb_layout.proofs.FlatForms as F
-use Rattle.rb_rel.specs.Switches.{Head, heads_step, heads_of, nesting_step, nesting_arm, nesting}
+use Rattle.rb_rel.specs.Switches.{HeadAt, heads_step, heads_of, nesting_step, nesting_arm, nesting}
 
 pub heads-Wild : (at : ℕ) → heads_of (Wild at) ≡ heads_step (P.Wild at)
-heads-Wild at = Q.fold-Wild (List Head) heads_step at
+heads-Wild at = Q.fold-Wild (List HeadAt) heads_step at
 
 pub heads-Con : (at : ℕ) (c : ConRef) (ps : List Pat) → heads_of (Con at c ps) ≡ heads_step (P.Con at c (map heads_of ps))
-heads-Con at c ps = Q.fold-Con (List Head) heads_step at c ps
+heads-Con at c ps = Q.fold-Con (List HeadAt) heads_step at c ps
 
 abbrev under : FlatArm → ℕ
 under = fold-FlatArm ℕ ℕ nesting_step nesting_arm

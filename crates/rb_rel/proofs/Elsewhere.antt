@@ -4,11 +4,11 @@ use Rattle.rb_core.specs.declared.value.Value.{Value}
 use Rattle.rb_core.specs.declared.types.DataDecl.{DataDecl}
 use Rattle.rb_bytes.specs.Memory.{Memory}
 use Rattle.rb_layout.specs.declared.layout.Layout.{Layout}
-use Rattle.rb_rel.specs.Relation.{Made, Placed}
+use Rattle.rb_rel.specs.Relation.{Made, LeafStands}
 
 module _ (types : List DataDecl) (layouts : List Layout) (m m' : Memory) (clean clean' : Bool) where
   abbrev pub made_elsewhere : (t : ℕ) (v : Value) (ws : List ℕ) (b : Made types layouts m clean t v ws)
-      → Placed b.leaf ws m' clean' b.subs b.ats → Made types layouts m' clean' t v ws
+      → LeafStands b.leaf ws m' clean' b.subs b.ats → Made types layouts m' clean' t v ws
   made_elsewhere t v ws b placed = record {
     layout = b.layout;
     number = b.number;

@@ -39,7 +39,7 @@ use Rattle.rb_layout.specs.Flattening.{decl_of, flat_layout, flat_or_none, flat_
 use Rattle.rb_rel.proofs.Agreeing.{lawful}
 use Rattle.rb_rel.proofs.Layers.{sound, stored, root_words, layer_shown}
 use Rattle.rb_layout.specs.Positions.{Open, root_type, below, opens_below, opens_of, opens_step, open_positions, types_or_none, leaf_from, leaf_of, layout_of}
-use Rattle.rb_rel.specs.Placing.{Fits, Over, Request, request_of, requests_of, requests_at, blocks_of, blocks_in, leaf_in, leaf_numbered, behind, lay}
+use Rattle.rb_rel.specs.Placing.{Fits, Over, Request, request_of, requests_of, requests_at, blocks_of, leaf_requests, leaf_in, leaf_numbered, block_before, lay}
 use Rattle.rb_rel.specs.Relation.{Represent, Represents, number}
 use Rattle.rb_rel.specs.Answers.{Making, making_of, all_makings, in_turn}
 use Rattle.rb_rel.proofs.Makings.{making-Num, making-Con}
@@ -59,7 +59,7 @@ laid_parts limit next (r ∷ rs) qs bs p e =
     let a = aligned next r.align in
     let h = laid_parts limit (a + r.size) rs qs l.1 p l.2 in
     let yes : lay limit next (r ∷ rs) ≡ Fits ((a, r.size) ∷ h.0) h.1 = elim (leb_tells (a + r.size) limit) [
-      | inl t ↦ ap (λ x. if x then behind (a, r.size) (lay limit (a + r.size) rs) else Over (record { next = next; size = r.size; align = r.align; limit = limit })) t.0 ∙ ap (behind (a, r.size)) h.3
+      | inl t ↦ ap (λ x. if x then block_before (a, r.size) (lay limit (a + r.size) rs) else Over (record { next = next; size = r.size; align = r.align; limit = limit })) t.0 ∙ ap (block_before (a, r.size)) h.3
       | inr f ↦ absurd (let le = l.0 in omega (arith, f.1, le))
     ] in
     ((a, r.size) ∷ h.0, h.1, h.2, yes, h.4, l.3 ∙ ap (λ x. (a, r.size) ∷ x) h.5)
@@ -391,7 +391,7 @@ module _ (p : Program) (typed : IsTyped p) (agrees : Agrees p) where
       let z : 0 + n ≡ n = omega arith in
       let is_leaf : leaf_of layout v ≡ Some n = f.2 ∙ ap Some z in
       let blocks : blocks_of layouts t v ≡ map request_of leaf.blocks =
-      ap (λ o. blocks_in (leaf_in o v)) l.1 ∙ ap (λ o. blocks_in (leaf_numbered layout.leaves o)) is_leaf ∙ ap blocks_in f.3 in
+      ap (λ o. leaf_requests (leaf_in o v)) l.1 ∙ ap (λ o. leaf_requests (leaf_numbered layout.leaves o)) is_leaf ∙ ap leaf_requests f.3 in
       let log = con_log t k vs ts is_fields in
       let split = flat_map-append (requests_at layouts) (in_turn (makings vs) ts) (Built t v ∷ []) in
       let all : requests_of layouts (making_of types v (Named t)) ≡ requests_of layouts (in_turn (makings vs) ts) ++ map request_of leaf.blocks =

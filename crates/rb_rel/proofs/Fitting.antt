@@ -20,8 +20,8 @@ use Rattle.rb_layout.specs.declared.layout.Kind.TheVariants.{Const, Bits, Word, 
 use Rattle.rb_layout.specs.Positions.{Open}
 use Rattle.rb_layout.specs.Items.{Content, Number, Whole, Slice, WordOf, Address, WrittenPart, Item, AWord, AField, Around, items_inside, item_list}
 use Rattle.rb_layout.specs.Items as J
-use Rattle.rb_layout.specs.A3.{Fits, FitsWhole, FitsSlice, FitsWord, IsPlaced, PartsFit, ItemFits}
-use Rattle.rb_layout.specs.Flattening.{type_at, IsOpenIn, Laid, Laying, without_blocks, in_turn, whole_kind, kind_if_open, kind_step, part_step, word_of, words_of, inlined, shape_of, item_step, item_laid, kind_laid, part_laid, parts_of, items_laid}
+use Rattle.rb_layout.specs.A3.{Fits, FitsWhole, FitsSlice, FitsWord, IsContentPlaced, PartsFit, ItemFits}
+use Rattle.rb_layout.specs.Flattening.{type_at, IsOpenIn, WithBlocks, Laying, without_blocks, in_turn, whole_kind, kind_if_open, kind_step, part_step, full_word, inline_words, inlined, shape_of, item_step, item_laid, kind_laid, part_laid, parts_of, items_laid}
 use Rattle.rb_layout.specs.Flattening as P
 use Rattle.rb_layout.proofs.FlatForms.{Each}
 use Rattle.rb_layout.proofs.WrittenForms as D
@@ -47,21 +47,21 @@ module _ (decls : List LayoutDecl) (opens : List Open) where
   abbrev pub BlocksFit : List Block → Type 0
   BlocksFit bs = (b : ℕ) (block : Block) → slice_get bs b ≡ Some block → AllFit block.words
 
-  abbrev LaidFits : Laid (List FlatWord) → Type 0
+  abbrev LaidFits : WithBlocks (List FlatWord) → Type 0
   LaidFits laid = AllFit laid.it × BlocksFit laid.blocks
 
   abbrev pub Demands : List Item → Type 0
   Demands items = (i : ℕ) (item : Item) → slice_get items i ≡ Some item → ItemFits decls opens item
 
   abbrev around : PartKind → Around Content
-  around = fold-PartKind (List Item) (Around Content) (Around WrittenPart) J.item_step J.kind_step J.part_step
+  around = fold-PartKind (List Item) (Around Content) (Around WrittenPart) J.items_step J.content_step J.written_part_step
 
   abbrev around_part : PartDecl → Around WrittenPart
-  around_part = fold-PartDecl (List Item) (Around Content) (Around WrittenPart) J.item_step J.kind_step J.part_step
+  around_part = fold-PartDecl (List Item) (Around Content) (Around WrittenPart) J.items_step J.content_step J.written_part_step
 
-  around_is : (p : PartDecl) → around_part p ≡ J.part_step (record { o = p.o; l = p.l; kind = around p.kind })
+  around_is : (p : PartDecl) → around_part p ≡ J.written_part_step (record { o = p.o; l = p.l; kind = around p.kind })
   unfolding denote.Hole.Carrier.roll
-  around_is p = fold-roll-PartDecl (List Item) (Around Content) (Around WrittenPart) J.item_step J.kind_step J.part_step (record { o = p.o; l = p.l; kind = p.kind })
+  around_is p = fold-roll-PartDecl (List Item) (Around Content) (Around WrittenPart) J.items_step J.content_step J.written_part_step (record { o = p.o; l = p.l; kind = p.kind })
 
   abbrev the_kinds : PartKind → Laying (Option Kind)
   the_kinds = kind_laid decls opens
@@ -77,7 +77,7 @@ module _ (decls : List LayoutDecl) (opens : List Open) where
   WellItem item = Demands (item_list item) → (n : ℕ) → LaidFits (item_laid decls opens item n)
 
   record WellKind (kind : PartKind) : Type 0 where
-    placed : (n : ℕ) (x : Kind) → (the_kinds kind n).it ≡ Some x → IsPlaced opens (around kind).it
+    placed : (n : ℕ) (x : Kind) → (the_kinds kind n).it ≡ Some x → IsContentPlaced opens (around kind).it
     fits : (l : ℕ) → Fits decls opens l (around kind).it → (n : ℕ) (x : Kind) → (the_kinds kind n).it ≡ Some x → KindFits l x
     blocks : Demands (around kind).inside → (n : ℕ) → BlocksFit (the_kinds kind n).blocks
 
@@ -126,15 +126,15 @@ module _ (decls : List LayoutDecl) (opens : List Open) where
   writtens parts = map (λ (p : Around WrittenPart). p.it) (map around_part parts)
 
   record PartsAre (ws : List WrittenPart) (ps : List Part) : Type 0 where
-    from : (k : ℕ) (x : Part) → slice_get ps k ≡ Some x → (i : ℕ) × (w : WrittenPart) × (slice_get ws i ≡ Some w) × (x.o ≡ w.o) × (x.l ≡ w.l) × IsPlaced opens w.content
+    from : (k : ℕ) (x : Part) → slice_get ps k ≡ Some x → (i : ℕ) × (w : WrittenPart) × (slice_get ws i ≡ Some w) × (x.o ≡ w.o) × (x.l ≡ w.l) × IsContentPlaced opens w.content
     apart : (j k : ℕ) (p q : Part) → j < k → slice_get ps j ≡ Some p → slice_get ps k ≡ Some q → AreDisjoint p.o p.l q.o q.l
     kinds : (k : ℕ) (p : Part) → slice_get ps k ≡ Some p → KindFits p.l p.kind
 
   abbrev IsFrom : WrittenPart → Part → Type 0
-  IsFrom w x = (x.o ≡ w.o) × (x.l ≡ w.l) × IsPlaced opens w.content × KindFits x.l x.kind
+  IsFrom w x = (x.o ≡ w.o) × (x.l ≡ w.l) × IsContentPlaced opens w.content × KindFits x.l x.kind
 
   two_parts : (first rest : List Part) (w : WrittenPart) (ws : List WrittenPart) → ((k : ℕ) (x : Part) → slice_get first k ≡ Some x → IsFrom w x) → length first ≤ 1
-      → PartsAre ws rest → ((k : ℕ) (q : WrittenPart) → slice_get ws k ≡ Some q → IsPlaced opens w.content → IsPlaced opens q.content → AreDisjoint w.o w.l q.o q.l) → PartsAre (w ∷ ws) (first ++ rest)
+      → PartsAre ws rest → ((k : ℕ) (q : WrittenPart) → slice_get ws k ≡ Some q → IsContentPlaced opens w.content → IsContentPlaced opens q.content → AreDisjoint w.o w.l q.o q.l) → PartsAre (w ∷ ws) (first ++ rest)
   two_parts first rest w ws own one are disjoint = record {
     from = λ k x e. elim (get-append-at first rest k x e) [
       | inl h ↦ let o = own k x h in (0, w, refl, o.0, o.1, o.2)
@@ -185,11 +185,11 @@ module _ (decls : List LayoutDecl) (opens : List Open) where
       let wl : w.l ≡ p.l = ap (λ (x : Around WrittenPart). x.it.l) (around_is p) in
       let wc : w.content ≡ (around p.kind).it = ap (λ (x : Around WrittenPart). x.it.content) (around_is p) in
       let fit : Fits decls opens p.l (around p.kind).it = subst (λ c. Fits decls opens p.l c) wc (subst (λ l. Fits decls opens l w.content) wl (f.fit 0 w refl)) in
-      let e : lay.it ≡ parts_of p.o p.l (the_kinds p.kind n).it = ap (λ (y : Laid (List Part)). y.it) is in
+      let e : lay.it ≡ parts_of p.o p.l (the_kinds p.kind n).it = ap (λ (y : WithBlocks (List Part)). y.it) is in
       two_parts lay.it (in_turn (map the_parts parts) (n + length lay.blocks)).it w (writtens parts)
       (λ k x h.
-      let own : (y : Kind) → (the_kinds p.kind n).it ≡ Some y → IsPlaced opens w.content × KindFits p.l y = λ y z. (subst (IsPlaced opens) (sym wc) (each.0.placed n y z), each.0.fits p.l fit n y z) in
-      let g = parts_own p.o p.l (the_kinds p.kind n).it (IsPlaced opens w.content) own k x (ap (λ (ys : List Part). slice_get ys k) (sym e) ∙ h) in
+      let own : (y : Kind) → (the_kinds p.kind n).it ≡ Some y → IsContentPlaced opens w.content × KindFits p.l y = λ y z. (subst (IsContentPlaced opens) (sym wc) (each.0.placed n y z), each.0.fits p.l fit n y z) in
+      let g = parts_own p.o p.l (the_kinds p.kind n).it (IsContentPlaced opens w.content) own k x (ap (λ (ys : List Part). slice_get ys k) (sym e) ∙ h) in
       (g.0 ∙ sym wo, g.1 ∙ sym wl, g.2, g.3))
       (let o = one_part p.o p.l (the_kinds p.kind n).it in let q : length lay.it ≡ length (parts_of p.o p.l (the_kinds p.kind n).it) = ap length e in omega (arith, o, q))
       (parts_are parts each.1 width (n + length lay.blocks) (rest_fit width w (writtens parts) f))
@@ -203,7 +203,7 @@ module _ (decls : List LayoutDecl) (opens : List Open) where
       let inside = items_inside (map around_part parts) in
       let here : Demands (around p.kind).inside = subst Demands (ap (λ (x : Around WrittenPart). x.inside) (around_is p)) (first_demands (around_part p).inside inside d) in
       more_blocks lay.blocks (in_turn (map the_parts parts) (n + length lay.blocks)).blocks
-      (subst BlocksFit (sym (ap (λ (y : Laid (List Part)). y.blocks) is)) (each.0.blocks here n))
+      (subst BlocksFit (sym (ap (λ (y : WithBlocks (List Part)). y.blocks) is)) (each.0.blocks here n))
       (parts_blocks parts each.1 (rest_demands (around_part p).inside inside d) (n + length lay.blocks))
 
   word_fits : (width : ℕ) (ws : List WrittenPart) (ps : List Part) → PartsFit decls opens width ws → PartsAre ws ps → WordFits (record { width = width; parts = ps })
@@ -221,36 +221,36 @@ module _ (decls : List LayoutDecl) (opens : List Open) where
   only_word f w (suc j) g e = absurd cc
 
   -- in line
-  one_fits : (width : ℕ) (kind : Kind) → 1 ≤ width → KindFits width kind → WordFits (word_of width kind)
+  one_fits : (width : ℕ) (kind : Kind) → 1 ≤ width → KindFits width kind → WordFits (full_word width kind)
   one_fits width kind some fit = record {
-    tidy = record { apart = λ j k p q lt a b. absurd (let s = slice_get_within (word_of width kind).parts k q b in omega (arith, lt, s)); inside = inside };
+    tidy = record { apart = λ j k p q lt a b. absurd (let s = slice_get_within (full_word width kind).parts k q b in omega (arith, lt, s)); inside = inside };
     some = bits;
     kinds = kinds;
   }
     where
-      bits : (k : ℕ) (p : Part) → slice_get (word_of width kind).parts k ≡ Some p → 1 ≤ p.l
+      bits : (k : ℕ) (p : Part) → slice_get (full_word width kind).parts k ≡ Some p → 1 ≤ p.l
       bits zero p e = subst (λ (y : Part). 1 ≤ y.l) (same_Some _ p e) some
       bits (suc k) p e = absurd cc
 
-      inside : (k : ℕ) (p : Part) → slice_get (word_of width kind).parts k ≡ Some p → p.o + p.l ≤ width
+      inside : (k : ℕ) (p : Part) → slice_get (full_word width kind).parts k ≡ Some p → p.o + p.l ≤ width
       inside zero p e = subst (λ (y : Part). y.o + y.l ≤ width) (same_Some _ p e) (omega arith)
       inside (suc k) p e = absurd cc
 
-      kinds : (k : ℕ) (p : Part) → slice_get (word_of width kind).parts k ≡ Some p → KindFits p.l p.kind
+      kinds : (k : ℕ) (p : Part) → slice_get (full_word width kind).parts k ≡ Some p → KindFits p.l p.kind
       kinds zero p e = subst (λ (y : Part). KindFits y.l y.kind) (same_Some _ p e) fit
       kinds (suc k) p e = absurd cc
 
   module _ (ints : (path : List ℕ) (bits : ℕ) → type_at opens path ≡ Some (Int bits) → 1 ≤ bits) (shapes : (s j w : ℕ) → slice_get (shape_of decls s) j ≡ Some w → 1 ≤ w) where
-    words_fit : (path : List ℕ) (s : ℕ) → type_at opens path ≡ Some (Named s) → (j : ℕ) (widths : List ℕ) → ((i w : ℕ) → slice_get widths i ≡ Some w → slice_get (shape_of decls s) (j + i) ≡ Some w) → AllFit (words_of path j widths)
+    words_fit : (path : List ℕ) (s : ℕ) → type_at opens path ≡ Some (Named s) → (j : ℕ) (widths : List ℕ) → ((i w : ℕ) → slice_get widths i ≡ Some w → slice_get (shape_of decls s) (j + i) ≡ Some w) → AllFit (inline_words path j widths)
     words_fit path s is j [] h = no_words
     words_fit path s is j (w ∷ widths) h =
-        more_words (word_of w (Word path j) ∷ []) (words_of path (j + 1) widths)
-        (only_word (word_of w (Word path j)) (let z : j ≡ j + 0 = omega arith in let at = ap (slice_get (shape_of decls s)) z ∙ h 0 w refl in one_fits w (Word path j) (shapes s j w at) (s, is, at)))
+        more_words (full_word w (Word path j) ∷ []) (inline_words path (j + 1) widths)
+        (only_word (full_word w (Word path j)) (let z : j ≡ j + 0 = omega arith in let at = ap (slice_get (shape_of decls s)) z ∙ h 0 w refl in one_fits w (Word path j) (shapes s j w at) (s, is, at)))
         (words_fit path s is (j + 1) widths (λ i x e. let z : j + 1 + i ≡ j + suc i = omega arith in ap (slice_get (shape_of decls s)) z ∙ h (suc i) x e))
 
     inlined_fit : (path : List ℕ) (o : Option Ty) → type_at opens path ≡ o → AllFit (inlined decls o path)
     inlined_fit path None is = no_words
-    inlined_fit path (Some (Int bits)) is = only_word (word_of bits (Bits path 0)) (one_fits bits (Bits path 0) (ints path bits is) (bits, is, omega arith))
+    inlined_fit path (Some (Int bits)) is = only_word (full_word bits (Bits path 0)) (one_fits bits (Bits path 0) (ints path bits is) (bits, is, omega arith))
     inlined_fit path (Some (Named s)) is = words_fit path s is 0 (shape_of decls s) (λ i w e. let z : 0 + i ≡ i = omega arith in ap (slice_get (shape_of decls s)) z ∙ e)
 
     -- Kinds -------------------------------------------------------------------------------------
@@ -279,10 +279,10 @@ module _ (decls : List LayoutDecl) (opens : List Open) where
 
     -- a kind, by what it lays and what is written
     well_kind : (kind : PartKind) (lay : Laying (Option Kind)) (a : Around Content) → the_kinds kind ≡ lay → around kind ≡ a
-        → ((n : ℕ) (x : Kind) → (lay n).it ≡ Some x → IsPlaced opens a.it)
+        → ((n : ℕ) (x : Kind) → (lay n).it ≡ Some x → IsContentPlaced opens a.it)
         → ((l : ℕ) → Fits decls opens l a.it → (n : ℕ) (x : Kind) → (lay n).it ≡ Some x → KindFits l x) → (Demands a.inside → (n : ℕ) → BlocksFit (lay n).blocks) → WellKind kind
     well_kind kind lay a e1 e2 placed fits blocks = record {
-      placed = λ n x e. subst (λ (y : Around Content). IsPlaced opens y.it) (sym e2) (placed n x (ap (λ (y : Laying (Option Kind)). (y n).it) (sym e1) ∙ e));
+      placed = λ n x e. subst (λ (y : Around Content). IsContentPlaced opens y.it) (sym e2) (placed n x (ap (λ (y : Laying (Option Kind)). (y n).it) (sym e1) ∙ e));
       fits = λ l f n x e. fits l (subst (λ (y : Around Content). Fits decls opens l y.it) e2 f) n x (ap (λ (y : Laying (Option Kind)). (y n).it) (sym e1) ∙ e);
       blocks = λ d n. subst (λ (y : Laying (Option Kind)). BlocksFit (y n).blocks) (sym e1) (blocks (subst (λ (y : Around Content). Demands y.inside) e2 d) n);
     }
@@ -299,7 +299,7 @@ module _ (decls : List LayoutDecl) (opens : List Open) where
     item_well : (item : LayItem) → WellItem item
     item_well = D.item-induction WellItem WellKind (record {
       word = λ bits parts each d n.
-          let e = D.fold-Word (List Item) (Around Content) (Around WrittenPart) J.item_step J.kind_step J.part_step bits parts in
+          let e = D.fold-Word (List Item) (Around Content) (Around WrittenPart) J.items_step J.content_step J.written_part_step bits parts in
           let lay = in_turn (map the_parts parts) n in
           let demands : Demands (AWord bits (writtens parts) ∷ items_inside (map around_part parts)) = subst Demands e d in
           let fit : PartsFit decls opens bits (writtens parts) = demands 0 (AWord bits (writtens parts)) refl in
@@ -310,21 +310,21 @@ module _ (decls : List LayoutDecl) (opens : List Open) where
       inline = λ path d n.
           subst (λ (y : F). LaidFits (y n)) (sym (D.fold-Inline F G H (item_step decls opens) (kind_step opens) part_step path)) (inlined_fit path (type_at opens path) refl, no_blocks);
       const = λ c. well_kind (K.Const c) (λ n. without_blocks (Some (Const c))) (J.plain (Number c)) (D.fold-Const F G H (item_step decls opens) (kind_step opens) part_step c)
-          (D.fold-Const (List Item) (Around Content) (Around WrittenPart) J.item_step J.kind_step J.part_step c)
+          (D.fold-Const (List Item) (Around Content) (Around WrittenPart) J.items_step J.content_step J.written_part_step c)
           (λ n x e. tt) (λ l f n x e. subst (KindFits l) (same_Some (Const c) x e) f) (λ d n. no_blocks);
       whole = λ path. well_kind (K.Whole path) (λ n. without_blocks (whole_kind (type_at opens path) path)) (J.plain (Whole path)) (D.fold-Whole F G H (item_step decls opens) (kind_step opens) part_step path)
-          (D.fold-Whole (List Item) (Around Content) (Around WrittenPart) J.item_step J.kind_step J.part_step path)
+          (D.fold-Whole (List Item) (Around Content) (Around WrittenPart) J.items_step J.content_step J.written_part_step path)
           (λ n x e. whole_placed path (type_at opens path) refl x e) (λ l f n x e. whole_fits l path (type_at opens path) refl f x e) (λ d n. no_blocks);
       slice = λ path a b. well_kind (K.Slice path a b) (λ n. without_blocks (kind_if_open (type_at opens path) (Bits path a))) (J.plain (Slice path a b)) (D.fold-Slice F G H (item_step decls opens) (kind_step opens) part_step path a b)
-          (D.fold-Slice (List Item) (Around Content) (Around WrittenPart) J.item_step J.kind_step J.part_step path a b)
+          (D.fold-Slice (List Item) (Around Content) (Around WrittenPart) J.items_step J.content_step J.written_part_step path a b)
           (λ n x e. if_open_placed path (Bits path a) (type_at opens path) refl x e) (λ l f n x e. slice_fits l a b path (type_at opens path) refl f x e) (λ d n. no_blocks);
       word_of = λ path j. well_kind (K.Word path j) (λ n. without_blocks (kind_if_open (type_at opens path) (Word path j))) (J.plain (WordOf path j)) (D.fold-WordOf F G H (item_step decls opens) (kind_step opens) part_step path j)
-          (D.fold-WordOf (List Item) (Around Content) (Around WrittenPart) J.item_step J.kind_step J.part_step path j)
+          (D.fold-WordOf (List Item) (Around Content) (Around WrittenPart) J.items_step J.content_step J.written_part_step path j)
           (λ n x e. if_open_placed path (Word path j) (type_at opens path) refl x e) (λ l f n x e. word_of_fits l j path (type_at opens path) refl f x e) (λ d n. no_blocks);
       pointer = λ align items each.
           let lay : Laying (List FlatWord) = in_turn (map (item_laid decls opens) items) in
           well_kind (K.Pointer align items) (λ n. P.pointed align n (lay n)) (record { it = Address align; inside = flat_map (λ xs. xs) (map item_list items) }) (D.fold-Pointer F G H (item_step decls opens) (kind_step opens) part_step align items)
-          (D.fold-Pointer (List Item) (Around Content) (Around WrittenPart) J.item_step J.kind_step J.part_step align items)
+          (D.fold-Pointer (List Item) (Around Content) (Around WrittenPart) J.items_step J.content_step J.written_part_step align items)
           (λ n x e. tt)
           (λ l f n x e. subst (KindFits l) (same_Some (Pointer align (n + length (lay n).blocks)) x e) tt)
           (λ d n.

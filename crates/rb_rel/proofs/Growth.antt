@@ -10,7 +10,7 @@ use Rattle.rb_layout.specs.declared.layout.Leaf.{Leaf}
 use Rattle.rb_layout.specs.declared.layout.FlatWord.{FlatWord}
 use Rattle.rb_layout.specs.declared.layout.Layout.{Layout}
 use Rattle.rb_layout.specs.Words.{begins_at}
-use Rattle.rb_rel.specs.Relation.{IsFound, Placed, Made, Represents, number, built, Represent}
+use Rattle.rb_rel.specs.Relation.{IsFound, LeafStands, Made, Represents, number, built, Represent}
 use Rattle.rb_rel.proofs.Elsewhere.{made_elsewhere}
 
 module _ (m m' : Memory) (g : Extends m m') where
@@ -18,7 +18,7 @@ module _ (m m' : Memory) (g : Extends m m') where
   found_kept None fs f j ws ats w e = e
   found_kept (Some b) fs f j ws ats w e = load_extends m m' (ats b) (begins_at fs j) f.width w g e
 
-  pub Placed-kept : (leaf : Leaf) (ws : List ℕ) (clean : Bool) (subs : List ℕ → List ℕ) (ats : ℕ → ℕ) → Placed leaf ws m clean subs ats → Placed leaf ws m' clean subs ats
+  pub Placed-kept : (leaf : Leaf) (ws : List ℕ) (clean : Bool) (subs : List ℕ → List ℕ) (ats : ℕ → ℕ) → LeafStands leaf ws m clean subs ats → LeafStands leaf ws m' clean subs ats
   Placed-kept leaf ws clean subs ats p = record {
     count = p.count;
     blocks = λ b block is. size_at_extends m m' _ _ g (p.blocks b block is);

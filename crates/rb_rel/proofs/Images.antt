@@ -14,7 +14,7 @@ use Rattle.rb_layout.specs.declared.layout.Kind.{Kind}
 use Rattle.rb_layout.specs.declared.layout.Kind.TheVariants.{Const, Bits, Word, Pointer}
 use Rattle.rb_layout.specs.declared.layout.WordRef.{WordRef}
 use Rattle.rb_layout.specs.Words.{words_in, words_of_block, flat_at, begins_at, size_of}
-use Rattle.rb_rel.specs.Relation.{IsFound, WordHolds, Placed}
+use Rattle.rb_rel.specs.Relation.{IsFound, WordHolds, LeafStands}
 use Rattle.rb_rel.proofs.Lists.{both}
 use Rattle.rb_rel.proofs.Packing.{number_of, packed, packed_holds}
 use Rattle.rb_rel.proofs.Reading.{leb_is}
@@ -191,7 +191,7 @@ module _ (subs : List ℕ → List ℕ) (ats : ℕ → ℕ) where
         let a = both (some_ok (size_at m.blocks (ats b)) (size_of y) && block_ok y.words b y.words 0) (blocks_ok xs (b + 1)) e in
         let z : b + 1 + k ≡ b + suc k = omega arith in subst (λ i. BlockIs i x) z (blocks_is xs (b + 1) k x a.1 is)
 
-    pub image_is : (leaf : Leaf) → image_ok leaf ≡ true → Placed leaf ws m true subs ats
+    pub image_is : (leaf : Leaf) → image_ok leaf ≡ true → LeafStands leaf ws m true subs ats
     image_is leaf e = record {
       count = nat_is (length ws) (length leaf.root) b.0;
       blocks = λ k x is. let z : 0 + k ≡ k = omega arith in ap (λ i. size_at m.blocks (ats i)) (sym z) ∙ (blocks_is leaf.blocks 0 k x c.1 is).0;

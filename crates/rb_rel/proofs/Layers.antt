@@ -31,9 +31,9 @@ use Rattle.rb_layout.specs.Flattening.{type_at, same_path, shape_of, shape_in, f
 use Rattle.rb_layout.specs.Items.{item_lists, items_in, leaves_in, items_of}
 use Rattle.rb_layout.specs.Pointers.{PointsTo}
 use Rattle.rb_layout.specs.Positions.{Open, open_positions, root_type, leaf_of, layout_of}
-use Rattle.rb_layout.specs.Words.{words_in, words_of_block, flat_at, begins_at, bytes_in}
+use Rattle.rb_layout.specs.Words.{words_in, words_of_block, flat_at, begins_at, bytes_taken}
 use Rattle.rb_rel.specs.Placing.{Fits, Request, request_of, lay}
-use Rattle.rb_rel.specs.Relation.{IsFound, WordHolds, Placed, Represents, built}
+use Rattle.rb_rel.specs.Relation.{IsFound, WordHolds, LeafStands, Represents, built}
 use Rattle.rb_layout.specs.Flat.{IsFlat}
 use Rattle.rb_rel.proofs.Agreeing.{from_written, lawful}
 use Rattle.rb_rel.proofs.Declared.{declared}
@@ -125,7 +125,7 @@ module _ (p : Program) (agrees : Agrees p) where
   width_some w (inr (inr (inl e))) = omega (arith, e)
   width_some w (inr (inr (inr e))) = omega (arith, e)
 
-  size_some : (fs : List FlatWord) → 1 ≤ length fs → ((j : ℕ) (f : FlatWord) → slice_get fs j ≡ Some f → IsBlockWidth f.width) → 0 < bytes_in fs
+  size_some : (fs : List FlatWord) → 1 ≤ length fs → ((j : ℕ) (f : FlatWord) → slice_get fs j ≡ Some f → IsBlockWidth f.width) → 0 < bytes_taken fs
   size_some [] le wide = absurd (omega (arith, le))
   size_some (f ∷ fs) le wide = let w = width_some f.width (wide 0 f refl) in omega (arith, w)
 
@@ -248,7 +248,7 @@ module _ (p : Program) (agrees : Agrees p) where
     found_at None j f e = get-mapped numbered leaf.root j f e
     found_at (Some b) j f e = found_in b (slice_get leaf.blocks b) j f refl e
 
-    pub layer_placed : Placed leaf root_words made clean subs ats
+    pub layer_placed : LeafStands leaf root_words made clean subs ats
     layer_placed = record {
       count = length-map leaf.root numbered;
       blocks = λ b block is. let s = stored.stored b block is in ap (λ i. size_at made.blocks i) (address_is bs b s.0 s.1) ∙ s.2.sized;

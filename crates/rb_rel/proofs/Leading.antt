@@ -17,7 +17,7 @@ use Rattle.rb_layout.specs.Excluded.{Excludes}
 use Rattle.rb_rel.proofs.Lawful.{AllFlat, Lawful}
 use Rattle.rb_layout.specs.Flat.{IsFlat}
 use Rattle.rb_layout.specs.A7.{MeetsTest}
-use Rattle.rb_rel.specs.Relation.{Placed, Represents}
+use Rattle.rb_rel.specs.Relation.{LeafStands, Represents}
 use Rattle.rb_rel.proofs.Reading.{reads_loc}
 use Rattle.rb_rel.proofs.Known.{constant_bits-is}
 use Rattle.rb_rel.proofs.Represented.{Opened, opened}
@@ -28,7 +28,7 @@ module _ (types : List DataDecl) (layouts : List Layout) (m : Memory) (clean : B
   abbrev flat : AllFlat layouts
   flat = lawful.flat
 
-  module _ (leaf : Leaf) (is_flat : IsFlat leaf) (ws : List ℕ) (subs : List ℕ → List ℕ) (ats : ℕ → ℕ) (at : List ℕ → Value) (placed : Placed leaf ws m clean subs ats)
+  module _ (leaf : Leaf) (is_flat : IsFlat leaf) (ws : List ℕ) (subs : List ℕ → List ℕ) (ats : ℕ → ℕ) (at : List ℕ → Value) (placed : LeafStands leaf ws m clean subs ats)
       (reps : AllRep types layouts m clean (open_positions types leaf.prov) at subs) where
     known_is : (loc : Loc) (c : ℕ) (x : Option Reached) → reached_at leaf loc ≡ x → known_in x ≡ Some c → read_loc ws m loc ≡ Some c
     known_is loc c None is e = absurd cc

@@ -13,43 +13,43 @@ use Rattle.rb_core.specs.declared.pattern.Pat.TheVariants.{outs-Con, outs-Wild, 
 use Rattle.rb_core.proofs.PatternLaws as Q
 use Rattle.rb_layout.specs.declared.layout.Leaf.{Leaf}
 use Rattle.rb_layout.specs.declared.layout.Layout.{Layout}
-use Rattle.rb_layout.specs.A9.{A9, Flattens, LeafFlattens, cons_step, cons_of, cons_below, cons_below_root}
+use Rattle.rb_layout.specs.A9.{A9, Flattens, LeafFlattens, cons_step, pattern_cons, cons_below, cons_below_root}
 use Rattle.rb_layout.specs.Cycles.{IsChain}
 use Rattle.rb_layout.specs.Positions.{layout_of, leaves_of_layout}
-use Rattle.rb_rel.specs.Switches.{Head, head_below, heads_below, heads_step, heads_of, inner_heads, is_leaf_for, same_place, distinct_places, places_of, depth_of, greatest, choose_with, mend_leaf, mend_within, mend_of, choose_of}
+use Rattle.rb_rel.specs.Switches.{HeadAt, head_below, heads_below, heads_step, heads_of, inner_heads, is_leaf_for, same_place, distinct_places, places_of, depth_of, greatest, choose_with, mend_leaf, mend_within, mend_of, choose_of}
 use Rattle.rb_rel.proofs.Lists.{get-append, get-mapped}
 
 -- Constructors below the root --------------------------------------------------------------------
-abbrev the_cons : List Head → List ConRef
-the_cons hs = map (λ (h : Head). h.con) hs
+abbrev the_cons : List HeadAt → List ConRef
+the_cons hs = map (λ (h : HeadAt). h.con) hs
 
-cons-append : (xs ys : List Head) → the_cons (xs ++ ys) ≡ the_cons xs ++ the_cons ys
+cons-append : (xs ys : List HeadAt) → the_cons (xs ++ ys) ≡ the_cons xs ++ the_cons ys
 cons-append [] ys = refl
 cons-append (x ∷ xs) ys = ap (λ zs. x.con ∷ zs) (cons-append xs ys)
 
-cons-below : (i : ℕ) (hs : List Head) → the_cons (map (head_below i) hs) ≡ the_cons hs
+cons-below : (i : ℕ) (hs : List HeadAt) → the_cons (map (head_below i) hs) ≡ the_cons hs
 cons-below i [] = refl
 cons-below i (h ∷ hs) = ap (λ zs. h.con ∷ zs) (cons-below i hs)
 
 abbrev SameCons : Pat → Type 0
-SameCons q = the_cons (heads_of q) ≡ cons_of q
+SameCons q = the_cons (heads_of q) ≡ pattern_cons q
 
-list_cons : (ps : List Pat) → Q.Each SameCons ps → (i : ℕ) → the_cons (heads_below (map heads_of ps) i) ≡ flat_map cons_of ps
+list_cons : (ps : List Pat) → Q.Each SameCons ps → (i : ℕ) → the_cons (heads_below (map heads_of ps) i) ≡ flat_map pattern_cons ps
 list_cons [] each i = refl
 list_cons (q ∷ ps) each i =
     cons-append (map (head_below i) (heads_of q)) (heads_below (map heads_of ps) (i + 1)) ∙ ap (λ x. x ++ the_cons (heads_below (map heads_of ps) (i + 1))) (cons-below i (heads_of q) ∙ each.0)
-    ∙ ap (λ x. cons_of q ++ x) (list_cons ps each.1 (i + 1))
+    ∙ ap (λ x. pattern_cons q ++ x) (list_cons ps each.1 (i + 1))
 
-flat_cons : (ps : List Pat) → flat_map (λ cs. cs) (map cons_of ps) ≡ flat_map cons_of ps
+flat_cons : (ps : List Pat) → flat_map (λ cs. cs) (map pattern_cons ps) ≡ flat_map pattern_cons ps
 flat_cons [] = refl
-flat_cons (q ∷ ps) = ap (λ x. cons_of q ++ x) (flat_cons ps)
+flat_cons (q ∷ ps) = ap (λ x. pattern_cons q ++ x) (flat_cons ps)
 
 same_cons : (q : Pat) → SameCons q
 same_cons = Q.induction SameCons (record {
-  wild = λ at. ap the_cons (Q.fold-Wild (List Head) heads_step at) ∙ sym (Q.fold-Wild (List ConRef) cons_step at);
-  var = λ at x. ap the_cons (Q.fold-Var (List Head) heads_step at x) ∙ sym (Q.fold-Var (List ConRef) cons_step at x);
-  num = λ at n. ap the_cons (Q.fold-Num (List Head) heads_step at n) ∙ sym (Q.fold-Num (List ConRef) cons_step at n);
-  con = λ at c ps each. ap the_cons (Q.fold-Con (List Head) heads_step at c ps) ∙ ap (λ x. c ∷ x) (list_cons ps each 0 ∙ sym (flat_cons ps)) ∙ sym (Q.fold-Con (List ConRef) cons_step at c ps);
+  wild = λ at. ap the_cons (Q.fold-Wild (List HeadAt) heads_step at) ∙ sym (Q.fold-Wild (List ConRef) cons_step at);
+  var = λ at x. ap the_cons (Q.fold-Var (List HeadAt) heads_step at x) ∙ sym (Q.fold-Var (List ConRef) cons_step at x);
+  num = λ at n. ap the_cons (Q.fold-Num (List HeadAt) heads_step at n) ∙ sym (Q.fold-Num (List ConRef) cons_step at n);
+  con = λ at c ps each. ap the_cons (Q.fold-Con (List HeadAt) heads_step at c ps) ∙ ap (λ x. c ∷ x) (list_cons ps each 0 ∙ sym (flat_cons ps)) ∙ sym (Q.fold-Con (List ConRef) cons_step at c ps);
 })
 
 all_same : (ps : List Pat) → Q.Each SameCons ps
@@ -58,18 +58,18 @@ all_same (q ∷ ps) = (same_cons q, all_same ps)
 
 inner_cons : (q : Pat) → the_cons (drop 1 (heads_of q)) ≡ cons_below q
 inner_cons = Q.induction (λ q. the_cons (drop 1 (heads_of q)) ≡ cons_below q) (record {
-  wild = λ at. ap (λ hs. the_cons (drop 1 hs)) (Q.fold-Wild (List Head) heads_step at) ∙ sym (ap cons_below_root (outs-Wild at));
-  var = λ at x. ap (λ hs. the_cons (drop 1 hs)) (Q.fold-Var (List Head) heads_step at x) ∙ sym (ap cons_below_root (outs-Var at x));
-  num = λ at n. ap (λ hs. the_cons (drop 1 hs)) (Q.fold-Num (List Head) heads_step at n) ∙ sym (ap cons_below_root (outs-Num at n));
-  con = λ at c ps each. ap (λ hs. the_cons (drop 1 hs)) (Q.fold-Con (List Head) heads_step at c ps) ∙ list_cons ps (all_same ps) 0 ∙ sym (ap cons_below_root (outs-Con at c ps));
+  wild = λ at. ap (λ hs. the_cons (drop 1 hs)) (Q.fold-Wild (List HeadAt) heads_step at) ∙ sym (ap cons_below_root (outs-Wild at));
+  var = λ at x. ap (λ hs. the_cons (drop 1 hs)) (Q.fold-Var (List HeadAt) heads_step at x) ∙ sym (ap cons_below_root (outs-Var at x));
+  num = λ at n. ap (λ hs. the_cons (drop 1 hs)) (Q.fold-Num (List HeadAt) heads_step at n) ∙ sym (ap cons_below_root (outs-Num at n));
+  con = λ at c ps each. ap (λ hs. the_cons (drop 1 hs)) (Q.fold-Con (List HeadAt) heads_step at c ps) ∙ list_cons ps (all_same ps) 0 ∙ sym (ap cons_below_root (outs-Con at c ps));
 })
 
 -- a constructor below the root flattens its type
-inner_flattens : (leaf : Leaf) (k : ℕ) (h : Head) → slice_get (inner_heads leaf) k ≡ Some h → LeafFlattens leaf h.con.ty
+inner_flattens : (leaf : Leaf) (k : ℕ) (h : HeadAt) → slice_get (inner_heads leaf) k ≡ Some h → LeafFlattens leaf h.con.ty
 inner_flattens leaf k h is = record {
   number = k;
   con = h.con;
-  is_below = ap (λ cs. slice_get cs k) (sym (inner_cons leaf.prov)) ∙ get-mapped (λ (x : Head). x.con) (inner_heads leaf) k h is;
+  is_below = ap (λ cs. slice_get cs k) (sym (inner_cons leaf.prov)) ∙ get-mapped (λ (x : HeadAt). x.con) (inner_heads leaf) k h is;
   is_type = refl;
 }
 
@@ -83,7 +83,7 @@ filtered {A = A} f (y ∷ xs) k x e = go (f y) k e (filtered f xs)
     go true (suc k) h rest = let r = rest k x h in (suc r.0, r.1)
     go false k h rest = let r = rest k x h in (suc r.0, r.1)
 
-placed_once : (hs : List Head) (k : ℕ) (h : Head) → slice_get (distinct_places hs) k ≡ Some h → (j : ℕ) × (slice_get hs j ≡ Some h)
+placed_once : (hs : List HeadAt) (k : ℕ) (h : HeadAt) → slice_get (distinct_places hs) k ≡ Some h → (j : ℕ) × (slice_get hs j ≡ Some h)
 placed_once [] k h e = absurd cc
 placed_once (x ∷ hs) zero h e = (0, e)
 placed_once (x ∷ hs) (suc k) h e =
@@ -114,7 +114,7 @@ module _ (layouts : List Layout) where
   leaf_in t k leaf (Some layout) is at s f = record { layout = layout; number = k; leaf = leaf; is_layout = is; is_leaf = at; flattens = f }
 
   -- a place of a type is of a type that it flattens
-  place_flattens : (t k i : ℕ) (h : Head) → slice_get (places_of layouts t k) i ≡ Some h → R t h.con.ty
+  place_flattens : (t k i : ℕ) (h : HeadAt) → slice_get (places_of layouts t k) i ≡ Some h → R t h.con.ty
   place_flattens t k i h e =
       let a = placed_once (flat_map inner_heads (filter (is_leaf_for k) (leaves_of_layout (layout_of layouts t)))) i h e in
       let b = gathered inner_heads (filter (is_leaf_for k) (leaves_of_layout (layout_of layouts t))) a.0 h a.1 in
@@ -128,14 +128,14 @@ module _ (layouts : List Layout) where
 
   choose_same : (f g : ℕ → ℕ) (t k : ℕ) → ((u : ℕ) → R t u → f u ≡ g u) → choose_with f layouts t k ≡ choose_with g layouts t k
   choose_same f g t k h =
-      sums_same (λ (x : Head). depth_of layouts (Named x.con.ty) + f x.con.ty) (λ (x : Head). depth_of layouts (Named x.con.ty) + g x.con.ty) (places_of layouts t k)
+      sums_same (λ (x : HeadAt). depth_of layouts (Named x.con.ty) + f x.con.ty) (λ (x : HeadAt). depth_of layouts (Named x.con.ty) + g x.con.ty) (places_of layouts t k)
       (λ i x e. ap (λ n. depth_of layouts (Named x.con.ty) + n) (h x.con.ty (place_flattens t k i x e)))
 
   mend_same : (f g : ℕ → ℕ) (t : ℕ) → ((s : ℕ) → R t s → (u : ℕ) → R s u → f u ≡ g u)
       → greatest (map (mend_leaf (choose_with f layouts)) (leaves_of_layout (layout_of layouts t))) ≡ greatest (map (mend_leaf (choose_with g layouts)) (leaves_of_layout (layout_of layouts t)))
   mend_same f g t h =
       greatest_same (mend_leaf (choose_with f layouts)) (mend_leaf (choose_with g layouts)) (leaves_of_layout (layout_of layouts t))
-      (λ k leaf at. sums_same (λ (x : Head). choose_with f layouts x.con.ty x.con.con) (λ (x : Head). choose_with g layouts x.con.ty x.con.con) (inner_heads leaf)
+      (λ k leaf at. sums_same (λ (x : HeadAt). choose_with f layouts x.con.ty x.con.con) (λ (x : HeadAt). choose_with g layouts x.con.ty x.con.con) (inner_heads leaf)
       (λ i x e. choose_same f g x.con.ty x.con.con (h x.con.ty (leaf_in t k leaf (layout_of layouts t) refl at x.con.ty (inner_flattens leaf i x e)))))
 
   abbrev twice : ℕ → ℕ

@@ -11,7 +11,7 @@ use Rattle.rb_layout.specs.declared.layout.Kind.{Kind}
 use Rattle.rb_layout.specs.declared.layout.Kind.TheVariants.{Word}
 use Rattle.rb_layout.specs.declared.layout.WordRef.{WordRef}
 use Rattle.rb_layout.specs.Words.{words_in, flat_at}
-use Rattle.rb_rel.specs.Relation.{HoldsKind, Placed}
+use Rattle.rb_rel.specs.Relation.{HoldsKind, LeafStands}
 use Rattle.rb_rel.specs.Reading.{LeadsTo, read_loc}
 use Rattle.rb_rel.proofs.Reading.{reads_loc}
 
@@ -21,7 +21,7 @@ pub record IsTidyLeaf (leaf : Leaf) : Type 0 where
   pub within : (r : WordRef) (f : FlatWord) (i : ℕ) (p : Part) → flat_at leaf r ≡ Some f → slice_get f.parts i ≡ Some p → (1 ≤ p.l) × (p.o + p.l ≤ f.width)
   pub bytes : (b j : ℕ) (f : FlatWord) → slice_get (words_in leaf (Some b)) j ≡ Some f → 1 ≤ f.width / 8
 
-module _ (leaf : Leaf) (ws : List ℕ) (m : Memory) (clean : Bool) (subs : List ℕ → List ℕ) (ats : ℕ → ℕ) (placed : Placed leaf ws m clean subs ats) where
+module _ (leaf : Leaf) (ws : List ℕ) (m : Memory) (clean : Bool) (subs : List ℕ → List ℕ) (ats : ℕ → ℕ) (placed : LeafStands leaf ws m clean subs ats) where
   -- what is read at a location that leads to a part is what the part holds
   pub part_read : (loc : Loc) (l : ℕ) (kind : Kind) → LeadsTo leaf loc l kind → (n : ℕ) × (read_loc ws m loc ≡ Some n) × HoldsKind subs ats n l kind
   part_read loc l kind at =

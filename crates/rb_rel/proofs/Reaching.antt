@@ -15,8 +15,8 @@ use Rattle.rb_core.specs.declared.layout_decl.LayTree.TheOpen.{LayTree-F}
 use Rattle.rb_core.specs.Layouts.{WrittenLeaf, leaves_step, arm_leaves, leaves, leaves_under}
 use Rattle.rb_layout.specs.declared.layout.FlatTree.TheFolds.{fold-roll-FlatArm}
 use Rattle.rb_layout.specs.declared.layout.FlatArm.{FlatArm}
-use Rattle.rb_layout.specs.Splits.{Test, Is, IsNone, Route, behind, Under, arm_routes, else_routes, literals_of, routes_step, routes_arm, routes_of, routes_under}
-use Rattle.rb_layout.specs.Flattening.{Numbering, arms_count, arms_from, tree_step, arm_step, numbering, flat_tree}
+use Rattle.rb_layout.specs.Splits.{Test, Is, IsNone, Route, under_test, Under, arm_routes, else_routes, literals_of, routes_step, routes_arm, routes_of, routes_under}
+use Rattle.rb_layout.specs.Flattening.{LeafNumbering, arms_count, arms_from, tree_step, arm_step, numbering, flat_tree}
 use Rattle.rb_layout.proofs.FlatForms.{Each}
 use Rattle.rb_layout.proofs.FlatForms as F
 use Rattle.rb_layout.proofs.WrittenForms as D
@@ -31,8 +31,8 @@ flat_arm_fold : (a : FlatArm) → routes_under a ≡ record { literal = a.litera
 unfolding denote.Hole.Carrier.roll
 flat_arm_fold a = fold-roll-FlatArm (List Route) (Under (List Route)) routes_step routes_arm (record { literal = a.literal; under = a.under })
 
-abbrev under_number : Arm → Under Numbering
-under_number = fold-Arm Numbering (Under Numbering) tree_step arm_step
+abbrev under_number : Arm → Under LeafNumbering
+under_number = fold-Arm LeafNumbering (Under LeafNumbering) tree_step arm_step
 
 -- a route to a leaf
 abbrev IsReached : List Route → ℕ → Type 0
@@ -44,33 +44,33 @@ reached-left rs ss n h = (h.0, h.1, get-left rs ss h.0 h.1 h.2, h.3)
 reached-right : (rs ss : List Route) (n : ℕ) → IsReached ss n → IsReached (rs ++ ss) n
 reached-right rs ss n h = let g = get-right rs ss h.0 h.1 h.2 in (g.0, h.1, g.1, h.3)
 
-reached-behind : (t : Test) (rs : List Route) (n : ℕ) → IsReached rs n → IsReached (map (behind t) rs) n
-reached-behind t rs n h = (h.0, behind t h.1, get-mapped (behind t) rs h.0 h.1 h.2, h.3)
+reached-behind : (t : Test) (rs : List Route) (n : ℕ) → IsReached rs n → IsReached (map (under_test t) rs) n
+reached-behind t rs n h = (h.0, under_test t h.1, get-mapped (under_test t) rs h.0 h.1 h.2, h.3)
 
 -- as many leaves as are counted, and each is reached
 pub record Counts (tree : LayTree) : Type 0 where
   pub count : (numbering tree).count ≡ length (leaves tree)
   pub reached : (n k : ℕ) → k < (numbering tree).count → IsReached (routes_of ((numbering tree).from n)) (n + k)
 
-abbrev arm_numbers : List Arm → List (Under Numbering)
+abbrev arm_numbers : List Arm → List (Under LeafNumbering)
 arm_numbers = map under_number
 
 abbrev arms_leaves : List Arm → List WrittenLeaf
 arms_leaves arms = flat_map (λ ls. ls) (map leaves_under arms)
 
 under_is : (a : Arm) → under_number a ≡ record { literal = a.literal; of = numbering a.under }
-under_is a = arm_fold Numbering (Under Numbering) tree_step arm_step a
+under_is a = arm_fold LeafNumbering (Under LeafNumbering) tree_step arm_step a
 
 leaves_is : (a : Arm) → leaves_under a ≡ leaves a.under
 leaves_is a = arm_fold (List WrittenLeaf) (List WrittenLeaf) leaves_step arm_leaves a
 
-arms_more : (u : Under Numbering) (us : List (Under Numbering)) → arms_count (u ∷ us) ≡ u.of.count + arms_count us
-arms_more u us = sum_by-cons (λ (arm : Under Numbering). arm.of.count) u us
+arms_more : (u : Under LeafNumbering) (us : List (Under LeafNumbering)) → arms_count (u ∷ us) ≡ u.of.count + arms_count us
+arms_more u us = sum_by-cons (λ (arm : Under LeafNumbering). arm.of.count) u us
 
 arms_counted : (arms : List Arm) → Each (λ (a : Arm). Counts a.under) arms → arms_count (arm_numbers arms) ≡ length (arms_leaves arms)
 arms_counted [] each = refl
 arms_counted (a ∷ arms) each =
-    let here : (under_number a).of.count ≡ length (leaves_under a) = ap (λ (u : Under Numbering). u.of.count) (under_is a) ∙ each.0.count ∙ ap length (sym (leaves_is a)) in
+    let here : (under_number a).of.count ≡ length (leaves_under a) = ap (λ (u : Under LeafNumbering). u.of.count) (under_is a) ∙ each.0.count ∙ ap length (sym (leaves_is a)) in
     let rest = arms_counted arms each.1 in
     arms_more (under_number a) (arm_numbers arms) ∙ ap (λ x. x + arms_count (arm_numbers arms)) here ∙ ap (λ x. length (leaves_under a) + x) rest ∙ sym (length-append (leaves_under a) (arms_leaves arms))
 
@@ -81,8 +81,8 @@ arm_reached : (loc : Loc) (a : Arm) → Counts a.under → (n k : ℕ) → k < (
     → IsReached (arm_routes loc (routes_under (record { literal = (under_number a).literal; under = (under_number a).of.from n }))) (n + k)
 arm_reached loc a c n k lt =
     let x : FlatArm = record { literal = (under_number a).literal; under = (under_number a).of.from n } in
-    let e : (routes_under x).of ≡ routes_of ((numbering a.under).from n) = ap (λ (u : Under (List Route)). u.of) (flat_arm_fold x) ∙ ap (λ (u : Under Numbering). routes_of (u.of.from n)) (under_is a) in
-    let r = c.reached n k (subst (λ (u : Under Numbering). k < u.of.count) (under_is a) lt) in
+    let e : (routes_under x).of ≡ routes_of ((numbering a.under).from n) = ap (λ (u : Under (List Route)). u.of) (flat_arm_fold x) ∙ ap (λ (u : Under LeafNumbering). routes_of (u.of.from n)) (under_is a) in
+    let r = c.reached n k (subst (λ (u : Under LeafNumbering). k < u.of.count) (under_is a) lt) in
     reached-behind (Is loc (routes_under x).literal) (routes_under x).of (n + k) (subst (λ rs. IsReached rs (n + k)) (sym e) r)
 
 arms_reached : (loc : Loc) (arms : List Arm) → Each (λ (a : Arm). Counts a.under) arms → (n k : ℕ) → k < arms_count (arm_numbers arms) → IsReached (arms_routes loc arms n) (n + k)
@@ -101,48 +101,48 @@ arms_reached loc (a ∷ arms) each n k lt =
 
 leaf_counts : (at : ℕ) (prov : Pat) (items : List LayItem) → Counts (Leaf at prov items)
 leaf_counts at prov items =
-    let e = D.fold-Leaf Numbering (Under Numbering) tree_step arm_step at prov items in
+    let e = D.fold-Leaf LeafNumbering (Under LeafNumbering) tree_step arm_step at prov items in
     let l = D.fold-Leaf (List WrittenLeaf) (List WrittenLeaf) leaves_step arm_leaves at prov items in
     record {
-      count = ap (λ (x : Numbering). x.count) e ∙ ap length (sym l);
+      count = ap (λ (x : LeafNumbering). x.count) e ∙ ap length (sym l);
       reached = λ n k lt.
-          let one : k < 1 = subst (λ (x : Numbering). k < x.count) e lt in
+          let one : k < 1 = subst (λ (x : LeafNumbering). k < x.count) e lt in
           let z : n ≡ n + k = omega (arith, one) in
-          let r : routes_of ((numbering (Leaf at prov items)).from n) ≡ record { leaf = n; tests = [] } ∷ [] = ap (λ (x : Numbering). routes_of (x.from n)) e ∙ F.fold-Leaf (List Route) (Under (List Route)) routes_step routes_arm n in
+          let r : routes_of ((numbering (Leaf at prov items)).from n) ≡ record { leaf = n; tests = [] } ∷ [] = ap (λ (x : LeafNumbering). routes_of (x.from n)) e ∙ F.fold-Leaf (List Route) (Under (List Route)) routes_step routes_arm n in
           subst (λ rs. IsReached rs (n + k)) (sym r) (0, record { leaf = n; tests = [] }, refl, z);
     }
 
 split_counts : (loc : Loc) (arms : List Arm) → Each (λ (a : Arm). Counts a.under) arms → Counts (Split loc arms None)
 split_counts loc arms each =
-    let e = D.fold-Split Numbering (Under Numbering) tree_step arm_step loc arms in
+    let e = D.fold-Split LeafNumbering (Under LeafNumbering) tree_step arm_step loc arms in
     let l = D.fold-Split (List WrittenLeaf) (List WrittenLeaf) leaves_step arm_leaves loc arms in
     let c = arms_counted arms each in
     let none : (xs : List WrittenLeaf) → length xs + 0 ≡ length (xs ++ []) = λ xs. sym (length-append xs []) in
     record {
-      count = ap (λ (x : Numbering). x.count) e ∙ ap (λ x. x + 0) c ∙ none (arms_leaves arms) ∙ ap length (sym l);
+      count = ap (λ (x : LeafNumbering). x.count) e ∙ ap (λ x. x + 0) c ∙ none (arms_leaves arms) ∙ ap length (sym l);
       reached = λ n k lt.
-          let all : k < arms_count (arm_numbers arms) + 0 = subst (λ (x : Numbering). k < x.count) e lt in
+          let all : k < arms_count (arm_numbers arms) + 0 = subst (λ (x : LeafNumbering). k < x.count) e lt in
           let fs = arms_from (arm_numbers arms) n in
-          let r : routes_of ((numbering (Split loc arms None)).from n) ≡ arms_routes loc arms n ++ [] = ap (λ (x : Numbering). routes_of (x.from n)) e ∙ F.fold-Split (List Route) (Under (List Route)) routes_step routes_arm loc fs in
+          let r : routes_of ((numbering (Split loc arms None)).from n) ≡ arms_routes loc arms n ++ [] = ap (λ (x : LeafNumbering). routes_of (x.from n)) e ∙ F.fold-Split (List Route) (Under (List Route)) routes_step routes_arm loc fs in
           subst (λ rs. IsReached rs (n + k)) (sym r) (reached-left (arms_routes loc arms n) [] (n + k) (arms_reached loc arms each n k (omega (arith, all))));
     }
 
 else_counts : (loc : Loc) (arms : List Arm) (other : LayTree) → Each (λ (a : Arm). Counts a.under) arms → Counts other → Counts (Split loc arms (Some other))
 else_counts loc arms other each o =
-    let e = D.fold-Split-else Numbering (Under Numbering) tree_step arm_step loc arms other in
+    let e = D.fold-Split-else LeafNumbering (Under LeafNumbering) tree_step arm_step loc arms other in
     let l = D.fold-Split-else (List WrittenLeaf) (List WrittenLeaf) leaves_step arm_leaves loc arms other in
     let c = arms_counted arms each in
     record {
-      count = ap (λ (x : Numbering). x.count) e ∙ ap (λ x. x + (numbering other).count) c ∙ ap (λ x. length (arms_leaves arms) + x) o.count
+      count = ap (λ (x : LeafNumbering). x.count) e ∙ ap (λ x. x + (numbering other).count) c ∙ ap (λ x. length (arms_leaves arms) + x) o.count
           ∙ sym (length-append (arms_leaves arms) (leaves other)) ∙ ap length (sym l);
       reached = λ n k lt.
-          let all : k < arms_count (arm_numbers arms) + (numbering other).count = subst (λ (x : Numbering). k < x.count) e lt in
+          let all : k < arms_count (arm_numbers arms) + (numbering other).count = subst (λ (x : LeafNumbering). k < x.count) e lt in
           let fs = arms_from (arm_numbers arms) n in
           let m = n + arms_count (arm_numbers arms) in
           let below = (numbering other).from m in
           let es = else_routes loc (literals_of (map routes_under fs)) (Some (routes_of below)) in
           let r : routes_of ((numbering (Split loc arms (Some other))).from n) ≡ arms_routes loc arms n ++ es
-          = ap (λ (x : Numbering). routes_of (x.from n)) e ∙ F.fold-Split-else (List Route) (Under (List Route)) routes_step routes_arm loc fs below in
+          = ap (λ (x : LeafNumbering). routes_of (x.from n)) e ∙ F.fold-Split-else (List Route) (Under (List Route)) routes_step routes_arm loc fs below in
           subst (λ rs. IsReached rs (n + k)) (sym r) (elim (cases_lt k (arms_count (arm_numbers arms))) [
             | inl low ↦ reached-left (arms_routes loc arms n) es (n + k) (arms_reached loc arms each n k low)
             | inr high ↦

@@ -14,9 +14,9 @@ use Rattle.rb_core.specs.declared.layout_decl.Step.{Step}
 use Rattle.rb_core.specs.declared.layout_decl.Loc.{Loc}
 use Rattle.rb_layout.specs.declared.layout.WordRef.{WordRef}
 use Rattle.rb_layout.specs.Words.{words_in, flat_at, begins_at}
-use Rattle.rb_rel.specs.Relation.{HoldsKind, Placed}
-use Rattle.rb_layout.specs.Locations.{Reached, or_else, pointed_by, pointed_in, block_in, block_at, word_beginning, ref_in, next_ref, range_in, resolve_from, reached_at}
-use Rattle.rb_rel.specs.Reading.{WordStands, IsRead, after, read_from, read_first, read_loc}
+use Rattle.rb_rel.specs.Relation.{HoldsKind, LeafStands}
+use Rattle.rb_layout.specs.Locations.{Reached, or_else, pointed_by, pointed_in, block_in, pointer_block, word_beginning, ref_in, next_ref, range_in, resolve_from, reached_at}
+use Rattle.rb_rel.specs.Reading.{WordStands, IsRead, on_loaded, read_from, read_first, read_loc}
 use Rattle.rb_rel.proofs.Lists.{both}
 
 -- a part that is such a pointer
@@ -87,7 +87,7 @@ word_beginning-is (f ∷ fs) start byte width from j =
           record { number = suc r.number; word = r.word; is_word = r.is_word; is_number = omega (arith, r.is_number); is_byte = omega (arith, r.is_byte); is_width = r.is_width }
     ]) refl
 
-module _ (leaf : Leaf) (ws : List ℕ) (m : Memory) (clean : Bool) (subs : List ℕ → List ℕ) (ats : ℕ → ℕ) (placed : Placed leaf ws m clean subs ats) where
+module _ (leaf : Leaf) (ws : List ℕ) (m : Memory) (clean : Bool) (subs : List ℕ → List ℕ) (ats : ℕ → ℕ) (placed : LeafStands leaf ws m clean subs ats) where
   abbrev At : WordRef → FlatWord → ℕ → Type 0
   At = WordStands leaf ws m clean subs ats
 
@@ -131,7 +131,7 @@ module _ (leaf : Leaf) (ws : List ℕ) (m : Memory) (clean : Bool) (subs : List 
       let e1 : take_of w o l * t.align ≡ ats b = pointed in
       let reads : load_of m (take_of w o l * t.align) t.byte t.width ≡ Ok y.0 =
       ap (λ k. load_of m k t.byte t.width) e1 ∙ ap (λ k. load_of m (ats b) k t.width) (sym begins) ∙ ap (load_of m (ats b) (begins_at (words_in leaf (Some b)) j)) (sym h.is_width) ∙ y.1.is_found in
-      subst (λ n. Reads x (after n (λ k. read_from m k t.o t.l steps))) (sym reads) (rest r' h.word y.0 y.1 e)
+      subst (λ n. Reads x (on_loaded n (λ k. read_from m k t.o t.l steps))) (sym reads) (rest r' h.word y.0 y.1 e)
 
   by_block : (t : Step) (steps : List Step) (r : WordRef) (f : FlatWord) (w o l : ℕ) (x : Reached) → At r f w → Rest steps t.o t.l x
       → (found : Option ℕ) → block_in f.parts o l t.align ≡ found
@@ -144,11 +144,11 @@ module _ (leaf : Leaf) (ws : List ℕ) (m : Memory) (clean : Bool) (subs : List 
   reads_from [] o l x r f w s e = last_range r f w o l x s (ap (λ y. range_in y r o l) (sym s.is_flat) ∙ e)
   reads_from (t ∷ steps) o l x r f w s e =
       by_block t steps r f w o l x s (reads_from steps t.o t.l x) (block_in f.parts o l t.align) refl
-      (ap (λ y. resolve_from leaf (next_ref leaf (block_at y o l t.align) t) t.o t.l steps) (sym s.is_flat) ∙ e)
+      (ap (λ y. resolve_from leaf (next_ref leaf (pointer_block y o l t.align) t) t.o t.l steps) (sym s.is_flat) ∙ e)
 
   none_resolves : (steps : List Step) (r : WordRef) (o l : ℕ) (x : Reached) → flat_at leaf r ≡ None → resolve_from leaf (Some r) o l steps ≡ Some x → ⊥
   none_resolves [] r o l x is e = let h = ap (λ y. range_in y r o l) (sym is) ∙ e in cc
-  none_resolves (t ∷ steps) r o l x is e = let h = ap (λ y. resolve_from leaf (next_ref leaf (block_at y o l t.align) t) t.o t.l steps) (sym is) ∙ e in cc
+  none_resolves (t ∷ steps) r o l x is e = let h = ap (λ y. resolve_from leaf (next_ref leaf (pointer_block y o l t.align) t) t.o t.l steps) (sym is) ∙ e in cc
 
   at_root : (loc : Loc) (x : Reached) (f : Option FlatWord) → flat_at leaf (record { block = None; word = loc.word }) ≡ f
       → reached_at leaf loc ≡ Some x → Reads x (read_loc ws m loc)

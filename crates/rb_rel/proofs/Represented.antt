@@ -11,7 +11,7 @@ use Rattle.rb_bytes.specs.Memory.{Memory}
 use Rattle.rb_layout.specs.declared.layout.Leaf.{Leaf}
 use Rattle.rb_layout.specs.declared.layout.Layout.{Layout}
 use Rattle.rb_layout.specs.Positions.{Open, open_positions, leaf_of, layout_of}
-use Rattle.rb_rel.specs.Relation.{shape_length, word_count, Placed, Made, Represents, number, built}
+use Rattle.rb_rel.specs.Relation.{shape_length, word_count, LeafStands, Made, Represents, number, built}
 
 module _ (types : List DataDecl) (layouts : List Layout) (m : Memory) (clean : Bool) where
   abbrev IsInt : Ty → Value → List ℕ → Type 0
@@ -45,7 +45,7 @@ module _ (types : List DataDecl) (layouts : List Layout) (m : Memory) (clean : B
     pub ats : ℕ → ℕ
     pub value : Value
     pub is_value : part_at v o.path ≡ Some value
-    pub placed : Placed leaf ws m clean subs ats
+    pub placed : LeafStands leaf ws m clean subs ats
     pub represents : Represents types layouts m clean o.ty value (subs o.path)
 
   -- the leaf of a representation is the value's
@@ -68,6 +68,6 @@ module _ (types : List DataDecl) (layouts : List Layout) (m : Memory) (clean : B
         ats = b.ats;
         value = b.at o.path;
         is_value = b.is_at k o at1;
-        placed = subst (λ (y : Leaf). Placed y ws m clean b.subs b.ats) e b.placed;
+        placed = subst (λ (y : Leaf). LeafStands y ws m clean b.subs b.ats) e b.placed;
         represents = w.below k o at1;
       }

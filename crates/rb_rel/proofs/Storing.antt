@@ -15,9 +15,9 @@ use Rattle.rb_bytes.proofs.GrowthLemmas.{Grown-refl, Grown-trans, Grown-extends,
 use Rattle.rb_bytes.proofs.MemoryLemmas.{load_within, size_at_extends}
 use Rattle.rb_layout.specs.declared.layout.Block.{Block}
 use Rattle.rb_layout.specs.declared.layout.FlatWord.{FlatWord}
-use Rattle.rb_layout.specs.Words.{bytes_in, size_of, begins_at}
+use Rattle.rb_layout.specs.Words.{bytes_taken, size_of, begins_at}
 use Rattle.rb_layout.specs.A4.{IsBlockWidth}
-use Rattle.rb_rel.specs.Placing.{Laid, Fits, Over, Request, request_of, behind, lay}
+use Rattle.rb_rel.specs.Placing.{Laid, Fits, Over, Request, request_of, block_before, lay}
 
 -- Words one after the other from an address on, each of them a number of its width
 module _ (number : FlatWord → ℕ) where
@@ -29,16 +29,16 @@ module _ (number : FlatWord → ℕ) where
   length-written [] at bytes = refl
   length-written (f ∷ fs) at bytes = length-written fs (at + f.width / 8) (write_le bytes (f.width / 8) at (number f)) ∙ length-write_le bytes (f.width / 8) at (number f)
 
-  pub written_outside : (fs : List FlatWord) (at : ℕ) (bytes : List (Option ℕ)) (a : ℕ) → (a < at) ⊎ (at + bytes_in fs ≤ a) → byte_at (written fs at bytes) a ≡ byte_at bytes a
+  pub written_outside : (fs : List FlatWord) (at : ℕ) (bytes : List (Option ℕ)) (a : ℕ) → (a < at) ⊎ (at + bytes_taken fs ≤ a) → byte_at (written fs at bytes) a ≡ byte_at bytes a
   written_outside [] at bytes a out = refl
   written_outside (f ∷ fs) at bytes a out =
       written_outside fs (at + f.width / 8) (write_le bytes (f.width / 8) at (number f)) a (rest out) ∙ byte_at-write_le_outside bytes (f.width / 8) at (number f) a (first out)
     where
-      rest : (a < at) ⊎ (at + (f.width / 8 + bytes_in fs) ≤ a) → (a < at + f.width / 8) ⊎ (at + f.width / 8 + bytes_in fs ≤ a)
+      rest : (a < at) ⊎ (at + (f.width / 8 + bytes_taken fs) ≤ a) → (a < at + f.width / 8) ⊎ (at + f.width / 8 + bytes_taken fs ≤ a)
       rest (inl lt) = inl (omega (arith, lt))
       rest (inr le) = inr (omega (arith, le))
 
-      first : (a < at) ⊎ (at + (f.width / 8 + bytes_in fs) ≤ a) → (a < at) ⊎ (at + f.width / 8 ≤ a)
+      first : (a < at) ⊎ (at + (f.width / 8 + bytes_taken fs) ≤ a) → (a < at) ⊎ (at + f.width / 8 ≤ a)
       first (inl lt) = inl lt
       first (inr le) = inr (omega (arith, le))
 
@@ -47,7 +47,7 @@ module _ (number : FlatWord → ℕ) where
   written_small (f ∷ fs) at bytes small = written_small fs (at + f.width / 8) (write_le bytes (f.width / 8) at (number f)) (write_le_small bytes (f.width / 8) at (number f) small)
 
   -- each word is read again
-  written_read : (fs : List FlatWord) (at : ℕ) (bytes : List (Option ℕ)) → at + bytes_in fs ≤ length bytes → (j : ℕ) (f : FlatWord) → slice_get fs j ≡ Some f
+  written_read : (fs : List FlatWord) (at : ℕ) (bytes : List (Option ℕ)) → at + bytes_taken fs ≤ length bytes → (j : ℕ) (f : FlatWord) → slice_get fs j ≡ Some f
       → read_le (written fs at bytes) (f.width / 8) (at + begins_at fs j) ≡ Ok (number f % 2 ^ (8 * (f.width / 8)))
   written_read [] at bytes le j f is = absurd cc
   written_read (g ∷ fs) at bytes le zero f is =
@@ -80,7 +80,7 @@ module _ (number : FlatWord → ℕ) where
       parts (Some u) (Ok v) y h = (u, v, refl, refl)
 
   -- each byte is written
-  written_whole : (fs : List FlatWord) (at : ℕ) (bytes : List (Option ℕ)) → at + bytes_in fs ≤ length bytes → (a : ℕ) → at ≤ a → a < at + bytes_in fs → (u : ℕ) × (byte_at (written fs at bytes) a ≡ Some u)
+  written_whole : (fs : List FlatWord) (at : ℕ) (bytes : List (Option ℕ)) → at + bytes_taken fs ≤ length bytes → (a : ℕ) → at ≤ a → a < at + bytes_taken fs → (u : ℕ) × (byte_at (written fs at bytes) a ≡ Some u)
   written_whole [] at bytes le a low high = absurd (omega (arith, low, high))
   written_whole (g ∷ fs) at bytes le a low high =
       let n = g.width / 8 in
@@ -93,7 +93,7 @@ module _ (number : FlatWord → ℕ) where
         | inr up ↦ written_whole fs (at + n) next (omega (arith, le, long)) a up (omega (arith, high))
       ]
 
-pub begins_within : (fs : List FlatWord) (j : ℕ) (f : FlatWord) → slice_get fs j ≡ Some f → begins_at fs j + f.width / 8 ≤ bytes_in fs
+pub begins_within : (fs : List FlatWord) (j : ℕ) (f : FlatWord) → slice_get fs j ≡ Some f → begins_at fs j + f.width / 8 ≤ bytes_taken fs
 begins_within [] j f is = absurd cc
 begins_within (g ∷ fs) zero f is = let e = ap (λ (x : FlatWord). x.width / 8) (same_Some g f is) in omega (arith, e)
 begins_within (g ∷ fs) (suc j) f is = let h = begins_within fs j f is in omega (arith, h)
@@ -139,7 +139,7 @@ module _ (m : Memory) (good : IsGood m) (block : Block) (is : IsBlock block) (nu
     pub above : m.next ≤ a
     above = aligned_from m.next block.align is.align
 
-    long : a + bytes_in block.words ≤ length m.bytes
+    long : a + bytes_taken block.words ≤ length m.bytes
     long = let l = good.long in omega (arith, room, l)
 
     pub filled_good : IsGood filled
@@ -194,14 +194,14 @@ module _ (number : FlatWord → ℕ) where
   pub laid_more : (limit next : ℕ) (r : Request) (rs : List Request) (bs : List (ℕ × ℕ)) (p : ℕ) → lay limit next (r ∷ rs) ≡ Fits bs p
       → (aligned next r.align + r.size ≤ limit) × (cs : List (ℕ × ℕ)) × (lay limit (aligned next r.align + r.size) rs ≡ Fits cs p) × (bs ≡ (aligned next r.align, r.size) ∷ cs)
   laid_more limit next r rs bs p e = elim (leb_tells (aligned next r.align + r.size) limit) [
-    | inl h ↦ let q = split (lay limit (aligned next r.align + r.size) rs) (sym (ap (λ t. if t then behind (aligned next r.align, r.size) (lay limit (aligned next r.align + r.size) rs) else Over full) h.0) ∙ e) in (h.1, q.0, q.1, q.2)
-    | inr h ↦ absurd (over (sym (ap (λ t. if t then behind (aligned next r.align, r.size) (lay limit (aligned next r.align + r.size) rs) else Over full) h.0) ∙ e))
+    | inl h ↦ let q = split (lay limit (aligned next r.align + r.size) rs) (sym (ap (λ t. if t then block_before (aligned next r.align, r.size) (lay limit (aligned next r.align + r.size) rs) else Over full) h.0) ∙ e) in (h.1, q.0, q.1, q.2)
+    | inr h ↦ absurd (over (sym (ap (λ t. if t then block_before (aligned next r.align, r.size) (lay limit (aligned next r.align + r.size) rs) else Over full) h.0) ∙ e))
   ]
     where
       full : Full
       full = record { next = next; size = r.size; align = r.align; limit = limit }
 
-      split : (l : Laid) → behind (aligned next r.align, r.size) l ≡ Fits bs p → (cs : List (ℕ × ℕ)) × (l ≡ Fits cs p) × (bs ≡ (aligned next r.align, r.size) ∷ cs)
+      split : (l : Laid) → block_before (aligned next r.align, r.size) l ≡ Fits bs p → (cs : List (ℕ × ℕ)) × (l ≡ Fits cs p) × (bs ≡ (aligned next r.align, r.size) ∷ cs)
       split (Fits cs q) h = (cs, (let x : (aligned next r.align, r.size) ∷ cs ≡ bs = cc in let y : q ≡ p = cc in ap (Fits cs) y), (let x : (aligned next r.align, r.size) ∷ cs ≡ bs = cc in sym x))
       split (Over f) h = absurd cc
 

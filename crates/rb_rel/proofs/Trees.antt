@@ -11,7 +11,7 @@ use Rattle.rb_layout.specs.declared.layout.FlatTree.TheOpen as T
 use Rattle.rb_layout.specs.declared.layout.FlatTree.TheOpen.{FlatTree-F}
 use Rattle.rb_layout.specs.declared.layout.FlatTree.TheFolds.{fold-roll-FlatArm, map-FlatArm}
 use Rattle.rb_layout.specs.declared.layout.FlatArm.{FlatArm, FlatArm-F, roll-FlatArm}
-use Rattle.rb_layout.specs.Splits.{Test, Is, IsNone, Route, behind, Under, arm_routes, else_routes, literals_of, routes_step, routes_arm, routes_of, routes_under, SplitAt, splits_or_none, splits_step, splits_arm, splits_of, splits_under}
+use Rattle.rb_layout.specs.Splits.{Test, Is, IsNone, Route, under_test, Under, arm_routes, else_routes, literals_of, routes_step, routes_arm, routes_of, routes_under, SplitAt, splits_or_none, splits_step, splits_arm, splits_of, splits_under}
 use Rattle.rb_layout.specs.A7.{IsLiteral}
 use Rattle.rb_rel.specs.Reading.{read_loc, Walk, walk_else, walk_arms, walk_at, walk_step, walk_arm, walk, walk_under}
 use Rattle.rb_rel.proofs.Lists.{get-append, get-map, get-left, get-right}
@@ -50,7 +50,7 @@ module _ (ws : List ℕ) (m : Memory) where
       ((routes_under a).literal ≡ (walk_under a).literal) × ((splits_under a).literal ≡ (walk_under a).literal)
       × (LiteralsDistinct (splits_under a).of → Right (routes_under a).of (walk_under a).of)
 
-  behind_is : (t : Test) (r : Route) → AllPass (behind t r).tests → Passes t × AllPass r.tests
+  behind_is : (t : Test) (r : Route) → AllPass (under_test t r).tests → Passes t × AllPass r.tests
   behind_is t r a = (a 0 t refl, λ k u e. a (suc k) u e)
 
   abbrev SuchT : Type 0
@@ -79,7 +79,7 @@ module _ (ws : List ℕ) (m : Memory) where
       → ((walk_under x.0).literal ≡ n) × ((walk_under x.0).of ws m ≡ Some r.leaf)
   behind_arm loc x n k r is d e a =
       let t = Is loc (routes_under x.0).literal in
-      let g = get-map (behind t) (routes_under x.0).of k r e in
+      let g = get-map (under_test t) (routes_under x.0).of k r e in
       let b = behind_is t g.0 (subst (λ (q : Route). AllPass q.tests) g.2 a) in
       let here : (routes_under x.0).literal ≡ n = same_Some _ _ (sym b.0 ∙ is) in
       (sym x.1.0 ∙ here, x.1.2 d k g.0 g.1 b.1 ∙ ap (λ (q : Route). Some q.leaf) (sym g.2))
@@ -137,7 +137,7 @@ module _ (ws : List ℕ) (m : Memory) where
   reads_one loc (x ∷ arms) k r e a =
       elim (get-append (arm_routes loc (routes_under x.0)) (arms_routes loc arms) k r e) [
         | inl h ↦ let t = Is loc (routes_under x.0).literal in
-            let g = get-map (behind t) (routes_under x.0).of k r h in
+            let g = get-map (under_test t) (routes_under x.0).of k r h in
             let b = behind_is t g.0 (subst (λ (q : Route). AllPass q.tests) g.2 a) in
             ((routes_under x.0).literal, b.0)
         | inr h ↦ reads_one loc arms h.0 r h.1 a
@@ -174,7 +174,7 @@ module _ (ws : List ℕ) (m : Memory) where
   else_right loc arms None k r d e a = absurd cc
   else_right loc arms (Some t) k r d e a =
       let cs = literals_of (map routes_under (the_arms arms)) in
-      let g = get-map (behind (IsNone loc cs)) (routes_of t.0) k r e in
+      let g = get-map (under_test (IsNone loc cs)) (routes_of t.0) k r e in
       let b = behind_is (IsNone loc cs) g.0 (subst (λ (q : Route). AllPass q.tests) g.2 a) in
       ap (λ (i : Option ℕ). walk_at i (walks arms) (Some (walk t.0)) ws m) b.0.1
       ∙ past_arms arms (Some (walk t.0)) b.0.0 b.0.2 ∙ t.1 d k g.0 g.1 b.1 ∙ ap (λ (q : Route). Some q.leaf) (sym g.2)

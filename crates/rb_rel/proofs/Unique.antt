@@ -20,7 +20,7 @@ use Rattle.rb_layout.specs.declared.layout.Layout.{Layout}
 use Rattle.rb_layout.specs.declared.layout.WordRef.{WordRef}
 use Rattle.rb_layout.specs.Positions.{Open, open_positions, opens_of}
 use Rattle.rb_layout.specs.Words.{words_in, words_of_block, flat_at, begins_at}
-use Rattle.rb_rel.specs.Relation.{HoldsKind, IsFound, Placed, Made, Represents, number, built}
+use Rattle.rb_rel.specs.Relation.{HoldsKind, IsFound, LeafStands, Made, Represents, number, built}
 use Rattle.rb_rel.specs.Reading.{walk}
 use Rattle.rb_rel.proofs.Lawful.{Lawful, Holder, units_of}
 use Rattle.rb_layout.specs.Flat.{IsFlat, IsAbove}
@@ -48,7 +48,7 @@ cons_same x y e = ap (λ ws. slice_index ws 0) e
 
 -- two placings of one leaf over the same words
 module _ (leaf : Leaf) (flat : IsFlat leaf) (ws : List ℕ) (m : Memory) (clean : Bool) (subs subs' : List ℕ → List ℕ) (ats ats' : ℕ → ℕ)
-    (p : Placed leaf ws m clean subs ats) (p' : Placed leaf ws m clean subs' ats') where
+    (p : LeafStands leaf ws m clean subs ats) (p' : LeafStands leaf ws m clean subs' ats') where
   abbrev SameAt : Option ℕ → Type 0
   SameAt None = Unit {0}
   SameAt (Some b) = ats b ≡ ats' b
@@ -168,7 +168,7 @@ module _ (types : List DataDecl) (layouts : List Layout) (m : Memory) (clean : B
       let d' = o'.made in
       let leaf = two t v v' ws (record { made = d; below = below }) o' in
       let is_flat = lawful.flat t d.layout d.number d.leaf d.is_layout d.is_number in
-      let p' : Placed d.leaf ws m clean d'.subs d'.ats = subst (λ (x : Leaf). Placed x ws m clean d'.subs d'.ats) leaf d'.placed in
+      let p' : LeafStands d.leaf ws m clean d'.subs d'.ats = subst (λ (x : Leaf). LeafStands x ws m clean d'.subs d'.ats) leaf d'.placed in
       let at' : (k : ℕ) (q : Open) → slice_get (open_positions types d.leaf.prov) k ≡ Some q → slice_get (open_positions types d'.leaf.prov) k ≡ Some q
       = λ k q e. ap (λ (x : Leaf). slice_get (open_positions types x.prov) k) leaf ∙ e in
       let root = ap (λ (ty : Ty). opens_of types d.leaf.prov ty) (sym (lawful.provenances.root t d.layout d.number d.leaf d.is_layout d.is_number)) in

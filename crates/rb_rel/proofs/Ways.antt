@@ -12,7 +12,7 @@ use Rattle.rb_layout.specs.declared.layout.Kind.{Kind}
 use Rattle.rb_layout.specs.declared.layout.Kind.TheVariants.{Pointer}
 use Rattle.rb_layout.specs.declared.layout.WordRef.{WordRef}
 use Rattle.rb_layout.specs.Words.{words_in, flat_at, begins_at}
-use Rattle.rb_layout.specs.Locations.{Reached, or_else, pointed_by, pointed_in, block_in, block_at, word_beginning, ref_in, next_ref, range_in, resolve_from}
+use Rattle.rb_layout.specs.Locations.{Reached, or_else, pointed_by, pointed_in, block_in, pointer_block, word_beginning, ref_in, next_ref, range_in, resolve_from}
 use Rattle.rb_rel.specs.Reading.{LeadsTo, through}
 use Rattle.rb_rel.proofs.Parts.{IsTidyLeaf}
 use Rattle.rb_rel.proofs.Reading.{chosen, block_in-is, word_beginning-is}
@@ -89,8 +89,8 @@ module _ (leaf : Leaf) where
       go (Some f) is h =
           let c = chosen (leb 1 l && leb (o + l) f.width) (record { ref = r; word = f; o = o; l = l }) x h in
           subst (λ (z : Reached). (flat_at leaf z.ref ≡ Some z.word) × (resolve_from leaf (Some r) o l (s ∷ []) ≡ resolve_from leaf (next_ref leaf (block_in z.word.parts z.o z.l s.align) s) s.o s.l [])) c.1
-          (is, ap (λ y. resolve_from leaf (next_ref leaf (block_at y o l s.align) s) s.o s.l []) is)
-  resolve_more (t ∷ steps) (Some r) o l s x e = resolve_more steps (next_ref leaf (block_at (flat_at leaf r) o l t.align) t) t.o t.l s x e
+          (is, ap (λ y. resolve_from leaf (next_ref leaf (pointer_block y o l s.align) s) s.o s.l []) is)
+  resolve_more (t ∷ steps) (Some r) o l s x e = resolve_more steps (next_ref leaf (pointer_block (flat_at leaf r) o l t.align) t) t.o t.l s x e
 
   module _ (tidy : IsTidyLeaf leaf) where
     -- a part of a root word

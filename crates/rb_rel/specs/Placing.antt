@@ -33,14 +33,14 @@ leaf_in None v = None
 leaf_in (Some layout) v = leaf_numbered layout.leaves (leaf_of layout v)
 
 -- the requests for the blocks of a leaf that may be missing, in the order of their numbers; none where it is
-abbrev pub blocks_in : Option Leaf → List Request
-blocks_in None = []
-blocks_in (Some leaf) = map request_of leaf.blocks
+abbrev pub leaf_requests : Option Leaf → List Request
+leaf_requests None = []
+leaf_requests (Some leaf) = map request_of leaf.blocks
 
 -- the blocks of a value of data type t, as requests: those of its leaf, by number, which is inner before outer; those
 -- of its subvalues are not among them, and there are none where it has no leaf
 abbrev pub blocks_of : List Layout → ℕ → Value → List Request
-blocks_of layouts t v = blocks_in (leaf_in (layout_of layouts t) v)
+blocks_of layouts t v = leaf_requests (leaf_in (layout_of layouts t) v)
 
 -- what one event asks for: a construction the blocks of the value's leaf, a match nothing
 abbrev pub requests_at : List Layout → Event → List Request
@@ -59,9 +59,9 @@ pub data Laid : Type 0 where
   Over : Full → Laid
 
 -- a block, with its address and size, before those that are placed after it; what does not fit stays so
-abbrev pub behind : ℕ × ℕ → Laid → Laid
-behind block (Fits blocks next) = Fits (block ∷ blocks) next
-behind block (Over full) = Over full
+abbrev pub block_before : ℕ × ℕ → Laid → Laid
+block_before block (Fits blocks next) = Fits (block ∷ blocks) next
+block_before block (Over full) = Over full
 
 -- The requests one after the other, where `next` is the next free address: each at the least multiple of its
 -- alignment from there on, and the next address behind it. The first that would end beyond `limit` does not fit:
@@ -72,5 +72,5 @@ lay limit next [] = Fits [] next
 lay limit next (r ∷ rs) =
     let a = aligned next r.align in
     if leb (a + r.size) limit
-    then behind (a, r.size) (lay limit (a + r.size) rs)
+    then block_before (a, r.size) (lay limit (a + r.size) rs)
     else Over (record { next = next; size = r.size; align = r.align; limit = limit })

@@ -25,9 +25,9 @@ use Rattle.rb_layout.specs.Splits.{Under}
 use Rattle.rb_rel.specs.Relation.{IsFound, WordHolds}
 
 -- what follows a load: it goes on with the word that is loaded, and comes to None where the load traps
-abbrev pub after : Result ℕ Trap → (ℕ → Option ℕ) → Option ℕ
-after (Ok w) go = go w
-after (Err t) go = None
+abbrev pub on_loaded : Result ℕ Trap → (ℕ → Option ℕ) → Option ℕ
+on_loaded (Ok w) go = go w
+on_loaded (Err t) go = None
 
 -- The bits to which steps lead from the range [o:l] of word w: each step loads from the block at the address that the
 -- bits so far are, and without a step left the bits of the range are read. None where a load goes astray or meets an
@@ -35,7 +35,7 @@ after (Err t) go = None
 abbrev pub read_from : Memory → ℕ → ℕ → ℕ → List Step → Option ℕ
 read_from m w o l [] = Some (take_of w o l)
 read_from m w o l (s ∷ steps) =
-    after (load_of m (take_of w o l * s.align) s.byte s.width) (λ x. read_from m x s.o s.l steps)
+    on_loaded (load_of m (take_of w o l * s.align) s.byte s.width) (λ x. read_from m x s.o s.l steps)
 
 -- the bits at a location, given the root word that it names; None where there is no such word
 abbrev pub read_first : Memory → Option ℕ → Loc → Option ℕ

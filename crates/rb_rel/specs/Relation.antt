@@ -63,7 +63,7 @@ IsFound (Some b) fs f j ws ats m w = load_of m (ats b) (begins_at fs j) f.width 
 -- The words of a leaf as they stand. There are as many root words as the leaf has; the memory has a block of exactly
 -- the size of each of the leaf's blocks, at its address; and each word of the root and of the blocks is there and
 -- holds.
-pub record Placed (leaf : Leaf) (ws : List ℕ) (m : Memory) (clean : Bool) (subs : List ℕ → List ℕ)
+pub record LeafStands (leaf : Leaf) (ws : List ℕ) (m : Memory) (clean : Bool) (subs : List ℕ → List ℕ)
     (ats : ℕ → ℕ) : Type 0 where
   pub count : length ws ≡ length leaf.root
   pub blocks : (b : ℕ) (block : Block) → slice_get leaf.blocks b ≡ Some block
@@ -90,7 +90,7 @@ pub record Made (types : List DataDecl) (layouts : List Layout) (m : Memory) (cl
   pub at : List ℕ → Value
   pub is_at : (k : ℕ) (o : Open) → slice_get (open_positions types leaf.prov) k ≡ Some o
       → part_at v o.path ≡ Some (at o.path)
-  pub placed : Placed leaf ws m clean subs ats
+  pub placed : LeafStands leaf ws m clean subs ats
 
 -- The words represent the value at its type in the memory, cleanly where the flag is up: the least relation.
 -- `number`: an integer is one word, with no more bits than its type. `built`: a value of a data type has words of

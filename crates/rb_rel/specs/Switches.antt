@@ -62,39 +62,39 @@ depth_of layouts (Named t) = depth_in (layout_of layouts t)
 -- Constructors of provenances ----------------------------------------------------------------
 
 -- a constructor of a pattern, and its position: the path of field numbers that leads to it from the root
-pub record Head : Type 0 where
+pub record HeadAt : Type 0 where
   pub path : List ℕ
   pub con : ConRef
 
 -- a constructor in the subpattern for field i, with its position in the pattern around it
-abbrev pub head_below : ℕ → Head → Head
+abbrev pub head_below : ℕ → HeadAt → HeadAt
 head_below i h = record { path = i ∷ h.path; con = h.con }
 
 -- the constructors of subpatterns, of which the first is that for field i, with their positions in the pattern around
 -- them
-abbrev pub heads_below : List (List Head) → ℕ → List Head
+abbrev pub heads_below : List (List HeadAt) → ℕ → List HeadAt
 heads_below [] i = []
 heads_below (hs ∷ hss) i = map (head_below i) hs ++ heads_below hss (i + 1)
 
 -- the constructors of one layer of a pattern, where those of its subpatterns are given: a constructor at the empty
 -- path, and then theirs; wildcards, variables and numbers have none
-abbrev pub heads_step : Pat-F (List Head) → List Head
+abbrev pub heads_step : Pat-F (List HeadAt) → List HeadAt
 heads_step (P.Wild at) = []
 heads_step (P.Var at x) = []
 heads_step (P.Num at n) = []
 heads_step (P.Con at c hss) = record { path = []; con = c } ∷ heads_below hss 0
 
 -- the constructors of a pattern with their positions, that of its root first and then from left to right
-abbrev pub heads_of : Pat → List Head
-heads_of = fold-Pat (List Head) heads_step
+abbrev pub heads_of : Pat → List HeadAt
+heads_of = fold-Pat (List HeadAt) heads_step
 
 -- the constructors below the root of a leaf's provenance, with their positions: what the leaf takes apart; none where
 -- the root is no constructor
-abbrev pub inner_heads : Leaf → List Head
+abbrev pub inner_heads : Leaf → List HeadAt
 inner_heads leaf = drop 1 (heads_of leaf.prov)
 
 -- the first of these constructors has number k in its type; not so where there is none
-abbrev pub begins_with : ℕ → List Head → Bool
+abbrev pub begins_with : ℕ → List HeadAt → Bool
 begins_with k [] = false
 begins_with k (h ∷ hs) = h.con.con == k
 
@@ -103,17 +103,17 @@ abbrev pub is_leaf_for : ℕ → Leaf → Bool
 is_leaf_for k leaf = begins_with k (heads_of leaf.prov)
 
 -- two constructors stand at the same position and are of the same type
-abbrev pub same_place : Head → Head → Bool
+abbrev pub same_place : HeadAt → HeadAt → Bool
 same_place a b = same_path a.path b.path && (a.con.ty == b.con.ty)
 
 -- of these constructors, the first at each position for each type
-abbrev pub distinct_places : List Head → List Head
+abbrev pub distinct_places : List HeadAt → List HeadAt
 distinct_places [] = []
 distinct_places (h ∷ hs) = h ∷ filter (λ other. not (same_place h other)) (distinct_places hs)
 
 -- the places below the root at which some leaf of type t, for values of constructor k, has a constructor in its
 -- provenance, each once with the type there
-abbrev pub places_of : List Layout → ℕ → ℕ → List Head
+abbrev pub places_of : List Layout → ℕ → ℕ → List HeadAt
 places_of layouts t k =
     distinct_places (flat_map inner_heads (filter (is_leaf_for k) (leaves_of_layout (layout_of layouts t))))
 
@@ -124,12 +124,12 @@ places_of layouts t k =
 -- of the value there and those that mend that value; 0 where no leaf for it takes anything apart.
 abbrev pub choose_with : (ℕ → ℕ) → List Layout → ℕ → ℕ → ℕ
 choose_with mend layouts t k =
-    sum_by (λ (h : Head). depth_of layouts (Named h.con.ty) + mend h.con.ty) (places_of layouts t k)
+    sum_by (λ (h : HeadAt). depth_of layouts (Named h.con.ty) + mend h.con.ty) (places_of layouts t k)
 
 -- the switches that rebuild what a leaf has taken apart, where the switches of choosing are given for the
 -- constructors of each type: their sum over the constructors below the root of its provenance
 abbrev pub mend_leaf : (ℕ → ℕ → ℕ) → Leaf → ℕ
-mend_leaf choose leaf = sum_by (λ (h : Head). choose h.con.ty h.con.con) (inner_heads leaf)
+mend_leaf choose leaf = sum_by (λ (h : HeadAt). choose h.con.ty h.con.con) (inner_heads leaf)
 
 -- The switches of mending for type t, counted through at most `n` types that are flattened into one another: in the
 -- leaf where it takes most, and 0 where n is 0 or the type has no layout.

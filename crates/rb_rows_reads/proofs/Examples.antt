@@ -9,18 +9,18 @@ use Rattle.rb_target.specs.declared.instr.Instr.{Instr}
 use Rattle.rb_target.specs.declared.instr.Instr.TheVariants.{Const, Alu, Take, Load, Jump, Switch, Return}
 use Rattle.rb_target.specs.declared.instr.SwitchArm.{SwitchArm}
 use Rattle.rb_target.specs.declared.code.CodeFun.{CodeFun}
-use Rattle.rb_target.specs.Meaning.{Outcome, over, from, enter, run_of}
+use Rattle.rb_target.specs.Meaning.{CallEnd, over, from, enter, run_of}
 use Rattle.rb_rel.proofs.Examples.{low, byte4, byte8, list_image, tree_image}
 
 abbrev arm : ℕ → ℕ → SwitchArm
 arm number target = record { number = number; target = target }
 
 -- a function of one word that gives so many words, called once
-abbrev run : ℕ → ℕ → List Instr → ℕ → Memory → Outcome
+abbrev run : ℕ → ℕ → List Instr → ℕ → Memory → CallEnd
 run results slots body word m = run_of (record { name = []; params = 1; results = results; slots = slots; body = body } ∷ []) 1 0 (word ∷ []) m
 
 -- words are returned, and the memory is as it was
-abbrev gives : List ℕ → ℕ → ℕ → Memory → Outcome
+abbrev gives : List ℕ → ℕ → ℕ → Memory → CallEnd
 gives words switches taken m = over (Returned words 0) (record { left = 0; memory = m; switches = switches; taken = taken })
 
 -- A list whose tag is the low bit of its pointer ------------------------------------------------

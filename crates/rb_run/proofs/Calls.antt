@@ -29,19 +29,19 @@ use Rattle.rb_machine.specs.Runs.{IsNotTrapped, params_in}
 use Rattle.rb_target.specs.declared.code.CodeFun.{CodeFun}
 use Rattle.rb_target.specs.declared.outcome.End.{End}
 use Rattle.rb_target.specs.declared.outcome.End.TheVariants as target
-use Rattle.rb_target.specs.Meaning.{Outcome, run_of}
+use Rattle.rb_target.specs.Meaning.{CallEnd, run_of}
 use Rattle.rb_rel.specs.Placing.{Laid, Fits, Over, Request, lay, requests_at, requests_of}
 use Rattle.rb_rel.specs.Answers.{all_makings}
 use Rattle.rb_rel.specs.Relation.{Represent}
 use Rattle.rb_rel.proofs.Lists.{got}
-use Rattle.rb_fragment.specs.Plan.{Plan, Reps, types_of, words_in, words_of}
+use Rattle.rb_fragment.specs.Plan.{Plan, Reps, types_of, words_needed_by, words_needed}
 use Rattle.rb_fragment.proofs.Laying.{all_behind, lay-append, then_lay}
 use Rattle.rb_fragment.proofs.Represented.{Rep-count}
 use Rattle.rb_compile.specs.Plans.{plan_of}
 use Rattle.rb_compile.specs.Refining.{EndsAs, Refines}
 use Rattle.rb_run.specs.Calling.{CountsAs, HoldArguments, IsCalled, IsCounted, end_over, laid_arguments, laid_call, making_arguments}
 
-module _ (plan : Plan) (clean : Bool) (t : Ty) (run : Outcome) where
+module _ (plan : Plan) (clean : Bool) (t : Ty) (run : CallEnd) where
   -- blocks that stand before others do not change how a run ends
   ends_behind : (m m1 : Memory) (bs : List (ℕ × ℕ)) (p : ℕ) → Grown m m1 bs p → (l : Laid) (e : SourceEnd) → EndsAs plan clean t m1 l e run → EndsAs plan clean t m (all_behind bs l) e run
   ends_behind m m1 bs p g (Over full) e h = h
@@ -73,14 +73,14 @@ requests-append layouts [] b = refl
 requests-append layouts (v ∷ a) b =
     ap (λ l. requests_at layouts v ++ l) (requests-append layouts a b) ∙ sym (append_assoc (requests_at layouts v) (requests_of layouts a) (requests_of layouts b))
 
-words_length : (plan : Plan) (clean : Bool) (m : Memory) (ts : List Ty) (vs : List Value) (ws : List ℕ) → Reps plan m clean ts vs ws → length ws ≡ words_in plan ts
+words_length : (plan : Plan) (clean : Bool) (m : Memory) (ts : List Ty) (vs : List Value) (ws : List ℕ) → Reps plan m clean ts vs ws → length ws ≡ words_needed_by plan ts
 words_length plan clean m [] [] ws r = ap length r
 words_length plan clean m [] (v ∷ vs) ws r = absurd r
 words_length plan clean m (t ∷ ts) [] ws r = absurd r
 words_length plan clean m (t ∷ ts) (v ∷ vs) ws r =
-    let first : length r.0 ≡ words_of plan t = Rep-count plan clean m r.3 in
+    let first : length r.0 ≡ words_needed plan t = Rep-count plan clean m r.3 in
     let rest = words_length plan clean m ts vs r.1 r.4 in
-    ap length r.2 ∙ length-append r.0 r.1 ∙ ap (λ n. n + length r.1) first ∙ ap (λ n. words_of plan t + n) rest
+    ap length r.2 ∙ length-append r.0 r.1 ∙ ap (λ n. n + length r.1) first ∙ ap (λ n. words_needed plan t + n) rest
 
 below : (a b : ℕ) → nat_lt a b ≡ true → a < b
 below a b e = grind (arith, nat_tests, e)
@@ -153,7 +153,7 @@ module _ (agreed : LaidOut) (code : List CodeFun) (r : Refines (plan_of agreed) 
 
   -- they fit, and their words are there
   module _ (m : Memory) (ws : List ℕ) (e : Encoded agreed args old m ws) where
-    abbrev run : Outcome
+    abbrev run : CallEnd
     run = run_of code calls p.main ws m
 
     reps_of_main : Reps (plan_of agreed) m true (types_of main_at.0) args ws

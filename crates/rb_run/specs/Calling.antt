@@ -16,7 +16,7 @@ use Rattle.rb_layout.specs.declared.agreed.LaidOut.{LaidOut}
 use Rattle.rb_target.specs.declared.code.CodeFun.{CodeFun}
 use Rattle.rb_target.specs.declared.outcome.End.{End}
 use Rattle.rb_target.specs.declared.outcome.End.TheVariants.{Returned}
-use Rattle.rb_target.specs.Meaning.{Outcome, over, run_of}
+use Rattle.rb_target.specs.Meaning.{CallEnd, over, run_of}
 use Rattle.rb_rel.specs.Answers.{all_makings}
 use Rattle.rb_rel.specs.Placing.{Laid, Fits, Over, lay, requests_of}
 use Rattle.rb_coding.specs.Encoding.{StandApart}
@@ -34,7 +34,7 @@ laid_call agreed args calls m =
     lay m.limit m.next (requests_of agreed.layouts (making_arguments p args ++ (call_of p p.main calls args).log))
 
 -- an outcome with this end and this memory, and nothing counted
-abbrev pub end_over : End → Memory → Outcome
+abbrev pub end_over : End → Memory → CallEnd
 end_over end m = over end (record { left = 0; memory = m; switches = 0; taken = 0 })
 
 -- the blocks that the arguments of `main` ask for, laid in a memory: where they end up, or the first that does not

@@ -11,7 +11,7 @@ use Rattle.rb_layout.specs.declared.layout.Part.{Part}
 use Rattle.rb_layout.specs.A3.{IsIn}
 use Rattle.rb_layout.specs.FreeBits.{IsFree}
 use Rattle.rb_show.specs.Laws.{IsMaximal, FreeAreMaximal}
-use Rattle.rb_show.specs.Pieces.{Piece, Held, Free, holds_bit, is_free, begins_free, free_bits, held_at, free_at, pieces_at, pieces_of}
+use Rattle.rb_show.specs.Pieces.{WordPiece, Held, Free, holds_bit, is_free, begins_free, free_bits, held_at, free_at, pieces_at, pieces_of}
 use Rattle.rb_show.proofs.Listed.{in_bits, bit_in, all_flat, first_or_later}
 use Rattle.rb_show.proofs.Words.{free-more, free-stops}
 
@@ -119,7 +119,7 @@ module _ (word : FlatWord) where
 
   -- Shown ranges ----------------------------------------------------------------------------
 
-  abbrev IsHeld : Piece → Type 0
+  abbrev IsHeld : WordPiece → Type 0
   IsHeld (Held p) = Unit {0}
   IsHeld (Free o l) = ⊥
 
@@ -130,18 +130,18 @@ module _ (word : FlatWord) where
   parts_held : (i : ℕ) → All IsHeld (flat_map (held_at i) word.parts)
   parts_held i = all_flat IsHeld (held_at i) (λ p. held_one p (p.o == i)) word.parts
 
-  abbrev IsRangeAt : ℕ → Piece → Type 0
+  abbrev IsRangeAt : ℕ → WordPiece → Type 0
   IsRangeAt i x = (begins_free word i ≡ true) × (x ≡ Free i (free_bits word i (word.width - i)))
 
   range_one : (i : ℕ) (b : Bool) → begins_free word i ≡ b → All (IsRangeAt i) (if b then Free i (free_bits word i (word.width - i)) ∷ [] else [])
   range_one i true e = let r = Free i (free_bits word i (word.width - i)) in All-cons (IsRangeAt i) r [] (e, refl) (All-nil (IsRangeAt i))
   range_one i false e = All-nil (IsRangeAt i)
 
-  abbrev low : Piece → ℕ
+  abbrev low : WordPiece → ℕ
   low (Held p) = 0
   low (Free o l) = o
 
-  abbrev many : Piece → ℕ
+  abbrev many : WordPiece → ℕ
   many (Held p) = 0
   many (Free o l) = l
 

@@ -11,7 +11,7 @@ use Rattle.rb_layout.specs.declared.layout.FlatTree.{FlatTree}
 use Rattle.rb_layout.specs.declared.layout.FlatTree as T
 use Rattle.rb_layout.specs.declared.layout.FlatTree.TheFolds.{fold_out-FlatArm}
 use Rattle.rb_layout.specs.declared.layout.Leaf.{Leaf}
-use Rattle.rb_layout.specs.Splits.{Test, Is, IsNone, Route, behind, Under, arm_routes, literals_of, routes_step, routes_arm, routes_of, routes_under}
+use Rattle.rb_layout.specs.Splits.{Test, Is, IsNone, Route, under_test, Under, arm_routes, literals_of, routes_step, routes_arm, routes_of, routes_under}
 use Rattle.rb_layout.proofs.FlatForms as F
 use Rattle.rb_show.specs.Lines.{condition_line, route_lines}
 use Rattle.rb_show.specs.inner.Ways.{literals_in, way, way_behind, way_lines, ways_behind}
@@ -35,17 +35,17 @@ literals-are [] = refl
 literals-are (a ∷ arms) = ap (λ (u : Under (List Route)). u.literal ∷ literals_of (map routes_under arms)) (routes-arm a) ∙ ap (λ ls. a.literal ∷ ls) (literals-are arms)
 
 pub routes-Split-else : (loc : Loc) (arms : List FlatArm) (other : FlatTree)
-    → routes_of (T.Split loc arms (Some other)) ≡ arms_routes loc arms ++ map (behind (IsNone loc (literals_in arms))) (routes_of other)
+    → routes_of (T.Split loc arms (Some other)) ≡ arms_routes loc arms ++ map (under_test (IsNone loc (literals_in arms))) (routes_of other)
 routes-Split-else loc arms other =
     F.fold-Split-else (List Route) (Under (List Route)) routes_step routes_arm loc arms other
-    ∙ ap (λ ls. arms_routes loc arms ++ map (behind (IsNone loc ls)) (routes_of other)) (literals-are arms)
+    ∙ ap (λ ls. arms_routes loc arms ++ map (under_test (IsNone loc ls)) (routes_of other)) (literals-are arms)
 
 -- the outermost test's line stands behind those above it
-pub ways-behind : (above : List ℕ) (t : Test) (rs : List Route) → ways_behind (above ++ condition_line t) rs ≡ ways_behind above (map (behind t) rs)
+pub ways-behind : (above : List ℕ) (t : Test) (rs : List Route) → ways_behind (above ++ condition_line t) rs ≡ ways_behind above (map (under_test t) rs)
 ways-behind above t [] = refl
 ways-behind above t (r ∷ rs) =
     ap (λ (l : List ℕ). way r.leaf l ∷ ways_behind (above ++ condition_line t) rs) (append_assoc above (condition_line t) (flat_map condition_line r.tests))
-    ∙ ap (λ ws. way_behind above (behind t r) ∷ ws) (ways-behind above t rs)
+    ∙ ap (λ ws. way_behind above (under_test t r) ∷ ws) (ways-behind above t rs)
 
 pub one_way : (tree : FlatTree) (n : ℕ) (above : List ℕ) (start : List Way) → tree ≡ T.Leaf n → start ++ way n above ∷ [] ≡ start ++ ways_behind above (routes_of tree)
 one_way tree n above start is =
@@ -63,7 +63,7 @@ pub with_else : (tree : FlatTree) (loc : Loc) (arms : List FlatArm) (other : Fla
 with_else tree loc arms other above below start middle after is e0 e1 e2 =
     let t = IsNone loc (literals_in arms) in
     let first = arms_routes loc arms in
-    let rest = map (behind t) (routes_of other) in
+    let rest = map (under_test t) (routes_of other) in
     appended start (ways_behind above first) (ways_behind above (first ++ rest)) (ways_behind above rest) middle after e0
     (e2 ∙ ap (λ b. middle ++ ways_behind b (routes_of other)) e1 ∙ ap (λ ws. middle ++ ws) (ways-behind above t (routes_of other)))
     (map-append (way_behind above) first rest)

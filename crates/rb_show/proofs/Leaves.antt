@@ -13,8 +13,8 @@ use Rattle.rb_core.specs.declared.layout_decl.LayTree.{LayTree, Split, Leaf}
 use Rattle.rb_core.specs.Layouts.{leaves}
 use Rattle.rb_layout.specs.declared.layout.FlatArm.{FlatArm}
 use Rattle.rb_layout.specs.declared.layout.Layout.{Layout}
-use Rattle.rb_layout.specs.Flattening.{Numbering, arms_count, arms_from, tree_step, arm_step, numbering, arm_numbering, flat_leaf, flat_layout}
-use Rattle.rb_layout.specs.Splits.{Test, Is, IsNone, Route, behind, Under, arm_routes, routes_of, routes_under}
+use Rattle.rb_layout.specs.Flattening.{LeafNumbering, arms_count, arms_from, tree_step, arm_step, numbering, arm_numbering, flat_leaf, flat_layout}
+use Rattle.rb_layout.specs.Splits.{Test, Is, IsNone, Route, under_test, Under, arm_routes, routes_of, routes_under}
 use Rattle.rb_layout.proofs.FlatForms.{Each}
 use Rattle.rb_layout.proofs.FlatLaws.{layout_is_form}
 use Rattle.rb_layout.proofs.TreeLemmas.{arm_numbering-is, count-is}
@@ -33,7 +33,7 @@ numbers-append : (rs ss : List Route) → numbers (rs ++ ss) ≡ numbers rs ++ n
 numbers-append rs ss = map-append leaf_of rs ss
 
 -- a test in front changes no number
-numbers-behind : (t : Test) (rs : List Route) → numbers (map (behind t) rs) ≡ numbers rs
+numbers-behind : (t : Test) (rs : List Route) → numbers (map (under_test t) rs) ≡ numbers rs
 numbers-behind t [] = refl
 numbers-behind t (r ∷ rs) = ap (λ ns. r.leaf ∷ ns) (numbers-behind t rs)
 
@@ -56,10 +56,10 @@ arms_counted loc (a ∷ arms) each n =
     let us = map arm_numbering arms in
     let x : FlatArm = record { literal = u.literal; under = u.of.from n } in
     let rest = arms_routes loc (arms_from us (n + u.of.count)) in
-    let more : u.of.count + arms_count us ≡ arms_count (u ∷ us) = sym (sum_by-cons (λ (arm : Under Numbering). arm.of.count) u us) in
+    let more : u.of.count + arms_count us ≡ arms_count (u ∷ us) = sym (sum_by-cons (λ (arm : Under LeafNumbering). arm.of.count) u us) in
     let here : numbers (routes_under x).of ≡ range_with_len n u.of.count
-    = ap (λ (q : Under (List Route)). numbers q.of) (routes-arm x) ∙ ap (λ (q : Under Numbering). numbers (routes_of (q.of.from n))) (arm_numbering-is a)
-    ∙ each.0 n ∙ ap (λ (q : Under Numbering). range_with_len n q.of.count) (sym (arm_numbering-is a)) in
+    = ap (λ (q : Under (List Route)). numbers q.of) (routes-arm x) ∙ ap (λ (q : Under LeafNumbering). numbers (routes_of (q.of.from n))) (arm_numbering-is a)
+    ∙ each.0 n ∙ ap (λ (q : Under LeafNumbering). range_with_len n q.of.count) (sym (arm_numbering-is a)) in
     numbers-append (arm_routes loc (routes_under x)) rest
     ∙ ap (λ ns. ns ++ numbers rest) (numbers-behind (Is loc (routes_under x).literal) (routes_under x).of ∙ here)
     ∙ ap (λ ns. range_with_len n u.of.count ++ ns) (arms_counted loc arms each.1 (n + u.of.count))
@@ -68,30 +68,30 @@ arms_counted loc (a ∷ arms) each n =
 
 leaf_counted : (at : ℕ) (prov : Pat) (items : List LayItem) → AreCounted (Leaf at prov items)
 leaf_counted at prov items n =
-    let e = D.fold-Leaf Numbering (Under Numbering) tree_step arm_step at prov items in
-    ap (λ (q : Numbering). numbers (routes_of (q.from n))) e ∙ ap numbers (routes-Leaf n) ∙ ap (λ (q : Numbering). range_with_len n q.count) (sym e)
+    let e = D.fold-Leaf LeafNumbering (Under LeafNumbering) tree_step arm_step at prov items in
+    ap (λ (q : LeafNumbering). numbers (routes_of (q.from n))) e ∙ ap numbers (routes-Leaf n) ∙ ap (λ (q : LeafNumbering). range_with_len n q.count) (sym e)
 
 split_counted : (loc : Loc) (arms : List Arm) → Each (λ (a : Arm). AreCounted a.under) arms → AreCounted (Split loc arms None)
 split_counted loc arms each n =
-    let e = D.fold-Split Numbering (Under Numbering) tree_step arm_step loc arms in
+    let e = D.fold-Split LeafNumbering (Under LeafNumbering) tree_step arm_step loc arms in
     let us = map arm_numbering arms in
     let z : arms_count us ≡ arms_count us + 0 = omega arith in
-    ap (λ (q : Numbering). numbers (routes_of (q.from n))) e ∙ ap numbers (routes-Split loc (arms_from us n)) ∙ arms_counted loc arms each n
-    ∙ ap (λ k. range_with_len n k) z ∙ ap (λ (q : Numbering). range_with_len n q.count) (sym e)
+    ap (λ (q : LeafNumbering). numbers (routes_of (q.from n))) e ∙ ap numbers (routes-Split loc (arms_from us n)) ∙ arms_counted loc arms each n
+    ∙ ap (λ k. range_with_len n k) z ∙ ap (λ (q : LeafNumbering). range_with_len n q.count) (sym e)
 
 else_counted : (loc : Loc) (arms : List Arm) (other : LayTree) → Each (λ (a : Arm). AreCounted a.under) arms → AreCounted other → AreCounted (Split loc arms (Some other))
 else_counted loc arms other each o n =
-    let e = D.fold-Split-else Numbering (Under Numbering) tree_step arm_step loc arms other in
+    let e = D.fold-Split-else LeafNumbering (Under LeafNumbering) tree_step arm_step loc arms other in
     let us = map arm_numbering arms in
     let fs = arms_from us n in
     let below = routes_of ((numbering other).from (n + arms_count us)) in
     let t = IsNone loc (literals_in fs) in
-    ap (λ (q : Numbering). numbers (routes_of (q.from n))) e ∙ ap numbers (routes-Split-else loc fs ((numbering other).from (n + arms_count us)))
-    ∙ numbers-append (arms_routes loc fs) (map (behind t) below)
-    ∙ ap (λ ns. ns ++ numbers (map (behind t) below)) (arms_counted loc arms each n)
+    ap (λ (q : LeafNumbering). numbers (routes_of (q.from n))) e ∙ ap numbers (routes-Split-else loc fs ((numbering other).from (n + arms_count us)))
+    ∙ numbers-append (arms_routes loc fs) (map (under_test t) below)
+    ∙ ap (λ ns. ns ++ numbers (map (under_test t) below)) (arms_counted loc arms each n)
     ∙ ap (λ ns. range_with_len n (arms_count us) ++ ns) (numbers-behind t below ∙ o (n + arms_count us))
     ∙ range-append n (arms_count us) (numbering other).count
-    ∙ ap (λ (q : Numbering). range_with_len n q.count) (sym e)
+    ∙ ap (λ (q : LeafNumbering). range_with_len n q.count) (sym e)
 
 counted : (tree : LayTree) → AreCounted tree
 counted = D.tree-induction AreCounted (record { split = split_counted; split_else = else_counted; leaf = leaf_counted })

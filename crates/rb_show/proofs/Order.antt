@@ -9,34 +9,34 @@ use Rattle.rb_layout.specs.declared.layout.Part.{Part}
 use Rattle.rb_layout.specs.FreeBits.{IsFree}
 use Rattle.rb_show.specs.Laws.{first_bit, FreeAreApart, IsMaximal, PiecesAscend}
 use Rattle.rb_show.proofs.FreeRanges.{free_are_maximal}
-use Rattle.rb_show.specs.Pieces.{Piece, Held, Free, begins_free, free_bits, held_at, free_at, pieces_at, pieces_of}
+use Rattle.rb_show.specs.Pieces.{WordPiece, Held, Free, begins_free, free_bits, held_at, free_at, pieces_at, pieces_of}
 
 -- the least bit at which what stands behind it begins: a free range stands last at its bit
-abbrev next : Piece → ℕ
+abbrev next : WordPiece → ℕ
 next (Held p) = p.o
 next (Free o l) = o + 1
 
 -- each begins no lower than the one before it leaves, and the first no lower than bit lo
-abbrev Ascend : ℕ → List Piece → Type 0
+abbrev Ascend : ℕ → List WordPiece → Type 0
 Ascend lo [] = Unit {0}
 Ascend lo (x ∷ xs) = (lo ≤ first_bit x) × Ascend (next x) xs
 
-ascend-from : (lo hi : ℕ) (xs : List Piece) → lo ≤ hi → Ascend hi xs → Ascend lo xs
+ascend-from : (lo hi : ℕ) (xs : List WordPiece) → lo ≤ hi → Ascend hi xs → Ascend lo xs
 ascend-from lo hi [] le a = tt
 ascend-from lo hi (x ∷ xs) le a = let h = a.0 in (omega (arith, le, h), a.1)
 
 -- the parts at bit i
-held-append : (i : ℕ) (p : Part) (b : Bool) (ys : List Piece) → (p.o == i) ≡ b → Ascend i ys → Ascend i ((if b then Held p ∷ [] else []) ++ ys)
+held-append : (i : ℕ) (p : Part) (b : Bool) (ys : List WordPiece) → (p.o == i) ≡ b → Ascend i ys → Ascend i ((if b then Held p ∷ [] else []) ++ ys)
 held-append i p true ys e a = let same = eqb-true p.o i e in (omega (arith, same), subst (λ j. Ascend j ys) (sym same) a)
 held-append i p false ys e a = a
 
-parts-append : (i : ℕ) (ps : List Part) (ys : List Piece) → Ascend i ys → Ascend i (flat_map (held_at i) ps ++ ys)
+parts-append : (i : ℕ) (ps : List Part) (ys : List WordPiece) → Ascend i ys → Ascend i (flat_map (held_at i) ps ++ ys)
 parts-append i [] ys a = a
 parts-append i (p ∷ ps) ys a =
     subst (Ascend i) (sym (append_assoc (held_at i p) (flat_map (held_at i) ps) ys))
     (held-append i p (p.o == i) (flat_map (held_at i) ps ++ ys) refl (parts-append i ps ys a))
 
-free-append : (i n : ℕ) (b : Bool) (ys : List Piece) → Ascend (i + 1) ys → Ascend i ((if b then Free i n ∷ [] else []) ++ ys)
+free-append : (i n : ℕ) (b : Bool) (ys : List WordPiece) → Ascend (i + 1) ys → Ascend i ((if b then Free i n ∷ [] else []) ++ ys)
 free-append i n true ys a = (omega arith, a)
 free-append i n false ys a = ascend-from i (i + 1) ys (omega arith) a
 
@@ -48,16 +48,16 @@ bits_ascend word a (suc n) =
     (parts-append a word.parts (free_at word a ++ rest)
     (free-append a (free_bits word a (word.width - a)) (begins_free word a) rest (bits_ascend word (a + 1) n)))
 
-goes_on : (x : Piece) → first_bit x ≤ next x
+goes_on : (x : WordPiece) → first_bit x ≤ next x
 goes_on (Held p) = omega arith
 goes_on (Free o l) = omega arith
 
-no_lower : (lo : ℕ) (xs : List Piece) → Ascend lo xs → (k : ℕ) (b : Piece) → slice_get xs k ≡ Some b → lo ≤ first_bit b
+no_lower : (lo : ℕ) (xs : List WordPiece) → Ascend lo xs → (k : ℕ) (b : WordPiece) → slice_get xs k ≡ Some b → lo ≤ first_bit b
 no_lower lo [] a k b e = absurd cc
 no_lower lo (x ∷ xs) a zero b e = subst (λ y. lo ≤ first_bit y) (same_Some x b e) a.0
 no_lower lo (x ∷ xs) a (suc k) b e = let h = a.0 in let g = goes_on x in let r = no_lower (next x) xs a.1 k b e in omega (arith, h, g, r)
 
-in_order : (lo : ℕ) (xs : List Piece) → Ascend lo xs → (j k : ℕ) (a b : Piece) → j < k → slice_get xs j ≡ Some a → slice_get xs k ≡ Some b → next a ≤ first_bit b
+in_order : (lo : ℕ) (xs : List WordPiece) → Ascend lo xs → (j k : ℕ) (a b : WordPiece) → j < k → slice_get xs j ≡ Some a → slice_get xs k ≡ Some b → next a ≤ first_bit b
 in_order lo [] s j k a b lt e f = absurd cc
 in_order lo (x ∷ xs) s j zero a b lt e f = absurd (omega (arith, lt))
 in_order lo (x ∷ xs) s zero (suc k) a b lt e f = subst (λ y. next y ≤ first_bit b) (same_Some x a e) (no_lower (next x) xs s.1 k b f)
@@ -70,7 +70,7 @@ pieces_ascend word j k a b lt e f =
     omega (arith, r, g)
 
 -- a piece that stands somewhere
-stands : (xs : List Piece) (k : ℕ) (x : Piece) → slice_get xs k ≡ Some x → Contains xs x
+stands : (xs : List WordPiece) (k : ℕ) (x : WordPiece) → slice_get xs k ≡ Some x → Contains xs x
 stands xs k x e =
     let lt = slice_get_within xs k x e in
     (k, lt, same_Some (get_or xs k x) x (sym (slice_get-get_or xs k x lt) ∙ e))

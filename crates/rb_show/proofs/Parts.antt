@@ -8,9 +8,9 @@ use Rattle.rb_layout.specs.declared.layout.FlatWord.{FlatWord}
 use Rattle.rb_layout.specs.declared.layout.Part.{Part}
 use Rattle.rb_show.specs.Laws.{parts_in, EachPartIsShown}
 use Rattle.rb_show.proofs.Listed.{first_or_later}
-use Rattle.rb_show.specs.Pieces.{Piece, Held, Free, begins_free, free_bits, held_at, free_at, pieces_at}
+use Rattle.rb_show.specs.Pieces.{WordPiece, Held, Free, begins_free, free_bits, held_at, free_at, pieces_at}
 
-parts-append : (xs ys : List Piece) → parts_in (xs ++ ys) ≡ parts_in xs ++ parts_in ys
+parts-append : (xs ys : List WordPiece) → parts_in (xs ++ ys) ≡ parts_in xs ++ parts_in ys
 parts-append [] ys = refl
 parts-append (Held p ∷ xs) ys = ap (λ ps. p ∷ ps) (parts-append xs ys)
 parts-append (Free o l ∷ xs) ys = parts-append xs ys
@@ -21,10 +21,10 @@ no_part i n false = refl
 
 module _ (weight : Part → ℕ) where
   -- what the parts among pieces weigh
-  abbrev weigh : List Piece → ℕ
+  abbrev weigh : List WordPiece → ℕ
   weigh xs = sum_by weight (parts_in xs)
 
-  weigh-append : (xs ys : List Piece) → weigh (xs ++ ys) ≡ weigh xs + weigh ys
+  weigh-append : (xs ys : List WordPiece) → weigh (xs ++ ys) ≡ weigh xs + weigh ys
   weigh-append xs ys = ap (λ ps. sum_by weight ps) (parts-append xs ys) ∙ sum_by-append weight (parts_in xs) (parts_in ys)
 
   -- the pieces of one part at so many bits from bit a on

@@ -5,8 +5,8 @@ use Rattle.std.proofs.lemmas.List.Concat.{flat_map-append}
 use Rattle.std.proofs.lemmas.List.Folds.{flat_map-map}
 use Rattle.std.specs.List.{flat_map, range_with_len}
 use Rattle.rb_layout.specs.declared.layout.FlatArm.{FlatArm}
-use Rattle.rb_show.specs.Lines.{numbered, other_literal}
-use Rattle.rb_show.specs.Patterns.{opened}
+use Rattle.rb_show.specs.Lines.{numbered_texts, other_literal}
+use Rattle.rb_show.specs.Patterns.{opening_text}
 use Rattle.rb_show.specs.inner.Patterns.{opening}
 use Rattle.rb_show.specs.inner.Ways.{literals_in}
 
@@ -53,20 +53,20 @@ nested_next g f xs k x start before after lt is e0 e1 =
 
 -- Numbers of items --------------------------------------------------------------------------
 
-numbered-push : {X : Type 0} (f : ℕ → X → List ℕ) (n : ℕ) (xs : List X) (x : X) → numbered f n (xs ++ x ∷ []) ≡ numbered f n xs ++ f (n + length xs) x
+numbered-push : {X : Type 0} (f : ℕ → X → List ℕ) (n : ℕ) (xs : List X) (x : X) → numbered_texts f n (xs ++ x ∷ []) ≡ numbered_texts f n xs ++ f (n + length xs) x
 numbered-push f n [] x = let z : n ≡ n + 0 = omega arith in append-nil (f n x) ∙ ap (λ i. f i x) z
 numbered-push f n (y ∷ ys) x =
     let shift : n + 1 + length ys ≡ n + suc (length ys) = omega arith in
-    ap (λ t. f n y ++ t) (numbered-push f (n + 1) ys x ∙ ap (λ i. numbered f (n + 1) ys ++ f i x) shift)
-    ∙ sym (append_assoc (f n y) (numbered f (n + 1) ys) (f (n + suc (length ys)) x))
+    ap (λ t. f n y ++ t) (numbered-push f (n + 1) ys x ∙ ap (λ i. numbered_texts f (n + 1) ys ++ f i x) shift)
+    ∙ sym (append_assoc (f n y) (numbered_texts f (n + 1) ys) (f (n + suc (length ys)) x))
 
 pub numbered_next : {X : Type 0} (f : ℕ → X → List ℕ) (xs : List X) (k : ℕ) (x : X) (start before after : List ℕ) → k < length xs → x ≡ get_or xs k x
-    → before ≡ start ++ numbered f 0 (take k xs) → after ≡ before ++ f k x → after ≡ start ++ numbered f 0 (take (k + 1) xs)
+    → before ≡ start ++ numbered_texts f 0 (take k xs) → after ≡ before ++ f k x → after ≡ start ++ numbered_texts f 0 (take (k + 1) xs)
 numbered_next f xs k x start before after lt is e0 e1 =
     let many : 0 + length (take k xs) ≡ k = let e = length-take k xs in omega (arith, e, lt) in
-    appended start (numbered f 0 (take k xs)) (numbered f 0 (take (k + 1) xs)) (f k x) before after e0 e1
-    (ap (λ ys. numbered f 0 ys) (take_more xs k x lt) ∙ numbered-push f 0 (take k xs) (get_or xs k x)
-    ∙ ap (λ i. numbered f 0 (take k xs) ++ f i (get_or xs k x)) many ∙ ap (λ y. numbered f 0 (take k xs) ++ f k y) (sym is))
+    appended start (numbered_texts f 0 (take k xs)) (numbered_texts f 0 (take (k + 1) xs)) (f k x) before after e0 e1
+    (ap (λ ys. numbered_texts f 0 ys) (take_more xs k x lt) ∙ numbered-push f 0 (take k xs) (get_or xs k x)
+    ∙ ap (λ i. numbered_texts f 0 (take k xs) ++ f i (get_or xs k x)) many ∙ ap (λ y. numbered_texts f 0 (take k xs) ++ f k y) (sym is))
 
 -- Bits --------------------------------------------------------------------------------------
 
@@ -94,20 +94,20 @@ comma u = codes ", " ++ u
 opening-suc : (n : ℕ) → opening (suc n) ≡ codes ", "
 opening-suc n = ap (λ (b : Bool). if b then codes "(" else codes ", ") (ne_eqb (suc n) 0 (λ e. omega (arith, e)))
 
-opened-push : (ts : List (List ℕ)) (t : List ℕ) → opened (ts ++ t ∷ []) ≡ opened ts ++ (opening (length ts) ++ t)
+opened-push : (ts : List (List ℕ)) (t : List ℕ) → opening_text (ts ++ t ∷ []) ≡ opening_text ts ++ (opening (length ts) ++ t)
 opened-push [] t = ap (λ u. codes "(" ++ u) (append-nil t)
 opened-push (u ∷ us) t =
     ap (λ v. codes "(" ++ u ++ v) (flat_map-append comma us (t ∷ []) ∙ ap (λ v. flat_map comma us ++ v) (append-nil (comma t)))
     ∙ ap (λ v. codes "(" ++ v) (sym (append_assoc u (flat_map comma us) (comma t)))
-    ∙ ap (λ v. opened (u ∷ us) ++ (v ++ t)) (sym (opening-suc (length us)))
+    ∙ ap (λ v. opening_text (u ∷ us) ++ (v ++ t)) (sym (opening-suc (length us)))
 
 pub opened_next : {X : Type 0} (f : X → List ℕ) (xs : List X) (k : ℕ) (d : X) → k < length xs
-    → opened (map f (take (k + 1) xs)) ≡ opened (map f (take k xs)) ++ (opening k ++ f (get_or xs k d))
+    → opening_text (map f (take (k + 1) xs)) ≡ opening_text (map f (take k xs)) ++ (opening k ++ f (get_or xs k d))
 opened_next f xs k d lt =
     let many : length (map f (take k xs)) ≡ k = let e = length-take k xs in let m = length-map (take k xs) f in omega (arith, e, m, lt) in
-    ap (λ ys. opened (map f ys)) (take_more xs k d lt) ∙ ap (λ ts. opened ts) (map-append f (take k xs) (get_or xs k d ∷ []))
+    ap (λ ys. opening_text (map f ys)) (take_more xs k d lt) ∙ ap (λ ts. opening_text ts) (map-append f (take k xs) (get_or xs k d ∷ []))
     ∙ opened-push (map f (take k xs)) (f (get_or xs k d))
-    ∙ ap (λ n. opened (map f (take k xs)) ++ (opening n ++ f (get_or xs k d))) many
+    ∙ ap (λ n. opening_text (map f (take k xs)) ++ (opening n ++ f (get_or xs k d))) many
 
 -- Literals ----------------------------------------------------------------------------------
 

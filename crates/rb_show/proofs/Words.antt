@@ -5,17 +5,17 @@ use Rattle.std.proofs.lemmas.List.{take_more}
 use Rattle.rb_layout.specs.declared.layout.Leaf.{Leaf}
 use Rattle.rb_layout.specs.declared.layout.FlatWord.{FlatWord}
 use Rattle.rb_layout.specs.A4.{IsBlockWidth, HasBlocks}
-use Rattle.rb_layout.specs.Words.{bytes_in}
+use Rattle.rb_layout.specs.Words.{bytes_taken}
 use Rattle.rb_show.specs.Short.{HaveShortWords}
 use Rattle.rb_show.specs.Pieces.{is_free, free_bits}
 
-bytes-push : (fs : List FlatWord) (f : FlatWord) → bytes_in (fs ++ f ∷ []) ≡ bytes_in fs + f.width / 8
+bytes-push : (fs : List FlatWord) (f : FlatWord) → bytes_taken (fs ++ f ∷ []) ≡ bytes_taken fs + f.width / 8
 bytes-push [] f = omega arith
 bytes-push (g ∷ fs) f = let e = bytes-push fs f in omega (arith, e)
 
-pub bytes_next : (fs : List FlatWord) (k : ℕ) (f : FlatWord) → k < length fs → f ≡ get_or fs k f → bytes_in (take (k + 1) fs) ≡ bytes_in (take k fs) + f.width / 8
+pub bytes_next : (fs : List FlatWord) (k : ℕ) (f : FlatWord) → k < length fs → f ≡ get_or fs k f → bytes_taken (take (k + 1) fs) ≡ bytes_taken (take k fs) + f.width / 8
 bytes_next fs k f lt is =
-    ap bytes_in (take_more fs k f lt) ∙ bytes-push (take k fs) (get_or fs k f) ∙ ap (λ (g : FlatWord). bytes_in (take k fs) + g.width / 8) (sym is)
+    ap bytes_taken (take_more fs k f lt) ∙ bytes-push (take k fs) (get_or fs k f) ∙ ap (λ (g : FlatWord). bytes_taken (take k fs) + g.width / 8) (sym is)
 
 at_most_64 : (w : ℕ) → IsBlockWidth w → w ≤ 64
 at_most_64 w (inl e) = omega (arith, e)

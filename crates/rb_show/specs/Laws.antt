@@ -11,7 +11,7 @@ use Rattle.rb_layout.specs.Each.{EachLayout}
 use Rattle.rb_layout.specs.FreeBits.{IsFree}
 use Rattle.rb_layout.specs.Flattening.{flat_layouts}
 use Rattle.rb_layout.specs.Splits.{Route, routes_of}
-use Rattle.rb_show.specs.Pieces.{Piece, Held, Free, pieces_of}
+use Rattle.rb_show.specs.Pieces.{WordPiece, Held, Free, pieces_of}
 
 -- the bits from o on, l of them and at least one, are free, and neither the bit below them nor that above is
 pub record IsMaximal (word : FlatWord) (o l : ℕ) : Type 0 where
@@ -25,26 +25,28 @@ abbrev pub FreeAreMaximal : Type 0
 FreeAreMaximal = (word : FlatWord) (o l : ℕ) → Contains (pieces_of word) (Free o l) ↔ IsMaximal word o l
 
 -- x is piece k of the word in the order in which its pieces are shown, from 0
-abbrev pub IsPiece : FlatWord → ℕ → Piece → Type 0
-IsPiece word k x = slice_get (pieces_of word) k ≡ Some x
+abbrev pub IsWordPiece : FlatWord → ℕ → WordPiece → Type 0
+IsWordPiece word k x = slice_get (pieces_of word) k ≡ Some x
 
 -- of two free ranges of a word, the earlier ends below the bit beneath the later one, so that they don't touch
 abbrev pub FreeAreApart : Type 0
 FreeAreApart =
-    (word : FlatWord) (j k o l m n : ℕ) → j < k → IsPiece word j (Free o l) → IsPiece word k (Free m n) → o + l < m
+    (word : FlatWord) (j k o l m n : ℕ) → j < k → IsWordPiece word j (Free o l) → IsWordPiece word k (Free m n)
+    → o + l < m
 
 -- the bit of its word at which a piece begins
-abbrev pub first_bit : Piece → ℕ
+abbrev pub first_bit : WordPiece → ℕ
 first_bit (Held p) = p.o
 first_bit (Free o l) = o
 
 -- no piece begins below one that stands before it
 abbrev pub PiecesAscend : Type 0
 PiecesAscend =
-    (word : FlatWord) (j k : ℕ) (a b : Piece) → j < k → IsPiece word j a → IsPiece word k b → first_bit a ≤ first_bit b
+    (word : FlatWord) (j k : ℕ) (a b : WordPiece) → j < k → IsWordPiece word j a → IsWordPiece word k b
+    → first_bit a ≤ first_bit b
 
 -- the parts among pieces, in their order, without the free ranges
-abbrev pub parts_in : List Piece → List Part
+abbrev pub parts_in : List WordPiece → List Part
 parts_in [] = []
 parts_in (Held p ∷ pieces) = p ∷ parts_in pieces
 parts_in (Free o l ∷ pieces) = parts_in pieces

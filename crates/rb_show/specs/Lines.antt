@@ -16,16 +16,16 @@ use Rattle.rb_layout.specs.Splits.{Test, Is, IsNone, Route, routes_of}
 use Rattle.rb_layout.specs.Words.{begins_at, size_of}
 use Rattle.rb_show.specs.Locations.{range_text, loc_text}
 use Rattle.rb_show.specs.Patterns.{pattern_text}
-use Rattle.rb_show.specs.Pieces.{Piece, Held, Free, pieces_of}
+use Rattle.rb_show.specs.Pieces.{WordPiece, Held, Free, pieces_of}
 
 -- a text with the end of its line behind it
 abbrev pub line : List ℕ → List ℕ
 line text = text ++ codes "\n"
 
 -- the texts that f gives for the things of a list, one after the other, each by its number, where the first has n
-abbrev pub numbered : {X : Type 0} → (ℕ → X → List ℕ) → ℕ → List X → List ℕ
-numbered f n [] = []
-numbered f n (x ∷ xs) = f n x ++ numbered f (n + 1) xs
+abbrev pub numbered_texts : {X : Type 0} → (ℕ → X → List ℕ) → ℕ → List X → List ℕ
+numbered_texts f n [] = []
+numbered_texts f n (x ∷ xs) = f n x ++ numbered_texts f (n + 1) xs
 
 -- Words -------------------------------------------------------------------------------------
 
@@ -41,7 +41,7 @@ kind_text l (Word path j) = codes "field " ++ path_text path ++ codes " word " +
 kind_text l (Pointer align b) = codes "pointer to block " ++ decimal b
 
 -- the line of a piece of a word: its range of bits, and what it holds or that it is free
-abbrev pub piece_line : Piece → List ℕ
+abbrev pub piece_line : WordPiece → List ℕ
 piece_line (Held p) = line (codes "  " ++ range_text p.o p.l ++ codes " " ++ kind_text p.l p.kind)
 piece_line (Free o l) = line (codes "  " ++ range_text o l ++ codes " free")
 
@@ -75,7 +75,8 @@ block_line i size align = codes "block " ++ decimal i ++ size_line size align
 
 -- the lines of block i of a leaf: its first line, then those of its words, numbered from 0
 abbrev pub block_lines : ℕ → Block → List ℕ
-block_lines i block = block_line i (size_of block) block.align ++ numbered (block_word_lines block.words) 0 block.words
+block_lines i block = block_line i (size_of block) block.align
+    ++ numbered_texts (block_word_lines block.words) 0 block.words
 
 -- Leaves ------------------------------------------------------------------------------------
 
@@ -97,7 +98,7 @@ condition_line (IsNone loc cs) = line (codes "when " ++ loc_text loc ++ none_tex
 abbrev pub leaf_lines : List DataDecl → List ℕ → Leaf → List ℕ
 leaf_lines types conditions leaf =
     line (codes "leaf " ++ pattern_text types leaf.prov) ++ conditions
-    ++ numbered root_word_lines 0 leaf.root ++ numbered block_lines 0 leaf.blocks
+    ++ numbered_texts root_word_lines 0 leaf.root ++ numbered_texts block_lines 0 leaf.blocks
 
 -- the lines of a leaf that was looked up, with those of its conditions; nothing where no leaf was found
 abbrev pub found_lines : List DataDecl → List ℕ → Option Leaf → List ℕ

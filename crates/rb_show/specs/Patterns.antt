@@ -25,18 +25,18 @@ abbrev pub con_text : List DataDecl → ConRef → List ℕ
 con_text types c = con_name_in (slice_get types c.ty) c.con
 
 -- the texts of fields behind a `(` and with commas between them, but without the `)`; empty where there is no field
-abbrev pub opened : List (List ℕ) → List ℕ
-opened [] = []
-opened (t ∷ ts) = codes "(" ++ t ++ flat_map (λ u. codes ", " ++ u) ts
+abbrev pub opening_text : List (List ℕ) → List ℕ
+opening_text [] = []
+opening_text (t ∷ ts) = codes "(" ++ t ++ flat_map (λ u. codes ", " ++ u) ts
 
 -- the `)` behind these fields; empty where there is no field
-abbrev pub closed : List (List ℕ) → List ℕ
-closed [] = []
-closed (t ∷ ts) = codes ")"
+abbrev pub closing_text : List (List ℕ) → List ℕ
+closing_text [] = []
+closing_text (t ∷ ts) = codes ")"
 
 -- the texts of fields in parentheses, with commas between them; empty where there is no field
 abbrev pub fields_text : List (List ℕ) → List ℕ
-fields_text ts = opened ts ++ closed ts
+fields_text ts = opening_text ts ++ closing_text ts
 
 -- the text of a pattern, by the texts of its fields; a variable is shown as `_`, as a wildcard is
 abbrev pub pattern_step : List DataDecl → Pat-F (List ℕ) → List ℕ

@@ -5,9 +5,9 @@ use Rattle.rb_layout.specs.declared.layout.FlatWord.{FlatWord}
 use Rattle.rb_layout.specs.declared.layout.Part.{Part}
 
 -- a part of a word, or a range of bits that no part holds: its first bit, and how many they are
-pub data Piece : Type 0 where
-  Held : Part → Piece
-  Free : ℕ → ℕ → Piece
+pub data WordPiece : Type 0 where
+  Held : Part → WordPiece
+  Free : ℕ → ℕ → WordPiece
 
 -- whether bit i of a word is one of those that this part of it holds
 abbrev pub holds_bit : ℕ → Part → Bool
@@ -27,17 +27,17 @@ free_bits word i zero = 0
 free_bits word i (suc n) = if is_free word i then suc (free_bits word (suc i) n) else 0
 
 -- the part, as a piece, if it begins at bit i; else nothing
-abbrev pub held_at : ℕ → Part → List Piece
+abbrev pub held_at : ℕ → Part → List WordPiece
 held_at i p = if p.o == i then Held p ∷ [] else []
 
 -- the longest free range from bit i on, if bit i is free and the bit below it is none or isn't free; else nothing
-abbrev pub free_at : FlatWord → ℕ → List Piece
+abbrev pub free_at : FlatWord → ℕ → List WordPiece
 free_at word i = if begins_free word i then Free i (free_bits word i (word.width - i)) ∷ [] else []
 
 -- the pieces of a word that begin at bit i, the parts before the free range
-abbrev pub pieces_at : FlatWord → ℕ → List Piece
+abbrev pub pieces_at : FlatWord → ℕ → List WordPiece
 pieces_at word i = flat_map (held_at i) word.parts ++ free_at word i
 
 -- the pieces of a word, by the bits at which they begin; a part that begins outside the word is left out
-abbrev pub pieces_of : FlatWord → List Piece
+abbrev pub pieces_of : FlatWord → List WordPiece
 pieces_of word = flat_map (pieces_at word) (range_with_len 0 word.width)

@@ -3,7 +3,7 @@
 
 ghost use Rattle.std.specs.Prelude.{◌≡◌, ◌++◌, ℕ, List, OnOk, map};
 ghost use Rattle.rb_core.specs.declared.pattern.Pat.{Pat as Pattern};
-ghost use Rattle.rb_show.specs.Patterns.{closed, con_text, opened, pattern_text};
+ghost use Rattle.rb_show.specs.Patterns.{closing_text, con_text, opening_text, pattern_text};
 ghost use Rattle.rb_show.specs.inner.Patterns.{opening};
 
 use crate::text::{push, push_number};
@@ -33,7 +33,8 @@ fn opening(number: usize) -> &'static [u8]
 
 // Adds the `)` behind these fields; nothing where there is no field.
 fn push_closing(text: &mut Vec<u8>, fields: &[Pat]) -> Result<(), AllocError>
-    ensures { (f : Pattern → List ℕ) → OnOk result (text.new.items ≡ text.old.items ++ closed (map f fields.now)) }
+    ensures { (f : Pattern → List ℕ) → OnOk result (text.new.items ≡ text.old.items
+        ++ closing_text (map f fields.now)) }
 {
     match fields {
         [] => Ok(()),
@@ -67,7 +68,7 @@ pub fn push_pattern(text: &mut Vec<u8>, types: &[DataDecl], pat: &Pat) -> Result
 // there is no field.
 #[cycle(showing)]
 fn push_fields(text: &mut Vec<u8>, types: &[DataDecl], pats: &[Pat]) -> Result<(), AllocError>
-    ensures { OnOk result (text.new.items ≡ text.old.items ++ opened (map (pattern_text types.now) pats.now)) }
+    ensures { OnOk result (text.new.items ≡ text.old.items ++ opening_text (map (pattern_text types.now) pats.now)) }
 {
     for (i, pat) in pats.iter().enumerate() {
         push(text, opening(i))?;

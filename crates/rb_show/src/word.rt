@@ -7,7 +7,7 @@
 ghost use Rattle.std.specs.Prelude.{◌≡◌, ◌++◌, OnOk};
 ghost use Rattle.rb_layout.specs.Readable.{AreShort};
 ghost use Rattle.rb_show.specs.Short.{HaveShortWords};
-ghost use Rattle.rb_show.specs.Lines.{numbered, block_line, block_lines, block_word_lines, root_word_lines, size_line, width_lines, word_lines_at};
+ghost use Rattle.rb_show.specs.Lines.{numbered_texts, block_line, block_lines, block_word_lines, root_word_lines, size_line, width_lines, word_lines_at};
 
 use crate::piece::push_pieces;
 use crate::text::{push, push_number};
@@ -39,7 +39,7 @@ fn push_root_word(text: &mut Vec<u8>, number: u64, word: &FlatWord) -> Result<()
 
 /// Adds the lines of the words of a root, which are numbered from 0.
 pub(crate) fn push_root(text: &mut Vec<u8>, words: &[FlatWord]) -> Result<(), AllocError>
-    ensures { OnOk result (text.new.items ≡ text.old.items ++ numbered root_word_lines 0 words.now) }
+    ensures { OnOk result (text.new.items ≡ text.old.items ++ numbered_texts root_word_lines 0 words.now) }
 {
     for (i, word) in words.iter().enumerate() {
         push_root_word(text, i as u64, word)?;
@@ -68,7 +68,7 @@ fn push_block_word(
 // begins.
 fn push_block_words(text: &mut Vec<u8>, words: &[FlatWord]) -> Result<(), AllocError>
     requires { AreShort words.now }
-    ensures { OnOk result (text.new.items ≡ text.old.items ++ numbered (block_word_lines words.now) 0 words.now) }
+    ensures { OnOk result (text.new.items ≡ text.old.items ++ numbered_texts (block_word_lines words.now) 0 words.now) }
 {
     let mut byte: u64 = 0;
     for (i, word) in words.iter().enumerate() {
@@ -113,7 +113,7 @@ fn push_block(text: &mut Vec<u8>, number: u64, block: &Block) -> Result<(), Allo
 /// Adds the lines of blocks, which are numbered from 0.
 pub(crate) fn push_blocks(text: &mut Vec<u8>, blocks: &[Block]) -> Result<(), AllocError>
     requires { HaveShortWords blocks.now }
-    ensures { OnOk result (text.new.items ≡ text.old.items ++ numbered block_lines 0 blocks.now) }
+    ensures { OnOk result (text.new.items ≡ text.old.items ++ numbered_texts block_lines 0 blocks.now) }
 {
     for (i, block) in blocks.iter().enumerate() {
         push_block(text, i as u64, block)?;

@@ -42,7 +42,7 @@ use Rattle.rb_core.proofs.InferenceAgreement.{pattern_binders-are, wanted-is_fou
 use Rattle.rb_core.proofs.CoverageForms.{part, branch, sites-Clause, sites-Call, sites-Build, sites-Binary, sites-To, sites-Let, sites-Match}
 use Rattle.rb_core.proofs.MeaningForms.{clause_meaning-is, meaning-Num, meaning-Var, meaning-Call, meaning-Build, meaning-Binary, meaning-To, meaning-Let, meaning-Match}
 use Rattle.rb_sound.specs.Words.{all_true}
-use Rattle.rb_sound.specs.Soundness.{AreOfTypes, EndsAs, IsBuiltTyped, RunsAs}
+use Rattle.rb_sound.specs.Soundness.{AreOfTypes, EndIsOfType, IsBuiltTyped, RunsAs}
 use Rattle.rb_sound.proofs.Forms.{ok-same, came, chosen, constructed, same_type-is, both, and_true, exhaustive-append}
 use Rattle.rb_sound.proofs.Whole.{is_whole, clause_whole, clause_whole-is, whole-Num, whole-Call, whole-Build, whole-Binary, whole-To, whole-Let, whole-Match}
 use Rattle.rb_sound.proofs.Scopes.{IsOf, Agree, agree-append, variable_is, bound_agrees}
@@ -113,7 +113,7 @@ module _ (types : List DataDecl) where
   after_runs : (t : Ty) (log : List Event) (o : Outcome) → Events log → RunsAs types t o → RunsAs types t (after log o)
   after_runs t log o h k = record { ends = k.ends; builds = All-append (IsBuiltTyped types) log o.log h k.builds }
 
-  end_from : (s t : Ty) (e : SourceEnd) (go : Value → ℕ → Outcome) → EndsAs types s e → ((v : Value) (rest : ℕ) → IsOf types v s → RunsAs types t (go v rest)) → RunsAs types t (at_end e go)
+  end_from : (s t : Ty) (e : SourceEnd) (go : Value → ℕ → Outcome) → EndIsOfType types s e → ((v : Value) (rest : ℕ) → IsOf types v s → RunsAs types t (go v rest)) → RunsAs types t (at_end e go)
   end_from s t (Done v left) go h k = k v left h
   end_from s t Spent go h k = spent_runs t
 
@@ -140,7 +140,7 @@ module _ (types : List DataDecl) where
   unfolding then_with
   runs_with ts t o go h k = after_runs t o.log (at_parts_end o.end go) h.builds (parts_from ts t o.end go h.ends k)
 
-  part_end : (s : Ty) (ts : List Ty) (e : SourceEnd) (go : Value → ℕ → PartsOutcome) → EndsAs types s e → ((v : Value) (rest : ℕ) → IsOf types v s → PartsRunAs ts (go v rest)) → PartsRunAs ts (at_part e go)
+  part_end : (s : Ty) (ts : List Ty) (e : SourceEnd) (go : Value → ℕ → PartsOutcome) → EndIsOfType types s e → ((v : Value) (rest : ℕ) → IsOf types v s → PartsRunAs ts (go v rest)) → PartsRunAs ts (at_part e go)
   part_end s ts (Done v left) go h k = k v left h
   part_end s ts Spent go h k = record { ends = tt; builds = no_events }
 

@@ -38,9 +38,9 @@ AreInScope types (b ∷ bs) (v ∷ vs) =
 -- Runs ----------------------------------------------------------------------------------------
 
 -- an end whose value, if there is one, is of a type
-abbrev pub EndsAs : List DataDecl → Ty → SourceEnd → Type 0
-EndsAs types t (Done v left) = is_of_type types v t ≡ true
-EndsAs types t Spent = Unit {0}
+abbrev pub EndIsOfType : List DataDecl → Ty → SourceEnd → Type 0
+EndIsOfType types t (Done v left) = is_of_type types v t ≡ true
+EndIsOfType types t Spent = Unit {0}
 
 -- a construction's value is of the construction's type
 abbrev pub IsBuiltTyped : List DataDecl → Event → Type 0
@@ -49,7 +49,7 @@ IsBuiltTyped types (Matched f at) = Unit {0}
 
 -- a run ends with a value of a type, if it is done, and whatever it builds is of its own type
 pub record RunsAs (types : List DataDecl) (t : Ty) (o : Outcome) : Type 0 where
-  pub ends : EndsAs types t o.end
+  pub ends : EndIsOfType types t o.end
   pub builds : All (IsBuiltTyped types) o.log
 
 -- Programs ------------------------------------------------------------------------------------

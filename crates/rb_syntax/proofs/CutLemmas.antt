@@ -19,7 +19,7 @@ use Rattle.rb_syntax.specs.Bytes.{is_blank, numeral_len}
 use Rattle.rb_syntax.specs.Words.{symbol_at}
 use Rattle.rb_syntax.specs.Pieces.{name_token, number_or_fault, number_piece, underscore_piece, run_piece, symbol_piece, first_piece, piece_at}
 use Rattle.rb_syntax.specs.Lexing.{Lexed, before, with_piece, lexed_from, lexed}
-use Rattle.rb_syntax.specs.Cutting.{IsGap, blank, IsLongest, IsNumeral, IsWritten, IsTokenRun, IsBadBehind, IsWideNumber, Cut, IsRight, no_piece, wrong_run}
+use Rattle.rb_syntax.specs.Cutting.{IsGap, blank, IsLongest, IsNumeral, IsWritten, IsTokenRun, IsBadBehind, IsWideNumber, Cut, LexesTo, no_piece, wrong_run}
 use Rattle.rb_syntax.specs.Cutting as cut
 use Rattle.rb_syntax.proofs.PieceLemmas.{run-cons, comment-within, numeral_len-le}
 use Rattle.rb_syntax.proofs.SymbolLemmas.{symbol-length}
@@ -177,10 +177,10 @@ lexed_from-right (suc n) at bytes h =
     ] refl
 
 -- the law of `lexed`
-pub lexed-right : (bytes : List ℕ) → IsRight bytes (lexed bytes)
+pub lexed-right : (bytes : List ℕ) → LexesTo bytes (lexed bytes)
 lexed-right bytes = right-from bytes (lexed bytes) (lexed_from-right (length bytes) 0 bytes (omega arith))
   where
-    right-from : (xs : List ℕ) (r : Lexed) → IsRightFrom 0 xs r → IsRight xs r
+    right-from : (xs : List ℕ) (r : Lexed) → IsRightFrom 0 xs r → LexesTo xs r
     right-from xs (Ok ts) h = h
     right-from xs (Err (BadByte p)) h = h
     right-from xs (Err (NumberTooWide p)) h = h

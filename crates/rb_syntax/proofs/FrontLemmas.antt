@@ -11,7 +11,7 @@ use Rattle.rb_syntax.specs.Pieces.{piece_at}
 use Rattle.rb_syntax.specs.Lexing.{Lexed, before, with_piece, lexed_from}
 use Rattle.rb_syntax.specs.Cutting.{Cut}
 use Rattle.rb_syntax.specs.Cutting as cut
-use Rattle.rb_syntax.specs.Fronts.{Front, ends, behind, with_front, front_from, front_at, front, AgreesWith, IsStop, IsFrontOf}
+use Rattle.rb_syntax.specs.Fronts.{Front, ends, front_with, with_front, front_from, front_at, front, AgreesWith, StopsText, IsFrontOf}
 use Rattle.rb_syntax.proofs.TokenLemmas.{none-empty}
 use Rattle.rb_syntax.proofs.CutLemmas.{IsFront, piece_at-front}
 
@@ -20,7 +20,7 @@ use Rattle.rb_syntax.proofs.CutLemmas.{IsFront, piece_at-front}
 same-rest : (at : ℕ) (bytes : List ℕ) (p : Piece) (f g : ℕ → Front) → IsFront bytes p → ((n : ℕ) → 0 < n → f n ≡ g n) → with_front at p f ≡ with_front at p g
 unfolding with_front
 same-rest at bytes (piece.Gap n) f g w h = h n w.0
-same-rest at bytes (piece.Token t n) f g w h = ap (behind (record { token = t; at = at })) (h n w.0)
+same-rest at bytes (piece.Token t n) f g w h = ap (front_with (record { token = t; at = at })) (h n w.0)
 same-rest at bytes (piece.Bad k) f g w h = refl
 same-rest at bytes piece.Wide f g w h = refl
 
@@ -67,7 +67,7 @@ module _ (text : List ℕ) (at : ℕ) (h : at < length text) where
   unfolding with_front
   at-gap len e = let p = by-piece text at h in rw e at p
 
-  pub at-token : (t : Token) (len : ℕ) → piece_at (drop at text) ≡ piece.Token t len → front_at text at ≡ behind (record { token = t; at = at }) (front_at text (at + len))
+  pub at-token : (t : Token) (len : ℕ) → piece_at (drop at text) ≡ piece.Token t len → front_at text at ≡ front_with (record { token = t; at = at }) (front_at text (at + len))
   unfolding with_front
   at-token t len e = let p = by-piece text at h in rw e at p
 
@@ -81,9 +81,9 @@ module _ (text : List ℕ) (at : ℕ) (h : at < length text) where
 
 -- The laws --------------------------------------------------------------------------------------
 
-agrees-before : (p : Placed) (r : Lexed) (f : Front) → AgreesWith r f → AgreesWith (before p r) (behind p f)
+agrees-before : (p : Placed) (r : Lexed) (f : Front) → AgreesWith r f → AgreesWith (before p r) (front_with p f)
 unfolding before
-agrees-before p (Ok ts) f h = ap (behind p) h
+agrees-before p (Ok ts) f h = ap (front_with p) h
 agrees-before p (Err (BadByte q)) f h = h
 agrees-before p (Err (NumberTooWide q)) f h = h
 agrees-before p (Err Memory) f h = h
@@ -106,15 +106,15 @@ agrees-from (suc n) at (b ∷ bs) =
     (λ len. agrees-from n (at + len) (drop len (b ∷ bs))))
 
 cut-piece : (at : ℕ) (bytes : List ℕ) (p : Piece) (rest : ℕ → Front) → IsFront bytes p
-    → ((n : ℕ) → 0 < n → Cut (IsStop (rest n).fault) (at + n) (drop n bytes) (rest n).tokens)
-    → Cut (IsStop (with_front at p rest).fault) at bytes (with_front at p rest).tokens
+    → ((n : ℕ) → 0 < n → Cut (StopsText (rest n).fault) (at + n) (drop n bytes) (rest n).tokens)
+    → Cut (StopsText (with_front at p rest).fault) at bytes (with_front at p rest).tokens
 unfolding with_front
 cut-piece at bytes (piece.Gap n) rest w go = cut.gap at n bytes (rest n).tokens w.1 w.2 (go n w.0)
 cut-piece at bytes (piece.Token t n) rest w go = cut.token at n t bytes (rest n).tokens w.1 w.2 (go n w.0)
 cut-piece at bytes (piece.Bad k) rest w go = cut.stop at bytes (inl (k, refl, w))
 cut-piece at bytes piece.Wide rest w go = cut.stop at bytes (inr (refl, w))
 
-cut-from : (n at : ℕ) (bytes : List ℕ) → length bytes ≤ n → Cut (IsStop (front_from n at bytes).fault) at bytes (front_from n at bytes).tokens
+cut-from : (n at : ℕ) (bytes : List ℕ) → length bytes ≤ n → Cut (StopsText (front_from n at bytes).fault) at bytes (front_from n at bytes).tokens
 unfolding front_from
 cut-from zero at bytes h = cut.stop at bytes (none-empty bytes (omega arith))
 cut-from (suc n) at [] h = cut.stop at [] refl

@@ -14,9 +14,9 @@ use Rattle.rb_core.proofs.Decimals.{digits-numeral, some-numeral, first-numeral,
 use Rattle.rb_syntax.specs.declared.token.Word.{Word}
 use Rattle.rb_syntax.specs.declared.token.Token.TheVariants as tok
 use Rattle.rb_syntax.specs.Bytes.{numeral_len}
-use Rattle.rb_syntax.specs.Words.{word_text, word_of, words, width_of}
+use Rattle.rb_syntax.specs.Words.{word_text, word_of, words, uint_width}
 use Rattle.rb_syntax.specs.Pieces.{width_or_name, word_or_name, name_token}
-use Rattle.rb_syntax.specs.Cutting.{IsNumeral, IsWidth, IsNotReserved, IsWritten, IsTokenRun, name, numeral, underscore}
+use Rattle.rb_syntax.specs.Cutting.{IsNumeral, IsUintWord, IsNotReserved, IsWritten, IsTokenRun, name, numeral, underscore}
 use Rattle.rb_syntax.proofs.SymbolLemmas.{and-left, and-right, find-passes, word-found}
 use Rattle.rb_syntax.proofs.LongestLemmas.{prefix-all, all-prefix, length-front}
 
@@ -111,7 +111,7 @@ if-then : (c : Bool) (o : Option ℕ) (n : ℕ) → (if c then o else None) ≡ 
 if-then true o n e = (refl, e)
 if-then false o n e = cc
 
-width-written : (run : List ℕ) (bits : ℕ) → width_of run ≡ Some bits → IsWidth bits run
+width-written : (run : List ℕ) (bits : ℕ) → uint_width run ≡ Some bits → IsUintWord bits run
 width-written [] bits e = cc
 width-written (u ∷ ds) bits e =
     let c : ((u == 117) ≡ true) × (number_in 1 64 ds ≡ Some bits) = if-then (u == 117) (number_in 1 64 ds) bits e in
@@ -125,12 +125,12 @@ width-written (u ∷ ds) bits e =
       most = f.3;
     }
 
-width-found : (run : List ℕ) (bits : ℕ) → IsWidth bits run → width_of run ≡ Some bits
+width-found : (run : List ℕ) (bits : ℕ) → IsUintWord bits run → uint_width run ≡ Some bits
 width-found run bits w =
-    let found : width_of (117 ∷ w.digits) ≡ Some bits = number-of 1 64 w.digits bits w.numeral w.value w.some w.most in
-    subst (λ (xs : List ℕ). width_of xs ≡ Some bits) (sym w.written) found
+    let found : uint_width (117 ∷ w.digits) ≡ Some bits = number-of 1 64 w.digits bits w.numeral w.value w.some w.most in
+    subst (λ (xs : List ℕ). uint_width xs ≡ Some bits) (sym w.written) found
 
-name-not_reserved : (run : List ℕ) → word_of run ≡ None → width_of run ≡ None → IsNotReserved run
+name-not_reserved : (run : List ℕ) → word_of run ≡ None → uint_width run ≡ None → IsNotReserved run
 name-not_reserved run e f = (
   λ w h. let k : word_of (word_text w) ≡ None = subst (λ (xs : List ℕ). word_of xs ≡ None) h e in
       let g : Some w ≡ None = sym (word-found w) ∙ k in cc,
@@ -138,7 +138,7 @@ name-not_reserved run e f = (
 )
 
 width_or_name-written : (o : Option ℕ) (b : ℕ) (bs : List ℕ) → is_ascii_lowercase b ≡ true → list_all is_word_byte (b ∷ bs) ≡ true → word_of (b ∷ bs) ≡ None
-    → width_of (b ∷ bs) ≡ o → IsWritten (width_or_name o (b ∷ bs)) (b ∷ bs)
+    → uint_width (b ∷ bs) ≡ o → IsWritten (width_or_name o (b ∷ bs)) (b ∷ bs)
 unfolding width_or_name
 width_or_name-written (Some bits) b bs low all e f = width-written (b ∷ bs) bits f
 width_or_name-written None b bs low all e f = (refl, low, all, name-not_reserved (b ∷ bs) e f)
@@ -147,7 +147,7 @@ word_or_name-written : (o : Option Word) (b : ℕ) (bs : List ℕ) → is_ascii_
     → word_of (b ∷ bs) ≡ o → IsWritten (word_or_name o (b ∷ bs)) (b ∷ bs)
 unfolding word_or_name
 word_or_name-written (Some w) b bs low all e = sym (text-is (word_text w) (b ∷ bs) (find-passes (λ v. pointwise nat_eq (word_text v) (b ∷ bs)) words w e))
-word_or_name-written None b bs low all e = width_or_name-written (width_of (b ∷ bs)) b bs low all e refl
+word_or_name-written None b bs low all e = width_or_name-written (uint_width (b ∷ bs)) b bs low all e refl
 
 pub name_token-written : (b : ℕ) (bs : List ℕ) → is_ascii_alphabetic b ≡ true → list_all is_word_byte (b ∷ bs) ≡ true → IsWritten (name_token b (b ∷ bs)) (b ∷ bs)
 unfolding name_token

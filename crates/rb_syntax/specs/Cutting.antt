@@ -36,18 +36,18 @@ pub record IsLongest (n : ℕ) (bytes : List ℕ) : Type 0 where
 -- How tokens are written.
 
 -- there is a first byte, and it passes the test p
-abbrev pub Begins : (ℕ → Bool) → List ℕ → Type 0
-Begins p [] = ⊥
-Begins p (b ∷ bs) = p b ≡ true
+abbrev pub FirstByteIs : (ℕ → Bool) → List ℕ → Type 0
+FirstByteIs p [] = ⊥
+FirstByteIs p (b ∷ bs) = p b ≡ true
 
 -- the text is a number in digits without a leading zero: '0' alone, or digits of which the first is another
 pub record IsNumeral (text : List ℕ) : Type 0 where
   pub some : 0 < length text
   pub digits : list_all is_ascii_digit text ≡ true
-  pub leading : Begins (λ d. nat_eq d 48) text → length text ≡ 1
+  pub leading : FirstByteIs (λ d. nat_eq d 48) text → length text ≡ 1
 
 -- the text is the word for integers of `bits` bits: 'u' and a number from 1 to 64 without a leading zero
-pub record IsWidth (bits : ℕ) (text : List ℕ) : Type 0 where
+pub record IsUintWord (bits : ℕ) (text : List ℕ) : Type 0 where
   pub digits : List ℕ
   pub written : text ≡ 117 ∷ digits
   pub numeral : IsNumeral digits
@@ -57,17 +57,18 @@ pub record IsWidth (bits : ℕ) (text : List ℕ) : Type 0 where
 
 -- the name is no reserved word: none of `Word`, and none of u1 to u64
 abbrev pub IsNotReserved : List ℕ → Type 0
-IsNotReserved name = ((w : Word) → name ≢ word_text w) × ((bits : ℕ) → IsWidth bits name → ⊥)
+IsNotReserved name = ((w : Word) → name ≢ word_text w) × ((bits : ℕ) → IsUintWord bits name → ⊥)
 
 -- the token is written as this text; a name that begins with a small letter must not be reserved, and a number must
 -- be below 2^64
 abbrev pub IsWritten : Token → List ℕ → Type 0
-IsWritten (tok.Upper name) text = (text ≡ name) × Begins is_ascii_uppercase name × (list_all is_word_byte name ≡ true)
+IsWritten (tok.Upper name) text = (text ≡ name) × FirstByteIs is_ascii_uppercase name
+    × (list_all is_word_byte name ≡ true)
 IsWritten (tok.Lower name) text =
-    (text ≡ name) × Begins is_ascii_lowercase name × (list_all is_word_byte name ≡ true) × IsNotReserved name
+    (text ≡ name) × FirstByteIs is_ascii_lowercase name × (list_all is_word_byte name ≡ true) × IsNotReserved name
 IsWritten (tok.Num n) text = IsNumeral text × (digits_value 10 text ≡ n) × (n < 2 ^ 64)
 IsWritten (tok.Reserved w) text = text ≡ word_text w
-IsWritten (tok.Uint bits) text = IsWidth bits text
+IsWritten (tok.Uint bits) text = IsUintWord bits text
 IsWritten (tok.Symbol s) text = text ≡ symbol_text s
 
 -- Texts.
@@ -88,7 +89,7 @@ HasTokens bytes tokens = Cut (λ at rest. rest ≡ []) 0 bytes tokens
 
 -- the text is a run that is a token, if numbers may be as wide as they like
 pub data IsTokenRun (text : List ℕ) : Type 0 where
-  name : Begins is_ascii_alphabetic text → list_all is_word_byte text ≡ true → IsTokenRun text
+  name : FirstByteIs is_ascii_alphabetic text → list_all is_word_byte text ≡ true → IsTokenRun text
   numeral : IsNumeral text → IsTokenRun text
   underscore : text ≡ codes "_" → IsTokenRun text
 
@@ -118,8 +119,8 @@ HasWideNumber bytes p = (tokens : List Placed) × Cut (λ at rest. (p ≡ at) ×
 
 -- the answer is what stands in the text: its tokens, its first bad byte, or the first byte of a number that is too
 -- wide; never want of memory
-abbrev pub IsRight : List ℕ → Lexed → Type 0
-IsRight bytes (Ok tokens) = HasTokens bytes tokens
-IsRight bytes (Err (BadByte p)) = HasBadByte bytes p
-IsRight bytes (Err (NumberTooWide p)) = HasWideNumber bytes p
-IsRight bytes (Err Memory) = ⊥
+abbrev pub LexesTo : List ℕ → Lexed → Type 0
+LexesTo bytes (Ok tokens) = HasTokens bytes tokens
+LexesTo bytes (Err (BadByte p)) = HasBadByte bytes p
+LexesTo bytes (Err (NumberTooWide p)) = HasWideNumber bytes p
+LexesTo bytes (Err Memory) = ⊥

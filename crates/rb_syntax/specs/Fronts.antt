@@ -20,13 +20,13 @@ abbrev pub ends : Option ℕ → Front
 ends fault = record { tokens = []; fault = fault }
 
 -- the front with token p before its others
-abbrev pub behind : Placed → Front → Front
-behind p f = record { tokens = p ∷ f.tokens; fault = f.fault }
+abbrev pub front_with : Placed → Front → Front
+front_with p f = record { tokens = p ∷ f.tokens; fault = f.fault }
 
 -- the front from byte `at` on, where this piece stands; `rest` gives the front behind a piece of a length
 unfoldable pub with_front : ℕ → Piece → (ℕ → Front) → Front
 with_front at (piece.Gap len) rest = rest len
-with_front at (piece.Token t len) rest = behind (record { token = t; at = at }) (rest len)
+with_front at (piece.Token t len) rest = front_with (record { token = t; at = at }) (rest len)
 with_front at (piece.Bad offset) rest = ends (Some (at + offset))
 with_front at piece.Wide rest = ends (Some at)
 
@@ -49,7 +49,7 @@ front text = front_from (length text) 0 text
 -- end
 abbrev pub IsNext : List ℕ → ℕ → Next → Type 0
 IsNext text from (next.Token p end) =
-    (front_at text from ≡ behind p (front_at text end)) × (from < end) × (end ≤ length text)
+    (front_at text from ≡ front_with p (front_at text end)) × (from < end) × (end ≤ length text)
 IsNext text from (next.Fault p) = front_at text from ≡ ends (Some p)
 IsNext text from next.End = front_at text from ≡ ends None
 
@@ -64,14 +64,14 @@ AgreesWith (Err Memory) f = ⊥
 
 -- what is left from byte `at` on stops a text: without a fault it is nothing; fault p is a bad byte behind so many
 -- good ones there, or the first byte of a number of 2^64 or more
-abbrev pub IsStop : Option ℕ → ℕ → List ℕ → Type 0
-IsStop None at rest = rest ≡ []
-IsStop (Some p) at rest = ((k : ℕ) × (p ≡ at + k) × IsBadBehind k rest) ⊎ ((p ≡ at) × IsWideNumber rest)
+abbrev pub StopsText : Option ℕ → ℕ → List ℕ → Type 0
+StopsText None at rest = rest ≡ []
+StopsText (Some p) at rest = ((k : ℕ) × (p ≡ at + k) × IsBadBehind k rest) ⊎ ((p ≡ at) × IsWideNumber rest)
 
 -- the front is right for the text: the bytes up to the place where its fault, or the run with it, begins, or to the
 -- end, are cut into their longest pieces, its tokens are those among them, and it agrees with `lex`
 pub record IsFrontOf (text : List ℕ) (f : Front) : Type 0 where
-  pub cut : Cut (IsStop f.fault) 0 text f.tokens
+  pub cut : Cut (StopsText f.fault) 0 text f.tokens
   pub agrees : AgreesWith (lexed text) f
 
 -- of each text the front has the tokens among its longest pieces before the first fault, and that fault

@@ -12,9 +12,9 @@ use Rattle.rb_syntax.specs.declared.token.Token.TheVariants as tok
 use Rattle.rb_syntax.specs.declared.piece.Piece.{Piece}
 use Rattle.rb_syntax.specs.declared.piece.Piece.TheVariants as piece
 use Rattle.rb_syntax.specs.Bytes.{is_blank, is_in_line, numeral_len}
-use Rattle.rb_syntax.specs.Words.{word_of, width_of, symbol_text, symbol_at}
+use Rattle.rb_syntax.specs.Words.{word_of, uint_width, symbol_text, symbol_at}
 
--- the token of a run `name` with a small letter first that is no reserved word, u1 to u64 aside, by what `width_of`
+-- the token of a run `name` with a small letter first that is no reserved word, u1 to u64 aside, by what `uint_width`
 -- finds of it: the type of integers of so many bits, or the name of a function or a variable
 unfoldable pub width_or_name : Option ℕ → List ℕ → Token
 width_or_name (Some bits) name = tok.Uint bits
@@ -24,7 +24,7 @@ width_or_name None name = tok.Lower name
 -- type of integers or the name that it is
 unfoldable pub word_or_name : Option Word → List ℕ → Token
 word_or_name (Some w) name = tok.Reserved w
-word_or_name None name = width_or_name (width_of name) name
+word_or_name None name = width_or_name (uint_width name) name
 
 -- the token of a run `name` whose first byte is the letter `first`: with a capital the name of a type or a
 -- constructor, else a reserved word, a type of integers, or the name of a function or a variable

@@ -45,7 +45,7 @@ use Rattle.rb_syntax.specs.declared.tree.LayoutTree.{LayoutTree}
 use Rattle.rb_syntax.specs.declared.tree.ItemTree.{ItemTree}
 use Rattle.rb_syntax.specs.declared.tree.ItemTree.TheVariants as top
 use Rattle.rb_syntax.specs.declared.tree.FileTree.{FileTree}
-use Rattle.rb_syntax.specs.Written.{Written, token, number, node, flaw, tokens_in, AreNumbered, HaveNoFlaw, Writing, checked, each, each_behind, some_with, any_with}
+use Rattle.rb_syntax.specs.Written.{Written, token, number, node, flaw, tokens_in, AreNumbered, HaveNoFlaw, Writing, flaw_unless, each, each_behind, some_with, any_with}
 
 -- Tokens by their names.
 
@@ -58,12 +58,12 @@ abbrev pub reserved : Word → Written
 reserved w = token (tok.Reserved w)
 
 -- whether there is a type of integers of so many bits: 1 to 64
-abbrev pub is_width : ℕ → Bool
-is_width bits = nat_lt 0 bits && nat_le bits 64
+abbrev pub is_uint_width : ℕ → Bool
+is_uint_width bits = nat_lt 0 bits && nat_le bits 64
 
 -- the type of integers of so many bits, with a flaw before it where there is no such type
 abbrev pub uint_written : ℕ → Writing
-uint_written bits rest = checked (is_width bits) (token (tok.Uint bits) ∷ rest)
+uint_written bits rest = flaw_unless (is_uint_width bits) (token (tok.Uint bits) ∷ rest)
 
 -- the token of a symbol
 abbrev pub sym : Symbol → Written
@@ -174,7 +174,7 @@ range_written o l rest = sym symbol.OpenBracket ∷ num o ∷ sym symbol.Colon �
 
 -- a field's number in a path, behind a dot; a flaw where it has more than 32 bits
 abbrev pub field_written : ℕ → Writing
-field_written field rest = sym symbol.Dot ∷ checked (nat_lt field (2 ^ 32)) (num field ∷ rest)
+field_written field rest = sym symbol.Dot ∷ flaw_unless (nat_lt field (2 ^ 32)) (num field ∷ rest)
 
 -- a path, the number of each field behind a dot; a flaw where it is empty
 abbrev pub path_written : List ℕ → Writing

@@ -75,6 +75,6 @@ abbrev pub symbol_at : List ℕ → Option Symbol
 symbol_at bytes = find (λ s. starts_with nat_eq bytes (symbol_text s)) symbols
 
 -- the width of the type of integers that is written so, if there is one: u1 to u64
-abbrev pub width_of : List ℕ → Option ℕ
-width_of [] = None
-width_of (u ∷ ds) = if u == 117 then number_in 1 64 ds else None
+abbrev pub uint_width : List ℕ → Option ℕ
+uint_width [] = None
+uint_width (u ∷ ds) = if u == 117 then number_in 1 64 ds else None

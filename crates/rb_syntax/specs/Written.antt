@@ -61,9 +61,9 @@ abbrev pub Writing : Type 0
 Writing = List Written → List Written
 
 -- writes nothing where the test holds, and a flaw where it fails
-abbrev pub checked : Bool → Writing
-checked true rest = rest
-checked false rest = flaw ∷ rest
+abbrev pub flaw_unless : Bool → Writing
+flaw_unless true rest = rest
+flaw_unless false rest = flaw ∷ rest
 
 -- writes parts one after the other, with nothing between
 abbrev pub each : List Writing → Writing

@@ -2,7 +2,7 @@
 
 ghost use Rattle.std.specs.Prelude.{◌≡◌};
 ghost use Rattle.rb_syntax.specs.declared.lex.LexFault.TheVariants.{Memory};
-ghost use Rattle.rb_syntax.specs.Cutting.{IsRight};
+ghost use Rattle.rb_syntax.specs.Cutting.{LexesTo};
 ghost use Rattle.rb_syntax.specs.Lexing.{lexed, IsAnswer};
 
 use crate::piece::{Piece, next_piece};
@@ -50,7 +50,7 @@ impl<T: Drop> From<AllocFailed<T>> for LexFault {
 pub fn lex(alloc: Global, bytes: &[u8]) -> Result<Vec<Placed>, LexFault>
     ensures answer { IsAnswer (lexed bytes.now) result }
     // the pieces are the text, and none could be longer
-    ensures right { IsRight bytes.now (lexed bytes.now) }
+    ensures right { LexesTo bytes.now (lexed bytes.now) }
 {
     tokens_of(alloc, bytes)
 }

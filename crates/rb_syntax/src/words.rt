@@ -25,7 +25,7 @@ pub fn symbol_at(bytes: &[u8]) -> Option<Symbol>
 
 /// The width of the type of integers that is written so: 1 to 64 for `u1` to `u64`, else `None`.
 pub fn width_of(name: &[u8]) -> Option<u8>
-    ensures { result ≡ text.width_of name.now }
+    ensures { result ≡ text.uint_width name.now }
 {
     match name {
         [b'u', digits @ ..] => match number_in(1, 64, digits) {

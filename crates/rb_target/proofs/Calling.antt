@@ -4,7 +4,7 @@ use Rattle.std.specs.Prelude.{slice_get}
 use Rattle.rb_bytes.specs.declared.fault.Full.{Full}
 use Rattle.rb_bytes.specs.declared.fault.Trap.{Trap}
 use Rattle.rb_target.specs.Calls.{AreCalls}
-use Rattle.rb_target.specs.Meaning.{World, Outcome, over, Next, Callee, act, act_at, steps, from, enter, body_of, first_slots, after_load, after_store, after_place, after_switch, after_call, after_one_call, taken, switched, with_left, slots_at, put_slots}
+use Rattle.rb_target.specs.Meaning.{World, CallEnd, over, Next, Callee, act, act_at, steps, from, enter, body_of, first_slots, after_load, after_store, after_place, after_switch, after_call, after_one_call, taken, switched, with_left, slots_at, put_slots}
 use Rattle.rb_target.specs.declared.outcome.End.{End}
 use Rattle.rb_target.specs.declared.outcome.End.TheVariants.{Returned, Spent, Full as Filled, Trapped}
 use Rattle.rb_target.specs.declared.code.CodeFun.{CodeFun}
@@ -12,26 +12,26 @@ use Rattle.rb_target.specs.declared.instr.Instr.{Instr}
 use Rattle.rb_target.specs.declared.instr.Instr.TheVariants.{Const, Copy, Alu, Take, Put, Load, Store, Place, Jump, Switch, Call, Return}
 
 -- where a run returns, it tells the calls that are left then
-record Tells (o : Outcome) : Type 0 where
+record Tells (o : CallEnd) : Type 0 where
   by : (words : List ℕ) (left : ℕ) → o.ended ≡ Returned words left → left ≡ o.world.left
 
-load_tells : (r : Result ℕ Trap) (w : World) (go : ℕ → Outcome) → ((x : ℕ) → Tells (go x)) → Tells (after_load r w go)
+load_tells : (r : Result ℕ Trap) (w : World) (go : ℕ → CallEnd) → ((x : ℕ) → Tells (go x)) → Tells (after_load r w go)
 load_tells (Ok x) w go h = h x
 load_tells (Err t) w go h = record { by = λ words left e. cc }
 
-store_tells : (r : Result (Unit {0}) Trap) (w : World) (go : Outcome) → Tells go → Tells (after_store r w go)
+store_tells : (r : Result (Unit {0}) Trap) (w : World) (go : CallEnd) → Tells go → Tells (after_store r w go)
 store_tells (Ok x) w go h = h
 store_tells (Err t) w go h = record { by = λ words left e. cc }
 
-place_tells : (r : Result ℕ Full) (w : World) (go : ℕ → Outcome) → ((x : ℕ) → Tells (go x)) → Tells (after_place r w go)
+place_tells : (r : Result ℕ Full) (w : World) (go : ℕ → CallEnd) → ((x : ℕ) → Tells (go x)) → Tells (after_place r w go)
 place_tells (Ok x) w go h = h x
 place_tells (Err t) w go h = record { by = λ words left e. cc }
 
-switch_tells : (o : Option ℕ) (word : ℕ) (w : World) (go : ℕ → Outcome) → ((t : ℕ) → Tells (go t)) → Tells (after_switch o word w go)
+switch_tells : (o : Option ℕ) (word : ℕ) (w : World) (go : ℕ → CallEnd) → ((t : ℕ) → Tells (go t)) → Tells (after_switch o word w go)
 switch_tells None word w go h = record { by = λ words left e. cc }
 switch_tells (Some t) word w go h = h t
 
-call_tells : (e : End) (w : World) (go : List ℕ → Outcome) → ((x : List ℕ) → Tells (go x)) → Tells (after_call e w go)
+call_tells : (e : End) (w : World) (go : List ℕ → CallEnd) → ((x : List ℕ) → Tells (go x)) → Tells (after_call e w go)
 call_tells (Returned x l) w go h = h x
 call_tells Spent w go h = record { by = λ words left e. cc }
 call_tells (Filled f) w go h = record { by = λ words left e. cc }
@@ -62,7 +62,7 @@ module _ (callee : Callee) where
   steps_tell zero body pc slots w = record { by = λ words left e. cc }
   steps_tell (suc n) body pc slots w = at_tells (slice_get body pc) (steps n body callee) pc slots w (steps_tell n body)
 
-one_call_tells : (left : ℕ) (w : World) (go : World → Outcome) → ((v : World) → Tells (go v)) → Tells (after_one_call left w go)
+one_call_tells : (left : ℕ) (w : World) (go : World → CallEnd) → ((v : World) → Tells (go v)) → Tells (after_one_call left w go)
 one_call_tells zero w go h = record { by = λ words left e. cc }
 one_call_tells (suc l) w go h = h (with_left w l)
 

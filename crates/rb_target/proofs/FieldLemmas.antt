@@ -12,20 +12,20 @@ use Rattle.std.proofs.lemmas.Grind.{common_steps}
 use Rattle.std.proofs.lemmas.Option.{same_Some}
 use Rattle.rb_core.specs.Decimal.{is_numeral}
 use Rattle.rb_core.proofs.Decimals.{numeral_spelled, numeral-decimal, value-decimal}
-use Rattle.rb_target.specs.Text.{word_text, op_text, key_text}
+use Rattle.rb_target.specs.Text.{line_word_text, op_text, key_text}
 use Rattle.rb_target.specs.Spelled.{IsShort}
 use Rattle.rb_target.specs.inner.Reading.{is_gap}
 use Rattle.rb_target.specs.inner.Fields.{number_of_word, has, leads, is_open, ops, op_of_word, op_word, named_word, numbered_word, word_in, named_front, numbered_front, is_word_front, keys, key_of_word}
 use Rattle.rb_target.specs.declared.instr.AluOp.{AluOp}
 use Rattle.rb_target.specs.declared.instr.AluOp.TheVariants.{Add, Sub, Mul, And, Or, Xor, Eq, Lt}
-use Rattle.rb_target.specs.declared.word.Word.{Word}
-use Rattle.rb_target.specs.declared.word.Word.TheVariants.{Number, Op, Dash, Of}
+use Rattle.rb_target.specs.declared.word.LineWord.{LineWord}
+use Rattle.rb_target.specs.declared.word.LineWord.TheVariants.{Number, Op, Dash, Of}
 use Rattle.rb_target.specs.declared.word.Key.{Key}
 use Rattle.rb_target.specs.declared.read.spot.Field.{Field}
 use Rattle.rb_target.specs.declared.read.spot.Field.TheVariants.{Upto, FromOne, Width, Align, Range, Operation, OrDash, OrOf, Nothing}
 
 -- whether a word may stand in a field
-abbrev pub may_be : Field → Word → Bool
+abbrev pub may_be : Field → LineWord → Bool
 may_be Nothing w = false
 may_be f (Number n) = has f n
 may_be Operation (Op op) = true
@@ -33,7 +33,7 @@ may_be OrDash Dash = true
 may_be OrOf Of = true
 may_be f w = false
 
-pub in_open : (f : Field) (w : Word) → may_be f w ≡ true → is_open f ≡ true
+pub in_open : (f : Field) (w : LineWord) → may_be f w ≡ true → is_open f ≡ true
 in_open Nothing w h = absurd (cc h)
 in_open f w h = refl
 
@@ -70,12 +70,12 @@ number_decimal n small = rw (numeral-decimal n small, value-decimal n small, wit
 -- words ------------------------------------------------------------------------------------------
 
 -- what a word that is read is
-pub record Told (f : Field) (w : List ℕ) (x : Word) : Type 0 where
-  pub text : w ≡ word_text x
+pub record Told (f : Field) (w : List ℕ) (x : LineWord) : Type 0 where
+  pub text : w ≡ line_word_text x
   pub may : may_be f x ≡ true
   pub short : IsShort x
 
-if_told : (f : Field) (w text : List ℕ) (y x : Word) → (w ≡ text → Told f w y) → (if pointwise nat_eq w text then Some y else None) ≡ Some x → Told f w x
+if_told : (f : Field) (w text : List ℕ) (y x : LineWord) → (w ≡ text → Told f w y) → (if pointwise nat_eq w text then Some y else None) ≡ Some x → Told f w x
 if_told f w text y x h e = elim (pointwise nat_eq w text) as (λ (b : Bool). b ≡ pointwise nat_eq w text → (if b then Some y else None) ≡ Some x → Told f w x) [
   | true ↦ λ k g. subst (λ z. Told f w z) (same_Some y x g) (h (same_text w text k))
   | false ↦ λ k g. absurd (cc g)
@@ -100,19 +100,19 @@ find_told p (y ∷ ys) x e = elim (p y) as (λ (b : Bool). p y ≡ b → cond b 
 pub key_told : (w : List ℕ) (k : Key) → key_of_word w ≡ Some k → key_text k ≡ w
 key_told w k e = same_text (key_text k) w (sym (find_told (λ j. pointwise nat_eq (key_text j) w) keys k e))
 
-op_told : (w : List ℕ) (o : Option AluOp) (x : Word) → op_of_word w ≡ o → op_word o ≡ Some x → Told Operation w x
+op_told : (w : List ℕ) (o : Option AluOp) (x : LineWord) → op_of_word w ≡ o → op_word o ≡ Some x → Told Operation w x
 op_told w None x e g = absurd (cc g)
 op_told w (Some op) x e g =
     let same : op_text op ≡ w = same_text (op_text op) w (sym (find_told (λ o. pointwise nat_eq (op_text o) w) ops op e)) in
     subst (λ z. Told Operation w z) (same_Some (Op op) x g) (record { text = sym same; may = refl; short = tt })
 
-named_told : (f : Field) (w : List ℕ) (x : Word) → named_word f w ≡ Some x → Told f w x
+named_told : (f : Field) (w : List ℕ) (x : LineWord) → named_word f w ≡ Some x → Told f w x
 named_told Operation w x e = op_told w (op_of_word w) x refl e
 named_told OrDash w x e = if_told OrDash w (codes "-") Dash x (λ s. record { text = s; may = refl; short = tt }) e
 named_told OrOf w x e = if_told OrOf w (codes "of") Of x (λ s. record { text = s; may = refl; short = tt }) e
 named_told f w x e = absurd (cc e)
 
-numbered_told : (f : Field) (w : List ℕ) (x : Word) (o : Option ℕ) → number_of_word w ≡ o → numbered_word f w o ≡ Some x → Told f w x
+numbered_told : (f : Field) (w : List ℕ) (x : LineWord) (o : Option ℕ) → number_of_word w ≡ o → numbered_word f w o ≡ Some x → Told f w x
 numbered_told f w x None o e = named_told f w x e
 numbered_told f w x (Some n) o e = elim (has f n) as (λ (b : Bool). has f n ≡ b → (if b then Some (Number n) else None) ≡ Some x → Told f w x) [
   | true ↦ λ k g.
@@ -121,7 +121,7 @@ numbered_told f w x (Some n) o e = elim (has f n) as (λ (b : Bool). has f n ≡
   | false ↦ λ k g. absurd (cc g)
 ] refl e
 
-pub word_told_in : (f : Field) (w : List ℕ) (x : Word) → word_in f w ≡ Some x → Told f w x
+pub word_told_in : (f : Field) (w : List ℕ) (x : LineWord) → word_in f w ≡ Some x → Told f w x
 word_told_in f w x e = numbered_told f w x (number_of_word w) refl e
 
 op_in_text : (o : AluOp) → word_in Operation (op_text o) ≡ Some (Op o)
@@ -146,7 +146,7 @@ of_in_field : (f : Field) → may_be f Of ≡ true → word_in f (codes "of") �
 of_in_field OrOf h = refl
 of_in_field f h = absurd (cc h)
 
-pub word_in_text : (f : Field) (x : Word) → may_be f x ≡ true → IsShort x → word_in f (word_text x) ≡ Some x
+pub word_in_text : (f : Field) (x : LineWord) → may_be f x ≡ true → IsShort x → word_in f (line_word_text x) ≡ Some x
 word_in_text f (Number n) h small = let k = may_number f n h in rw (number_decimal n small, k) refl
 word_in_text f (Op o) h small = op_in_field f o h
 word_in_text f Dash h small = dash_in_field f h
@@ -156,11 +156,11 @@ word_in_text f Of h small = of_in_field f h
 
 -- the front of a word that may stand there
 pub record IsWordFront (f : Field) (q : List ℕ) : Type 0 where
-  pub word : Word
+  pub word : LineWord
   pub rest : List ℕ
   pub may : may_be f word ≡ true
   pub short : IsShort word
-  pub is : q ++ rest ≡ word_text word
+  pub is : q ++ rest ≡ line_word_text word
 
 pub starts_rest : (text q : List ℕ) → starts_with nat_eq text q ≡ true → q ++ drop (length q) text ≡ text
 starts_rest text q e = sym ((starts_is Decides-eqb text q (starts_with nat_eq text q) refl).0 e)
@@ -299,7 +299,7 @@ of_steps : (f : Field) → may_be f Of ≡ true → Steps (λ w b. is_word_front
 of_steps OrOf h = (refl, refl, (refl, refl, tt))
 of_steps f h = absurd (cc h)
 
-pub word_steps : (f : Field) (x : Word) → may_be f x ≡ true → IsShort x → Steps (λ w b. is_word_front f w) [] (word_text x)
+pub word_steps : (f : Field) (x : LineWord) → may_be f x ≡ true → IsShort x → Steps (λ w b. is_word_front f w) [] (line_word_text x)
 word_steps f (Number n) h small =
     let k = may_number f n h in
     decimal_steps (λ w b. is_word_front f w) (begins f) (λ m b g s. rw (number_decimal m s) g) (begins_tenth f) n n (omega arith) small (rw k refl)

@@ -6,14 +6,14 @@ use Rattle.rb_target.proofs.Texts.{spaced-push, body_text-push}
 use Rattle.rb_target.proofs.FieldLemmas.{number_told, key_told, word_told_in, both-left, both-right}
 use Rattle.rb_target.proofs.LineLemmas.{IsSpelledBy, spelled_fit, IsGoodLine, first_good, word_follows, line_spells}
 use Rattle.rb_target.proofs.RunLemmas.{pushed, counts}
-use Rattle.rb_target.specs.Text.{word_text, key_text, key_of, spaced, instr_text, head_text, body_text, fun_text}
+use Rattle.rb_target.specs.Text.{line_word_text, key_text, key_of, spaced, instr_text, head_text, body_text, fun_text}
 use Rattle.rb_target.specs.Validity.{IsLower}
 use Rattle.rb_target.proofs.SpelledForms.{IsFit, AreFit, IsFitFun}
 use Rattle.rb_target.specs.inner.Fields.{number_of_word, is_open, word_in, key_of_word, next_field, may_end, first_line, after_word, instruction_of}
 use Rattle.rb_target.specs.inner.Reading.{named, line_next, closing, started, worded, headed, step}
 use Rattle.rb_target.specs.declared.instr.Instr.{Instr}
-use Rattle.rb_target.specs.declared.word.Word.{Word}
-use Rattle.rb_target.specs.declared.word.Word.TheVariants.{Number}
+use Rattle.rb_target.specs.declared.word.LineWord.{LineWord}
+use Rattle.rb_target.specs.declared.word.LineWord.TheVariants.{Number}
 use Rattle.rb_target.specs.declared.code.CodeFun.{CodeFun}
 use Rattle.rb_target.specs.declared.word.Key.{Key}
 use Rattle.rb_target.specs.declared.read.spot.Turn.{Turn}
@@ -145,14 +145,14 @@ first_leaves f w g h =
     (λ e. closing_leaves f w g (same_text w (codes "end") (sym e)) h) (starting_leaves f w g (key_of_word w) refl h)
 
 -- one word more of a line
-pub word_front_more : (f : CodeFun) (l : Line) (x : Word) → line_front f (after_word l x) ≡ (line_front f l ++ 32 ∷ []) ++ word_text x
+pub word_front_more : (f : CodeFun) (l : Line) (x : LineWord) → line_front f (after_word l x) ≡ (line_front f l ++ 32 ∷ []) ++ line_word_text x
 word_front_more f l x =
     ap (λ t. opened f ++ (key_text l.key ++ t)) (spaced-push l.words x)
-    ∙ ap (λ t. opened f ++ t) (sym (append_assoc (key_text l.key) (spaced l.words) (32 ∷ word_text x)))
-    ∙ sym (append_assoc (opened f) (key_text l.key ++ spaced l.words) (32 ∷ word_text x))
-    ∙ sym (append_assoc (line_front f l) (32 ∷ []) (word_text x))
+    ∙ ap (λ t. opened f ++ t) (sym (append_assoc (key_text l.key) (spaced l.words) (32 ∷ line_word_text x)))
+    ∙ sym (append_assoc (opened f) (key_text l.key ++ spaced l.words) (32 ∷ line_word_text x))
+    ∙ sym (append_assoc (line_front f l) (32 ∷ []) (line_word_text x))
 
-within_leaves : (f : CodeFun) (l : Line) (w : List ℕ) (g : ℕ) (o : Option Word) → word_in (next_field l.rest) w ≡ o → IsGoodWithin f l
+within_leaves : (f : CodeFun) (l : Line) (w : List ℕ) (g : ℕ) (o : Option LineWord) → word_in (next_field l.rest) w ≡ o → IsGoodWithin f l
     → Leaves ((line_front f l ++ 32 ∷ []) ++ (w ++ g ∷ [])) (worded f l g o)
 within_leaves f l w g None e h = tt
 within_leaves f l w g (Some x) e h =
@@ -161,7 +161,7 @@ within_leaves f l w g (Some x) e h =
     (word_front_more f l x ∙ ap (λ t. (line_front f l ++ 32 ∷ []) ++ t) (sym told.text))
 
 -- one count more
-count_front : (f : CodeFun) (us : List Word) (n g : ℕ)
+count_front : (f : CodeFun) (us : List LineWord) (n g : ℕ)
     → (codes "fun " ++ (f.name ++ spaced (us ++ Number n ∷ []))) ++ g ∷ [] ≡ ((codes "fun " ++ (f.name ++ spaced us)) ++ 32 ∷ []) ++ (decimal n ++ g ∷ [])
 count_front f us n g =
     let front : List ℕ = codes "fun " ++ (f.name ++ spaced us) in

@@ -6,7 +6,7 @@ use Rattle.std.proofs.lemmas.Grind.{common_steps}
 use Rattle.rb_bytes.specs.Memory.{IsWidth, IsAlign}
 use Rattle.rb_target.proofs.Texts.{pairs-push}
 use Rattle.rb_target.proofs.FieldLemmas.{may_be, both-left, both-right}
-use Rattle.rb_target.specs.Text.{key_of, words_of, numbers, pairs}
+use Rattle.rb_target.specs.Text.{key_of, line_words, numbers, pairs}
 use Rattle.rb_target.specs.Validity.{IsBounded}
 use Rattle.rb_target.specs.Spelled.{IsShort}
 use Rattle.rb_target.proofs.SpelledForms.{AreShort, IsFit}
@@ -16,8 +16,8 @@ use Rattle.rb_target.specs.declared.instr.AluOp.TheVariants.{Add}
 use Rattle.rb_target.specs.declared.instr.SwitchArm.{SwitchArm}
 use Rattle.rb_target.specs.declared.instr.Instr.{Instr}
 use Rattle.rb_target.specs.declared.instr.Instr.TheVariants.{Const, Copy, Alu, Take, Put, Load, Store, Place, Jump, Switch, Call, Return}
-use Rattle.rb_target.specs.declared.word.Word.{Word}
-use Rattle.rb_target.specs.declared.word.Word.TheVariants.{Number, Op, Dash, Of}
+use Rattle.rb_target.specs.declared.word.LineWord.{LineWord}
+use Rattle.rb_target.specs.declared.word.LineWord.TheVariants.{Number, Op, Dash, Of}
 use Rattle.rb_target.specs.declared.word.Key.{Key}
 use Rattle.rb_target.specs.declared.word.Key.TheVariants as key
 use Rattle.rb_target.specs.declared.read.spot.Field.{Field}
@@ -29,19 +29,19 @@ use Rattle.rb_target.specs.declared.read.line.Arms.{Arms}
 -- Words in fields --------------------------------------------------------------------------------
 
 -- words stand in the fields to come, one after the other
-abbrev pub fits : List Field → List Word → Bool
+abbrev pub fits : List Field → List LineWord → Bool
 fits fs [] = true
 fits [] (w ∷ ws) = false
 fits (f ∷ fs) (w ∷ ws) = may_be f w && fits (behind_field f fs w) ws
 
 -- words stand in the fields to come, and the line may end behind them
-abbrev pub whole : List Field → List Word → Bool
+abbrev pub whole : List Field → List LineWord → Bool
 whole fs [] = may_end fs
 whole [] (w ∷ ws) = false
 whole (f ∷ fs) (w ∷ ws) = may_be f w && whole (behind_field f fs w) ws
 
 -- the fields to come behind some words
-abbrev pub behind : List Field → List Word → List Field
+abbrev pub behind : List Field → List LineWord → List Field
 behind fs [] = fs
 behind fs (w ∷ ws) = behind (fields_after fs w) ws
 
@@ -51,7 +51,7 @@ both true b x y = y
 both false b x y = x
 
 -- one word more, in the next field
-fits-push : (fs : List Field) (ws : List Word) (w : Word) → fits fs ws ≡ true → may_be (next_field (behind fs ws)) w ≡ true → fits fs (ws ++ w ∷ []) ≡ true
+fits-push : (fs : List Field) (ws : List LineWord) (w : LineWord) → fits fs ws ≡ true → may_be (next_field (behind fs ws)) w ≡ true → fits fs (ws ++ w ∷ []) ≡ true
 fits-push [] [] w a b = absurd (cc b)
 fits-push (f ∷ fs) [] w a b = both (may_be f w) true b refl
 fits-push [] (v ∷ ws) w a b = absurd (cc a)
@@ -60,12 +60,12 @@ fits-push (f ∷ fs) (v ∷ ws) w a b =
     both (may_be f v) (fits more (ws ++ w ∷ [])) (both-left (may_be f v) (fits more ws) a) (fits-push more ws w (both-right (may_be f v) (fits more ws) a) b)
 
 -- the fields to come behind one word more
-behind-push : (fs : List Field) (ws : List Word) (w : Word) → behind fs (ws ++ w ∷ []) ≡ fields_after (behind fs ws) w
+behind-push : (fs : List Field) (ws : List LineWord) (w : LineWord) → behind fs (ws ++ w ∷ []) ≡ fields_after (behind fs ws) w
 behind-push fs [] w = refl
 behind-push fs (v ∷ ws) w = behind-push (fields_after fs v) ws w
 
 -- words that stand in the fields, and words behind them with which the line is whole
-whole-append : (fs : List Field) (ws more : List Word) → fits fs ws ≡ true → whole (behind fs ws) more ≡ true → whole fs (ws ++ more) ≡ true
+whole-append : (fs : List Field) (ws more : List LineWord) → fits fs ws ≡ true → whole (behind fs ws) more ≡ true → whole fs (ws ++ more) ≡ true
 whole-append fs [] more a b = b
 whole-append [] (w ∷ ws) more a b = absurd (cc a)
 whole-append (f ∷ fs) (w ∷ ws) more a b =
@@ -73,7 +73,7 @@ whole-append (f ∷ fs) (w ∷ ws) more a b =
     both (may_be f w) (whole rest (ws ++ more)) (both-left (may_be f w) (fits rest ws) a) (whole-append rest ws more (both-right (may_be f w) (fits rest ws) a) b)
 
 -- the next word stands in the next field, and the others behind it
-pub whole_next : (fs : List Field) (w : Word) (ws : List Word) → whole fs (w ∷ ws) ≡ true → (may_be (next_field fs) w ≡ true) × (whole (fields_after fs w) ws ≡ true)
+pub whole_next : (fs : List Field) (w : LineWord) (ws : List LineWord) → whole fs (w ∷ ws) ≡ true → (may_be (next_field fs) w ≡ true) × (whole (fields_after fs w) ws ≡ true)
 whole_next [] w ws h = absurd (cc h)
 whole_next (f ∷ fs) w ws h = (both-left (may_be f w) (whole (behind_field f fs w) ws) h, both-right (may_be f w) (whole (behind_field f fs w) ws) h)
 
@@ -150,7 +150,7 @@ HasOne Nothing = ⊥
 HasOne f = Unit {0}
 
 -- a word that may stand in a field, if some word may
-abbrev some_word : Field → Word
+abbrev some_word : Field → LineWord
 some_word (FromOne high) = Number 1
 some_word Width = Number 8
 some_word Align = Number 1
@@ -179,7 +179,7 @@ HaveOne [] = Unit {0}
 HaveOne (f ∷ fs) = HasOne f × HaveOne fs
 
 -- words for all the fields to come
-abbrev finish : List Field → List Word
+abbrev finish : List Field → List LineWord
 finish [] = []
 finish (Range ∷ fs) = Number 0 ∷ Number 1 ∷ finish fs
 finish (Pairs ∷ fs) = []
@@ -206,7 +206,7 @@ finish_short (Slots ∷ fs) = tt
 finish_short (f ∷ fs) = (some_short f, finish_short fs)
 
 -- some word may stand in each field to come, behind one word more
-one_behind : (f : Field) (fs : List Field) (w : Word) → HaveOne (f ∷ fs) → may_be f w ≡ true → HaveOne (behind_field f fs w)
+one_behind : (f : Field) (fs : List Field) (w : LineWord) → HaveOne (f ∷ fs) → may_be f w ≡ true → HaveOne (behind_field f fs w)
 one_behind Range fs (Number n) h m = (let le = upto_told 63 n m in omega (arith, le), h.1)
 one_behind Range fs w h m = absurd (cc m)
 one_behind OrOf fs (Number n) h m = (tt, h.1)
@@ -217,7 +217,7 @@ one_behind Slots fs w h m = (tt, h.1)
 one_behind f fs w h m = h.1
 
 -- some word may stand in each field to come, behind words that stand in the fields
-ones_behind : (fs : List Field) (ws : List Word) → HaveOne fs → fits fs ws ≡ true → HaveOne (behind fs ws)
+ones_behind : (fs : List Field) (ws : List LineWord) → HaveOne fs → fits fs ws ≡ true → HaveOne (behind fs ws)
 ones_behind fs [] h a = h
 ones_behind [] (w ∷ ws) h a = absurd (cc a)
 ones_behind (f ∷ fs) (w ∷ ws) h a =
@@ -241,7 +241,7 @@ table_ones key.Return = (tt, tt)
 
 -- Lists of words ---------------------------------------------------------------------------------
 
-pub short-append : (us vs : List Word) → AreShort us → AreShort vs → AreShort (us ++ vs)
+pub short-append : (us vs : List LineWord) → AreShort us → AreShort vs → AreShort (us ++ vs)
 short-append [] vs a b = b
 short-append (u ∷ us) vs a b = (a.0, short-append us vs a.1 b)
 
@@ -255,7 +255,7 @@ pairs_arms done [] = ap (λ a. arms_so a None) (sym (append-nil done))
 pairs_arms done (arm ∷ arms) = pairs_arms (done ++ arm ∷ []) arms ∙ ap (λ a. arms_so a None) (append_assoc done (arm ∷ []) arms)
 
 -- words that are pairs are those of the arms read
-arms_pairs : (done : List SwitchArm) (ws : List Word) → whole (Pairs ∷ []) ws ≡ true → pairs ((fold paired (arms_so done None) ws).arms) ≡ pairs done ++ ws
+arms_pairs : (done : List SwitchArm) (ws : List LineWord) → whole (Pairs ∷ []) ws ≡ true → pairs ((fold paired (arms_so done None) ws).arms) ≡ pairs done ++ ws
 arms_pairs done [] h = sym (append-nil (pairs done))
 arms_pairs done (Number n ∷ Number t ∷ ws) h =
     let arm : SwitchArm = record { number = n; target = t } in
@@ -268,7 +268,7 @@ short_arms [] h = All-nil (λ (arm : SwitchArm). arm.number < 2 ^ 64)
 short_arms (arm ∷ arms) h = All-cons (λ (arm : SwitchArm). arm.number < 2 ^ 64) arm arms h.0 (short_arms arms h.1.1)
 
 -- words that are slots are those of the slots read
-slots_words : (ws : List Word) → whole (Slots ∷ []) ws ≡ true → numbers (map value_of ws) ≡ ws
+slots_words : (ws : List LineWord) → whole (Slots ∷ []) ws ≡ true → numbers (map value_of ws) ≡ ws
 slots_words [] h = refl
 slots_words (Number n ∷ ws) h = ap (λ vs. Number n ∷ vs) (slots_words ws h)
 slots_words ws h = absurd (cc h)
@@ -293,13 +293,13 @@ call_lists done [] froms = froms_lists done [] froms ∙ ap (λ l. lists_so l fr
 call_lists done (d ∷ ds) froms = call_lists (done ++ d ∷ []) ds froms ∙ ap (λ l. lists_so l froms true) (append_assoc done (d ∷ []) ds)
 
 -- words that are the two lists of a call
-record IsCallWords (ws : List Word) : Type 0 where
+record IsCallWords (ws : List LineWord) : Type 0 where
   dests : List ℕ
   froms : List ℕ
   is : ws ≡ numbers dests ++ Of ∷ numbers froms
 
 -- words with which the line of a call is whole
-call_words : (ws : List Word) → whole (OrOf ∷ Slots ∷ []) ws ≡ true → IsCallWords ws
+call_words : (ws : List LineWord) → whole (OrOf ∷ Slots ∷ []) ws ≡ true → IsCallWords ws
 call_words (Of ∷ ws) h = record { dests = []; froms = map value_of ws; is = ap (λ vs. Of ∷ vs) (sym (slots_words ws h)) }
 call_words (Number n ∷ ws) h =
     let more : IsCallWords ws = call_words ws h in
@@ -314,11 +314,11 @@ words_call (d ∷ ds) froms = words_call ds froms
 -- A whole line spells its instruction ------------------------------------------------------------
 
 -- the instruction of a key and words, whose line they are
-pub record IsSpelledBy (k : Key) (ws : List Word) : Type 0 where
+pub record IsSpelledBy (k : Key) (ws : List LineWord) : Type 0 where
   pub instr : Instr
   pub is : instruction_of k ws ≡ instr
   pub key : key_of instr ≡ k
-  pub words : words_of instr ≡ ws
+  pub words : line_words instr ≡ ws
   pub bounded : IsBounded instr
 
 -- three tests that hold together
@@ -337,7 +337,7 @@ range_bounds o l h =
     (upto_told 63 o told.0, long.0, long.1)
 
 -- a whole line spells the instruction of its key and words
-pub spells : (k : Key) (ws : List Word) → whole (fields k) ws ≡ true → AreShort ws → IsSpelledBy k ws
+pub spells : (k : Key) (ws : List LineWord) → whole (fields k) ws ≡ true → AreShort ws → IsSpelledBy k ws
 spells key.Const (Number d ∷ Number c ∷ []) h s = record { instr = Const d c; is = refl; key = refl; words = refl; bounded = s.1.0 }
 spells key.Copy (Number d ∷ Number a ∷ []) h s = record { instr = Copy d a; is = refl; key = refl; words = refl; bounded = tt }
 spells key.Alu (Op op ∷ Number n ∷ Number d ∷ Number a ∷ Number b ∷ []) h s =
@@ -401,7 +401,7 @@ spells key.Return ws h s = record { instr = Return (map value_of ws); is = refl;
 spells k ws h s = absurd (cc h)
 
 -- the instruction that short words spell can stand in a text
-pub spelled_fit : (k : Key) (ws : List Word) (s : IsSpelledBy k ws) → AreShort ws → IsFit s.instr
+pub spelled_fit : (k : Key) (ws : List LineWord) (s : IsSpelledBy k ws) → AreShort ws → IsFit s.instr
 spelled_fit k ws s short = record { bounded = s.bounded; short = subst AreShort (sym s.words) short }
 
 -- Lines in part ----------------------------------------------------------------------------------
@@ -417,7 +417,7 @@ pub first_good : (k : Key) → IsGoodLine (first_line k)
 first_good k = record { fit = refl; rest = refl; short = tt }
 
 -- one word more, in the next field, keeps a line good
-pub word_follows : (l : Line) (w : Word) → IsGoodLine l → may_be (next_field l.rest) w ≡ true → IsShort w → IsGoodLine (after_word l w)
+pub word_follows : (l : Line) (w : LineWord) → IsGoodLine l → may_be (next_field l.rest) w ≡ true → IsShort w → IsGoodLine (after_word l w)
 word_follows l w g may short = record {
   fit = fits-push (fields l.key) l.words w g.fit (subst (λ fs. may_be (next_field fs) w ≡ true) g.rest may);
   rest = ap (λ fs. fields_after fs w) g.rest ∙ sym (behind-push (fields l.key) l.words w);
@@ -432,7 +432,7 @@ line_spells l g h =
 
 -- words behind a line with which it is whole
 pub record Completes (l : Line) : Type 0 where
-  pub more : List Word
+  pub more : List LineWord
   pub short : AreShort more
   pub spelled : IsSpelledBy l.key (l.words ++ more)
 
@@ -443,14 +443,14 @@ ones_to_come l g = subst HaveOne (sym g.rest) (ones_behind (fields l.key) l.word
 -- every good line can be completed
 pub completes : (l : Line) → IsGoodLine l → Completes l
 completes l g =
-    let more : List Word = finish l.rest in
+    let more : List LineWord = finish l.rest in
     let all : whole (fields l.key) (l.words ++ more) ≡ true =
     whole-append (fields l.key) l.words more g.fit (subst (λ fs. whole fs more ≡ true) g.rest (finish_whole l.rest (ones_to_come l g))) in
     record { more = more; short = finish_short l.rest; spelled = spells l.key (l.words ++ more) all (short-append l.words more g.short (finish_short l.rest)) }
 
 -- some word that may stand in a field
 pub record IsNext (f : Field) : Type 0 where
-  pub word : Word
+  pub word : LineWord
   pub may : may_be f word ≡ true
   pub short : IsShort word
 
@@ -470,8 +470,8 @@ closed_ends (f ∷ fs) h closed = absurd (cc closed)
 -- the words of an instruction are read as its line with the key k
 pub record Reads (k : Key) (j : Instr) : Type 0 where
   pub key : key_of j ≡ k
-  pub whole : whole (fields k) (words_of j) ≡ true
-  pub is : instruction_of k (words_of j) ≡ j
+  pub whole : whole (fields k) (line_words j) ≡ true
+  pub is : instruction_of k (line_words j) ≡ j
 
 reads_alu : (op : AluOp) (n d a b : ℕ) → IsBounded (Alu op n d a b) → Reads key.Alu (Alu op n d a b)
 reads_alu op n d a b h = record { key = refl; whole = both (has (FromOne 64) n) true (told_from_one 64 n h.0 h.1) refl; is = rw (low n (omega (arith, h.1))) refl }

@@ -6,7 +6,7 @@ use Rattle.rb_bytes.specs.declared.fault.Full.{Full}
 use Rattle.rb_bytes.specs.declared.fault.Trap.{Trap}
 use Rattle.rb_bytes.proofs.MemoryLemmas.{place_good, store_good}
 use Rattle.rb_target.specs.Calls.{KeepGood}
-use Rattle.rb_target.specs.Meaning.{World, Outcome, Next, Callee, act, act_at, steps, from, enter, body_in, body_of, after_load, after_store, after_place, after_switch, after_call, after_one_call, taken, switched, with_left, slots_at, put_slots}
+use Rattle.rb_target.specs.Meaning.{World, CallEnd, Next, Callee, act, act_at, steps, from, enter, body_in, body_of, after_load, after_store, after_place, after_switch, after_call, after_one_call, taken, switched, with_left, slots_at, put_slots}
 use Rattle.rb_target.specs.Validity.{IsBounded, IsValidFun, IsValid}
 use Rattle.rb_target.specs.declared.outcome.End.{End}
 use Rattle.rb_target.specs.declared.outcome.End.TheVariants.{Returned, Spent, Full as Filled, Trapped}
@@ -14,26 +14,26 @@ use Rattle.rb_target.specs.declared.code.CodeFun.{CodeFun}
 use Rattle.rb_target.specs.declared.instr.Instr.{Instr}
 use Rattle.rb_target.specs.declared.instr.Instr.TheVariants.{Const, Copy, Alu, Take, Put, Load, Store, Place, Jump, Switch, Call, Return}
 
-abbrev Good : Outcome → Type 0
+abbrev Good : CallEnd → Type 0
 Good o = IsGood o.world.memory
 
-load_good : (r : Result ℕ Trap) (w : World) (go : ℕ → Outcome) → IsGood w.memory → ((x : ℕ) → Good (go x)) → Good (after_load r w go)
+load_good : (r : Result ℕ Trap) (w : World) (go : ℕ → CallEnd) → IsGood w.memory → ((x : ℕ) → Good (go x)) → Good (after_load r w go)
 load_good (Ok x) w go good h = h x
 load_good (Err t) w go good h = good
 
-stored_good : (r : Result (Unit {0}) Trap) (w : World) (go : Outcome) → IsGood w.memory → Good go → Good (after_store r w go)
+stored_good : (r : Result (Unit {0}) Trap) (w : World) (go : CallEnd) → IsGood w.memory → Good go → Good (after_store r w go)
 stored_good (Ok x) w go good h = h
 stored_good (Err t) w go good h = good
 
-placed_good : (r : Result ℕ Full) (w : World) (go : ℕ → Outcome) → IsGood w.memory → ((x : ℕ) → Good (go x)) → Good (after_place r w go)
+placed_good : (r : Result ℕ Full) (w : World) (go : ℕ → CallEnd) → IsGood w.memory → ((x : ℕ) → Good (go x)) → Good (after_place r w go)
 placed_good (Ok x) w go good h = h x
 placed_good (Err t) w go good h = good
 
-switch_good : (o : Option ℕ) (word : ℕ) (w : World) (go : ℕ → Outcome) → IsGood w.memory → ((t : ℕ) → Good (go t)) → Good (after_switch o word w go)
+switch_good : (o : Option ℕ) (word : ℕ) (w : World) (go : ℕ → CallEnd) → IsGood w.memory → ((t : ℕ) → Good (go t)) → Good (after_switch o word w go)
 switch_good None word w go good h = good
 switch_good (Some t) word w go good h = h t
 
-call_good : (e : End) (w : World) (go : List ℕ → Outcome) → IsGood w.memory → ((x : List ℕ) → Good (go x)) → Good (after_call e w go)
+call_good : (e : End) (w : World) (go : List ℕ → CallEnd) → IsGood w.memory → ((x : List ℕ) → Good (go x)) → Good (after_call e w go)
 call_good (Returned x l) w go good h = h x
 call_good Spent w go good h = good
 call_good (Filled f) w go good h = good
@@ -67,7 +67,7 @@ module _ (callee : Callee) (called : (f : ℕ) (words : List ℕ) (w : World) �
   steps_good zero body b pc slots w good = good
   steps_good (suc n) body b pc slots w good = at_good (slice_get body pc) (b pc) (steps n body callee) pc slots w good (λ t s v kept. steps_good n body b t s v kept)
 
-one_call_good : (left : ℕ) (w : World) (go : World → Outcome) → IsGood w.memory → ((v : World) → IsGood v.memory → Good (go v)) → Good (after_one_call left w go)
+one_call_good : (left : ℕ) (w : World) (go : World → CallEnd) → IsGood w.memory → ((v : World) → IsGood v.memory → Good (go v)) → Good (after_one_call left w go)
 one_call_good zero w go good h = good
 one_call_good (suc l) w go good h = h (with_left w l) good
 

@@ -2,7 +2,7 @@
 use Rattle.std.proofs.Common.{◌≡◌, ℕ, zero, suc, ◌+◌, ◌≤◌, List, length, Option, Some, None, refl, sym, ap, ◌∙◌, arith}
 use Rattle.std.specs.Prelude.{slice_get}
 use Rattle.rb_target.proofs.Results.{load_same, store_same, place_same, switch_same, call_same, one_call_same, load_left, store_left, place_left, switch_left, call_left, one_call_left}
-use Rattle.rb_target.specs.Meaning.{World, Outcome, over, Next, Callee, act, act_at, steps, from, enter, body_of, after_call, after_one_call, taken, slots_at, put_slots, first_slots, with_memory, switched}
+use Rattle.rb_target.specs.Meaning.{World, CallEnd, over, Next, Callee, act, act_at, steps, from, enter, body_of, after_call, after_one_call, taken, slots_at, put_slots, first_slots, with_memory, switched}
 use Rattle.rb_target.specs.declared.outcome.End.TheVariants.{Spent}
 use Rattle.rb_target.specs.declared.code.CodeFun.{CodeFun}
 use Rattle.rb_target.specs.declared.instr.Instr.{Instr}
@@ -67,7 +67,7 @@ module _ (most : ℕ) (a b : Callee) (falls : Falls a) (agree : Agree most a b) 
       let back = a f words w in
       let low : back.world.left ≤ most = omega (arith, falls.by f words w) in
       call_same back.ended back.world _ (λ x. h (pc + 1) (put_slots slots ds x) back.world) (λ x. e _ _ back.world low)
-      ∙ ap (λ (o : Outcome). after_call o.ended o.world (λ x. h (pc + 1) (put_slots slots ds x) o.world)) (agree.by f words w le)
+      ∙ ap (λ (o : CallEnd). after_call o.ended o.world (λ x. h (pc + 1) (put_slots slots ds x) o.world)) (agree.by f words w le)
   act_agrees (Return froms) g h pc slots w le e = refl
 
   at_agrees : (o : Option Instr) (g h : Next) (pc : ℕ) (slots : List ℕ) (w : World) → w.left ≤ most → ((t : ℕ) (s : List ℕ) (v : World) → v.left ≤ most → g t s v ≡ h t s v) → act_at o g a pc slots w ≡ act_at o h b pc slots w

@@ -6,18 +6,18 @@ use Rattle.std.proofs.lemmas.Option.{slice_get_within}
 use Rattle.rb_target.proofs.SpelledForms.{AreShort, IsFit, AreFit, IsFitFun, AreFitFuns, fit_funs}
 use Rattle.rb_target.proofs.StopLemmas.{one_text}
 use Rattle.rb_target.specs.Spelled.{IsShort, AreSpelled}
-use Rattle.rb_target.specs.Text.{numbers, pairs, other_word, words_of, code_text}
+use Rattle.rb_target.specs.Text.{numbers, pairs, other_word, line_words, code_text}
 use Rattle.rb_target.specs.Validity.{AreSlots, IsTarget, AreArms, FitsCall, IsFine, IsValidFun, IsValid}
 use Rattle.rb_target.specs.declared.instr.SwitchArm.{SwitchArm}
 use Rattle.rb_target.specs.declared.instr.Instr.{Instr}
 use Rattle.rb_target.specs.declared.instr.Instr.TheVariants.{Const, Copy, Alu, Take, Put, Load, Store, Place, Jump, Switch, Call, Return}
-use Rattle.rb_target.specs.declared.word.Word.{Word}
-use Rattle.rb_target.specs.declared.word.Word.TheVariants.{Of}
+use Rattle.rb_target.specs.declared.word.LineWord.{LineWord}
+use Rattle.rb_target.specs.declared.word.LineWord.TheVariants.{Of}
 use Rattle.rb_target.specs.declared.code.CodeFun.{CodeFun}
 
 -- The words of valid code are short ------------------------------------------------------------
 
-slots_short : (n : ℕ) (xs : List ℕ) (rest : List Word) → n < 2 ^ 64 → AreSlots n xs → AreShort rest → AreShort (numbers xs ++ rest)
+slots_short : (n : ℕ) (xs : List ℕ) (rest : List LineWord) → n < 2 ^ 64 → AreSlots n xs → AreShort rest → AreShort (numbers xs ++ rest)
 slots_short n [] rest small all short = short
 slots_short n (x ∷ xs) rest small all short =
     let one = All-head (λ a. a < n) x xs all in
@@ -62,7 +62,7 @@ width_small : (width : ℕ) → (width ≡ 8) ⊎ (width ≡ 16) ⊎ (width ≡ 
 width_small width h = grind arith
 
 module _ (funs : List CodeFun) (few : length funs < 2 ^ 64) (f : CodeFun) (small : (f.slots < 2 ^ 64) × (f.results < 2 ^ 64) × (length f.body < 2 ^ 64)) (pc : ℕ) where
-  instr_short : (i : Instr) → IsFine funs f pc i → AreShort (words_of i)
+  instr_short : (i : Instr) → IsFine funs f pc i → AreShort (line_words i)
   instr_short (Const d c) fine = (omega (arith, fine.slots, small.0), (fine.bounded, tt))
   instr_short (Copy d a) fine = (omega (arith, fine.slots.0, small.0), (omega (arith, fine.slots.1, small.0), tt))
   instr_short (Alu op n d a b) fine = (tt, (omega (arith, fine.bounded.1), (omega (arith, fine.slots.0, small.0), (omega (arith, fine.slots.1, small.0), (omega (arith, fine.slots.2, small.0), tt)))))

@@ -6,7 +6,7 @@ use Rattle.rb_target.specs.Stopping.{StopsAt}
 use Rattle.rb_target.specs.inner.Reading.{Progress, step, goes_on, named}
 use Rattle.rb_target.specs.declared.instr.AluOp.TheVariants.{Add}
 use Rattle.rb_target.specs.declared.instr.Instr.TheVariants.{Call, Return}
-use Rattle.rb_target.specs.declared.word.Word.TheVariants.{Number, Op, Of}
+use Rattle.rb_target.specs.declared.word.LineWord.TheVariants.{Number, Op, Of}
 use Rattle.rb_target.specs.declared.word.Key.TheVariants as key
 use Rattle.rb_target.specs.declared.read.spot.Field.TheVariants.{Any, FromOne, Width, Range, OrOf}
 use Rattle.rb_target.specs.declared.read.spot.Spot.TheVariants.{Starting, Within}

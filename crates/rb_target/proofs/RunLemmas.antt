@@ -5,14 +5,14 @@ use Rattle.std.proofs.lemmas.Grind.{common_steps}
 use Rattle.std.proofs.lemmas.List.Elements.{All-head, All-tail}
 use Rattle.rb_target.proofs.FieldLemmas.{in_open, number_decimal, word_in_text, Steps, decimal_steps, word_steps}
 use Rattle.rb_target.proofs.LineLemmas.{whole, whole_next, Reads, reads}
-use Rattle.rb_target.specs.Text.{word_text, key_text, key_of, words_of, spaced, line, instr_text, head_text, body_text, fun_text, code_text}
+use Rattle.rb_target.specs.Text.{line_word_text, key_text, key_of, line_words, spaced, line, instr_text, head_text, body_text, fun_text, code_text}
 use Rattle.rb_target.specs.Validity.{IsSmall, IsNameByte, IsLower}
 use Rattle.rb_target.proofs.SpelledForms.{AreShort, IsFit, AreFit, IsFitFun, AreFitFuns}
 use Rattle.rb_target.specs.inner.Fields.{number_of_word, is_open, next_field, may_end, first_line, after_word, instruction_of}
 use Rattle.rb_target.specs.inner.Reading.{is_gap, is_small, is_name_byte, named, line_next, headed, step, is_some, goes_on, Progress, start, moved, feed, then_feed, run}
 use Rattle.rb_target.specs.declared.instr.Instr.{Instr}
-use Rattle.rb_target.specs.declared.word.Word.{Word}
-use Rattle.rb_target.specs.declared.word.Word.TheVariants.{Number}
+use Rattle.rb_target.specs.declared.word.LineWord.{LineWord}
+use Rattle.rb_target.specs.declared.word.LineWord.TheVariants.{Number}
 use Rattle.rb_target.specs.declared.code.CodeFun.{CodeFun}
 use Rattle.rb_target.specs.declared.word.Key.{Key}
 use Rattle.rb_target.specs.declared.word.Key.TheVariants as key
@@ -52,19 +52,19 @@ word_run funs spot w g rest s h = steps_run funs spot [] w (g ∷ rest) s ∙ ap
 
 -- Lines ----------------------------------------------------------------------------------------
 
-abbrev gap_before : List Word → ℕ
+abbrev gap_before : List LineWord → ℕ
 gap_before [] = 10
 gap_before (w ∷ ws) = 32
 
-abbrev behind_gap : List Word → List ℕ → List ℕ
+abbrev behind_gap : List LineWord → List ℕ → List ℕ
 behind_gap [] rest = rest
-behind_gap (w ∷ ws) rest = word_text w ++ (spaced ws ++ 10 ∷ rest)
+behind_gap (w ∷ ws) rest = line_word_text w ++ (spaced ws ++ 10 ∷ rest)
 
-gap_split : (ws : List Word) (rest : List ℕ) → spaced ws ++ 10 ∷ rest ≡ gap_before ws ∷ behind_gap ws rest
+gap_split : (ws : List LineWord) (rest : List ℕ) → spaced ws ++ 10 ∷ rest ≡ gap_before ws ∷ behind_gap ws rest
 gap_split [] rest = refl
-gap_split (w ∷ ws) rest = ap (λ t. 32 ∷ t) (append_assoc (word_text w) (spaced ws) (10 ∷ rest))
+gap_split (w ∷ ws) rest = ap (λ t. 32 ∷ t) (append_assoc (line_word_text w) (spaced ws) (10 ∷ rest))
 
-gap_is : (ws : List Word) → is_gap (gap_before ws) ≡ true
+gap_is : (ws : List LineWord) → is_gap (gap_before ws) ≡ true
 gap_is [] = refl
 gap_is (w ∷ ws) = refl
 
@@ -78,7 +78,7 @@ line_goes_on : (f : CodeFun) (l : Line) → is_open (next_field l.rest) ≡ true
 line_goes_on f l h = rw h refl
 
 -- the words ws, with which the line is whole and spells j, and the bytes behind it
-line_run : (funs : List CodeFun) (f : CodeFun) (l : Line) (ws : List Word) (j : Instr) (rest : List ℕ) → whole l.rest ws ≡ true → instruction_of l.key (l.words ++ ws) ≡ j → AreShort ws
+line_run : (funs : List CodeFun) (f : CodeFun) (l : Line) (ws : List LineWord) (j : Instr) (rest : List ℕ) → whole l.rest ws ≡ true → instruction_of l.key (l.words ++ ws) ≡ j → AreShort ws
     → run (moved funs (line_next f l (gap_before ws))) (behind_gap ws rest) ≡ run (Some (at_spot funs (Starting (pushed f j)) [])) rest
 line_run funs f l [] j rest h is short =
     ap (λ m. run (moved funs m) rest) (line_ends f l h)
@@ -86,15 +86,15 @@ line_run funs f l [] j rest h is short =
 line_run funs f l (w ∷ ws) j rest h is short =
     let next = whole_next l.rest w ws h in
     let field : Field = next_field l.rest in
-    let told : step (Within f l) (word_text w) (gap_before ws) ≡ line_next f (after_word l w) (gap_before ws) = rw (word_in_text field w next.0 short.0) refl in
+    let told : step (Within f l) (line_word_text w) (gap_before ws) ≡ line_next f (after_word l w) (gap_before ws) = rw (word_in_text field w next.0 short.0) refl in
     ap (λ m. run (moved funs m) (behind_gap (w ∷ ws) rest)) (line_goes_on f l (in_open field w next.0))
-    ∙ ap (λ r. run (Some (at_spot funs (Within f l) [])) (word_text w ++ r)) (gap_split ws rest)
-    ∙ word_run funs (Within f l) (word_text w) (gap_before ws) (behind_gap ws rest) (word_steps field w next.0 short.0) (gap_is ws)
+    ∙ ap (λ r. run (Some (at_spot funs (Within f l) [])) (line_word_text w ++ r)) (gap_split ws rest)
+    ∙ word_run funs (Within f l) (line_word_text w) (gap_before ws) (behind_gap ws rest) (word_steps field w next.0 short.0) (gap_is ws)
     ∙ ap (λ m. run (moved funs m) (behind_gap ws rest)) told
     ∙ line_run funs f (after_word l w) ws j rest next.1 (ap (instruction_of l.key) (append_assoc l.words (w ∷ []) ws) ∙ is) short.1
 
 -- a line's words and end, with what follows, from its first word on
-line_split : (first : List ℕ) (ws : List Word) (rest : List ℕ) → line first ws ++ rest ≡ first ++ (gap_before ws ∷ behind_gap ws rest)
+line_split : (first : List ℕ) (ws : List LineWord) (rest : List ℕ) → line first ws ++ rest ≡ first ++ (gap_before ws ∷ behind_gap ws rest)
 line_split first ws rest =
     append_assoc (first ++ spaced ws) (10 ∷ []) rest ∙ append_assoc first (spaced ws) (10 ∷ rest) ∙ ap (λ t. first ++ t) (gap_split ws rest)
 
@@ -130,13 +130,13 @@ module _ (funs : List CodeFun) (f : CodeFun) (rest : List ℕ) where
   key_next key.Call g = refl
   key_next key.Return g = refl
 
-  key_run : (k : Key) (j : Instr) → Reads k j → AreShort (words_of j) → Runs funs f j rest
+  key_run : (k : Key) (j : Instr) → Reads k j → AreShort (line_words j) → Runs funs f j rest
   key_run k j r short =
-      ap (λ b. run (Some (at_spot funs (Starting f) [])) (line (key_text b) (words_of j) ++ rest)) r.key
-      ∙ ap (λ r. run (Some (at_spot funs (Starting f) [])) r) (line_split (key_text k) (words_of j) rest)
-      ∙ word_run funs (Starting f) (key_text k) (gap_before (words_of j)) (behind_gap (words_of j) rest) (key_steps k) (gap_is (words_of j))
-      ∙ ap (λ m. run (moved funs m) (behind_gap (words_of j) rest)) (key_next k (gap_before (words_of j)))
-      ∙ line_run funs f (first_line k) (words_of j) j rest r.whole r.is short
+      ap (λ b. run (Some (at_spot funs (Starting f) [])) (line (key_text b) (line_words j) ++ rest)) r.key
+      ∙ ap (λ r. run (Some (at_spot funs (Starting f) [])) r) (line_split (key_text k) (line_words j) rest)
+      ∙ word_run funs (Starting f) (key_text k) (gap_before (line_words j)) (behind_gap (line_words j) rest) (key_steps k) (gap_is (line_words j))
+      ∙ ap (λ m. run (moved funs m) (behind_gap (line_words j) rest)) (key_next k (gap_before (line_words j)))
+      ∙ line_run funs f (first_line k) (line_words j) j rest r.whole r.is short
 
   instr_run : (j : Instr) → IsFit j → Runs funs f j rest
   instr_run j h = key_run (key_of j) j (reads j h.bounded) h.short
@@ -185,7 +185,7 @@ pub lower_some : (name : List ℕ) → IsLower name → nat_lt 0 (length name) �
 lower_some [] h = absurd h
 lower_some (b ∷ bs) h = grind (arith, common_steps)
 
-abbrev pub counts : CodeFun → List Word
+abbrev pub counts : CodeFun → List LineWord
 counts f = Number f.params ∷ Number f.results ∷ Number f.slots ∷ []
 
 head_run : (funs : List CodeFun) (f : CodeFun) (rest : List ℕ) → IsFitFun f

@@ -8,7 +8,7 @@ use Rattle.rb_target.specs.declared.instr.Instr.TheVariants.{Const, Copy, Alu, T
 use Rattle.rb_target.specs.declared.body.Hole.{Hole}
 use Rattle.rb_target.specs.Meaning.{target_of}
 use Rattle.rb_target.specs.Sheet.{Sheet, retargeted, retargeted_arm, IsHole, IsHoleIn, with_instr, patched}
-use Rattle.rb_target.specs.Targets.{untargeted, no_target, shape, shape_in, arm_target, target_at, target_in, dests_in, SetsTarget}
+use Rattle.rb_target.specs.Targets.{untargeted, no_target, without_targets, without_targets_in, arm_target, target_at, target_in, dests_in, SetsTarget}
 use Rattle.rb_target.specs.Validity.{dests}
 use Rattle.rb_target.proofs.Growing.{get-set_same, get-set_other}
 
@@ -67,7 +67,7 @@ length-shapes xs ys e = sym (len xs) ∙ ap length e ∙ len ys
     len (z ∷ zs) = ap suc (len zs)
 
 -- one target changed
-pub retarget_shape : (i : Instr) (x : Option ℕ) (t : ℕ) → HoleView i x → shape (retargeted i x t) ≡ shape i
+pub retarget_shape : (i : Instr) (x : Option ℕ) (t : ℕ) → HoleView i x → without_targets (retargeted i x t) ≡ without_targets i
 retarget_shape _ _ t (jump u) = refl
 retarget_shape _ _ t (other a u arms) = refl
 retarget_shape _ _ t (branch a o arms k lt) = ap (λ l. Switch a (no_target o) l) (arm_shapes arms k t)
@@ -98,7 +98,7 @@ pub record IsSwitch (o : Option Instr) (a : ℕ) (e : Option ℕ) (arms : List S
   pub others : no_target other ≡ no_target e
   pub same : map untargeted list ≡ map untargeted arms
 
-pub switch_shape : (o : Option Instr) (a : ℕ) (e : Option ℕ) (arms : List SwitchArm) → shape_in o ≡ Some (shape (Switch a e arms)) → IsSwitch o a e arms
+pub switch_shape : (o : Option Instr) (a : ℕ) (e : Option ℕ) (arms : List SwitchArm) → without_targets_in o ≡ Some (without_targets (Switch a e arms)) → IsSwitch o a e arms
 switch_shape None a e arms h = absurd cc
 switch_shape (Some (Const d c)) a e arms h = absurd cc
 switch_shape (Some (Copy d x)) a e arms h = absurd cc
@@ -117,7 +117,7 @@ switch_shape (Some (Switch b o list)) a e arms h =
     let el : map untargeted list ≡ map untargeted arms = cc in
     record { other = o; list = list; is = ap (λ k. Some (Switch k o list)) eb; others = eo; same = el }
 
-pub jump_shape : (o : Option Instr) (t : ℕ) → shape_in o ≡ Some (shape (Jump t)) → (u : ℕ) × (o ≡ Some (Jump u))
+pub jump_shape : (o : Option Instr) (t : ℕ) → without_targets_in o ≡ Some (without_targets (Jump t)) → (u : ℕ) × (o ≡ Some (Jump u))
 jump_shape None t h = absurd cc
 jump_shape (Some (Const d c)) t h = absurd cc
 jump_shape (Some (Copy d x)) t h = absurd cc
@@ -141,12 +141,12 @@ arm_is_hole a None list k lt = lt
 arm_is_hole a (Some t) list k lt = lt
 
 -- a switch with this shape has these holes
-pub arm_hole : (o : Option Instr) (a : ℕ) (e : Option ℕ) (arms : List SwitchArm) (k : ℕ) → shape_in o ≡ Some (shape (Switch a e arms)) → k < length arms → IsHoleIn o (Some k)
+pub arm_hole : (o : Option Instr) (a : ℕ) (e : Option ℕ) (arms : List SwitchArm) (k : ℕ) → without_targets_in o ≡ Some (without_targets (Switch a e arms)) → k < length arms → IsHoleIn o (Some k)
 arm_hole o a e arms k h lt =
     let v = switch_shape o a e arms h in
     subst (λ x. IsHoleIn x (Some k)) (sym v.is) (arm_is_hole a v.other v.list k (omega (arith, length-shapes v.list arms v.same, lt)))
 
-pub else_hole : (o : Option Instr) (a t : ℕ) (arms : List SwitchArm) → shape_in o ≡ Some (shape (Switch a (Some t) arms)) → IsHoleIn o None
+pub else_hole : (o : Option Instr) (a t : ℕ) (arms : List SwitchArm) → without_targets_in o ≡ Some (without_targets (Switch a (Some t) arms)) → IsHoleIn o None
 else_hole o a t arms h =
     let v = switch_shape o a (Some t) arms h in
     let u = some_target v.other (Some t) t v.others refl in
@@ -169,7 +169,7 @@ pub record IsPatched (b : Sheet) (h : Hole) (t : ℕ) (c : Sheet) : Type 0 where
   pub long : length c.code ≡ length b.code
   pub here : slice_get c.code h.pc ≡ Some (retargeted old h.arm t)
   pub elsewhere : (q : ℕ) → q ≢ h.pc → slice_get c.code q ≡ slice_get b.code q
-  pub shapes : shape_in (slice_get c.code h.pc) ≡ shape_in (slice_get b.code h.pc)
+  pub shapes : without_targets_in (slice_get c.code h.pc) ≡ without_targets_in (slice_get b.code h.pc)
   pub target : target_in (slice_get c.code h.pc) h.arm ≡ Some t
   pub others : (x : Option ℕ) → (x ≡ h.arm → ⊥) → target_in (slice_get c.code h.pc) x ≡ target_in (slice_get b.code h.pc) x
 
@@ -191,7 +191,7 @@ patch_is b h t hole =
       long = ap length code ∙ length-set b.code h.pc j;
       here = here;
       elsewhere = λ q ne. ap (λ l. slice_get l q) code ∙ get-set_other b.code h.pc q j ne;
-      shapes = ap shape_in here ∙ ap Some (retarget_shape i h.arm t v.2) ∙ sym (ap shape_in v.1);
+      shapes = ap without_targets_in here ∙ ap Some (retarget_shape i h.arm t v.2) ∙ sym (ap without_targets_in v.1);
       target = ap (λ o. target_in o h.arm) here ∙ retarget_same i h.arm t v.2;
       others = λ x ne. ap (λ o. target_in o x) here ∙ retarget_other i h.arm x t v.2 ne ∙ sym (ap (λ o. target_in o x) v.1);
     }

@@ -11,15 +11,15 @@ use Rattle.rb_target.proofs.FieldLemmas.{word_in_text, any_told, IsWordFront, wo
 use Rattle.rb_target.proofs.LineLemmas.{short-append, IsSpelledBy, spelled_fit, IsGoodLine, word_follows, ones_to_come, Completes, completes, IsNext, next_word, closed_ends}
 use Rattle.rb_target.proofs.RunLemmas.{at_spot, pushed, counts, run_none, run_append, reads_code, lower_some}
 use Rattle.rb_target.proofs.FrontLemmas.{opened, line_front, head_front, spot_text, IsGoodHead, IsGoodWithin, IsGood, Leaves, pushed_spelled, opened_more, word_front_more, head_whole, IsNamed, step_leaves, zero_small}
-use Rattle.rb_target.specs.Text.{word_text, key_text, key_of, spaced, line, fun_text, code_text}
+use Rattle.rb_target.specs.Text.{line_word_text, key_text, key_of, spaced, line, fun_text, code_text}
 use Rattle.rb_target.specs.Validity.{IsSmall, IsNameByte, IsLower}
 use Rattle.rb_target.specs.Spelled.{AreSpelled}
 use Rattle.rb_target.specs.Stopping.{IsCode, StopsAt, IsTextOf}
 use Rattle.rb_target.proofs.SpelledForms.{IsFitFun, AreFitFuns, funs_fit, fit_funs}
 use Rattle.rb_target.specs.inner.Fields.{number_of_word, is_open, is_word_front, keys, next_field, after_word}
 use Rattle.rb_target.specs.inner.Reading.{is_gap, is_small, is_name_byte, named, line_next, worded, headed, step, is_some, goes_on, Progress, start, moved, feed, run, is_outside, is_done}
-use Rattle.rb_target.specs.declared.word.Word.{Word}
-use Rattle.rb_target.specs.declared.word.Word.TheVariants.{Number}
+use Rattle.rb_target.specs.declared.word.LineWord.{LineWord}
+use Rattle.rb_target.specs.declared.word.LineWord.TheVariants.{Number}
 use Rattle.rb_target.specs.declared.code.CodeFun.{CodeFun}
 use Rattle.rb_target.specs.declared.word.Key.{Key}
 use Rattle.rb_target.specs.declared.word.Key.TheVariants as key
@@ -43,9 +43,9 @@ record Goes (t : List ℕ) : Type 0 where
 abbrev ender : List ℕ
 ender = line (codes "end") []
 
-spaced-append : (us vs : List Word) → spaced (us ++ vs) ≡ spaced us ++ spaced vs
+spaced-append : (us vs : List LineWord) → spaced (us ++ vs) ≡ spaced us ++ spaced vs
 spaced-append [] vs = refl
-spaced-append (u ∷ us) vs = ap (λ t. 32 ∷ word_text u ++ t) (spaced-append us vs) ∙ sym (append_assoc (32 ∷ word_text u) (spaced us) (spaced vs))
+spaced-append (u ∷ us) vs = ap (λ t. 32 ∷ line_word_text u ++ t) (spaced-append us vs) ∙ sym (append_assoc (32 ∷ line_word_text u) (spaced us) (spaced vs))
 
 -- a line's words and end, apart
 line_parts : (a k s m e : List ℕ) → a ++ ((k ++ (s ++ m)) ++ e) ≡ (a ++ (k ++ s)) ++ (m ++ e)
@@ -75,7 +75,7 @@ goes_before t w g = record { fun = g.fun; more = w ++ g.more; spelled = g.spelle
 within_goes : (f : CodeFun) (l : Line) → IsGoodWithin f l → Goes (line_front f l ++ 32 ∷ [])
 within_goes f l h =
     let next : IsNext (next_field l.rest) = next_word l.rest (ones_to_come l h.line) h.more in
-    goes_before (line_front f l ++ 32 ∷ []) (word_text next.word)
+    goes_before (line_front f l ++ 32 ∷ []) (line_word_text next.word)
     (subst Goes (word_front_more f l next.word) (line_goes f (after_word l next.word) h.fun (word_follows l next.word h.line next.may next.short)))
 
 head_parts : (a b u r e : List ℕ) → (a ++ (b ++ (u ++ (32 ∷ r)))) ++ e ≡ ((a ++ (b ++ u)) ++ 32 ∷ []) ++ (r ++ e)
@@ -83,11 +83,11 @@ head_parts a b u r e =
     ap (λ t. (a ++ t) ++ e) (sym (append_assoc b u (32 ∷ r))) ∙ ap (λ t. t ++ e) (sym (append_assoc a (b ++ u) (32 ∷ r)))
     ∙ append_assoc (a ++ (b ++ u)) (32 ∷ r) e ∙ sym (append_assoc (a ++ (b ++ u)) (32 ∷ []) (r ++ e))
 
-head_goes : (f : CodeFun) (us : List Word) (v : Word) (vs : List Word) → IsFitFun f → f.body ≡ [] → us ++ v ∷ vs ≡ counts f
+head_goes : (f : CodeFun) (us : List LineWord) (v : LineWord) (vs : List LineWord) → IsFitFun f → f.body ≡ [] → us ++ v ∷ vs ≡ counts f
     → Goes ((codes "fun " ++ (f.name ++ spaced us)) ++ 32 ∷ [])
 head_goes f us v vs h none e =
     let front : List ℕ = (codes "fun " ++ (f.name ++ spaced us)) ++ 32 ∷ [] in
-    let rest : List ℕ = word_text v ++ spaced vs in
+    let rest : List ℕ = line_word_text v ++ spaced vs in
     let all : opened f ≡ front ++ (rest ++ 10 ∷ []) =
     head_whole f none ∙ ap (λ t. (codes "fun " ++ (f.name ++ t)) ++ 10 ∷ []) (ap spaced (sym e) ∙ spaced-append us (v ∷ vs))
     ∙ head_parts (codes "fun ") f.name (spaced us) rest (10 ∷ []) in
@@ -174,7 +174,7 @@ within_can_end : (f : CodeFun) (l : Line) (q : List ℕ) → IsGoodLine l → is
 within_can_end f l q good h =
     let front : IsWordFront (next_field l.rest) q = word_front_told (next_field l.rest) q h in
     let gap = line_gap f (after_word l front.word) (word_follows l front.word good front.may front.short) in
-    can_end (Within f l) q (word_text front.word) front.rest gap.0 front.is
+    can_end (Within f l) q (line_word_text front.word) front.rest gap.0 front.is
     (subst (λ o. Moves (worded f l gap.0 o)) (sym (word_in_text (next_field l.rest) front.word front.may front.short)) gap.1)
 
 small_told : (b : ℕ) → is_small b ≡ true → IsSmall b

@@ -1,11 +1,11 @@
 -- Texts grow at their end.
 use Rattle.std.proofs.Common.{◌≡◌, ℕ, ◌+◌, ◌<◌, List, [], ◌∷◌, ◌++◌, length, take, get_or, refl, sym, ap, ◌∙◌, append_assoc, append-nil}
 use Rattle.std.proofs.lemmas.List.{take_more}
-use Rattle.rb_target.specs.Text.{word_text, pairs, spaced, instr_text, body_text, fun_text, code_text}
+use Rattle.rb_target.specs.Text.{line_word_text, pairs, spaced, instr_text, body_text, fun_text, code_text}
 use Rattle.rb_target.specs.declared.instr.SwitchArm.{SwitchArm}
 use Rattle.rb_target.specs.declared.instr.Instr.{Instr}
-use Rattle.rb_target.specs.declared.word.Word.{Word}
-use Rattle.rb_target.specs.declared.word.Word.TheVariants.{Number}
+use Rattle.rb_target.specs.declared.word.LineWord.{LineWord}
+use Rattle.rb_target.specs.declared.word.LineWord.TheVariants.{Number}
 use Rattle.rb_target.specs.declared.code.CodeFun.{CodeFun}
 
 -- one piece more, behind what stood there at first
@@ -13,11 +13,11 @@ pub appended : {X : Type 0} (first done all : List X) (x : List X) (before after
 appended first done all x before after e0 e1 e2 =
     e1 ∙ ap (λ t. t ++ x) e0 ∙ append_assoc first done x ∙ ap (λ t. first ++ t) (sym e2)
 
-pub spaced-push : (ws : List Word) (w : Word) → spaced (ws ++ w ∷ []) ≡ spaced ws ++ 32 ∷ word_text w
-spaced-push [] w = ap (λ t. 32 ∷ t) (append-nil (word_text w))
-spaced-push (x ∷ ws) w = ap (λ t. 32 ∷ word_text x ++ t) (spaced-push ws w) ∙ sym (append_assoc (32 ∷ word_text x) (spaced ws) (32 ∷ word_text w))
+pub spaced-push : (ws : List LineWord) (w : LineWord) → spaced (ws ++ w ∷ []) ≡ spaced ws ++ 32 ∷ line_word_text w
+spaced-push [] w = ap (λ t. 32 ∷ t) (append-nil (line_word_text w))
+spaced-push (x ∷ ws) w = ap (λ t. 32 ∷ line_word_text x ++ t) (spaced-push ws w) ∙ sym (append_assoc (32 ∷ line_word_text x) (spaced ws) (32 ∷ line_word_text w))
 
-pub spaced_more : (ws : List Word) (k : ℕ) (d : Word) → k < length ws → spaced (take (k + 1) ws) ≡ spaced (take k ws) ++ 32 ∷ word_text (get_or ws k d)
+pub spaced_more : (ws : List LineWord) (k : ℕ) (d : LineWord) → k < length ws → spaced (take (k + 1) ws) ≡ spaced (take k ws) ++ 32 ∷ line_word_text (get_or ws k d)
 spaced_more ws k d lt = ap spaced (take_more ws k d lt) ∙ spaced-push (take k ws) (get_or ws k d)
 
 pub pairs-push : (arms : List SwitchArm) (arm : SwitchArm) → pairs (arms ++ arm ∷ []) ≡ pairs arms ++ Number arm.number ∷ Number arm.target ∷ []

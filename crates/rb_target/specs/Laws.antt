@@ -3,7 +3,7 @@
 -- `next` is what goes on in a body from the number of an instruction, the slots and the world, and `callee` is what a
 -- call does; each goes up to its end. A depth says how deep calls are nested at most.
 use Rattle.std.specs.Prelude.{◌≡◌, ℕ, ◌≤◌, List, Some, slice_get}
-use Rattle.rb_target.specs.Meaning.{World, Outcome, Next, Callee, act, taken, from, enter, body_of, after_call}
+use Rattle.rb_target.specs.Meaning.{World, CallEnd, Next, Callee, act, taken, from, enter, body_of, after_call}
 use Rattle.rb_target.specs.declared.outcome.End.{End}
 use Rattle.rb_target.specs.declared.outcome.End.TheVariants.{Returned}
 use Rattle.rb_target.specs.declared.instr.Instr.{Instr}
@@ -29,6 +29,6 @@ pub record IsLawful (funs : List CodeFun) : Type 0 where
   pub deep : (d e f : ℕ) (words : List ℕ) (w : World) → w.left ≤ d → w.left ≤ e
       → enter funs d f words w ≡ enter funs e f words w
   -- where a call ended so that the calls which wait for it end, too, its outcome is theirs, whatever would go on
-  pub final : (o : Outcome) (go : List ℕ → Outcome) → IsFinal o.ended → after_call o.ended o.world go ≡ o
+  pub final : (o : CallEnd) (go : List ℕ → CallEnd) → IsFinal o.ended → after_call o.ended o.world go ≡ o
   -- after a call no more calls are left than before it
   pub falls : (d f : ℕ) (words : List ℕ) (w : World) → (enter funs d f words w).world.left ≤ w.left

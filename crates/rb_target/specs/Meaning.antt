@@ -33,21 +33,21 @@ pub record World : Type 0 where
   pub taken : ℕ
 
 -- how a call, or what goes on in one, ended, and the world as it was then
-pub record Outcome : Type 0 where
+pub record CallEnd : Type 0 where
   pub ended : End
   pub world : World
 
 -- the outcome of what ends so in this world
-abbrev pub over : End → World → Outcome
+abbrev pub over : End → World → CallEnd
 over e w = record { ended = e; world = w }
 
 -- what goes on in a body, from the number of an instruction, the slots and the world, up to the call's end
 abbrev pub Next : Type 0
-Next = ℕ → List ℕ → World → Outcome
+Next = ℕ → List ℕ → World → CallEnd
 
 -- what a call does, from the function's number, its words and the world, up to its end
 abbrev pub Callee : Type 0
-Callee = ℕ → List ℕ → World → Outcome
+Callee = ℕ → List ℕ → World → CallEnd
 
 -- The word that an operation gives, from its number n of bits and two words. The first six are modulo two to the
 -- power of n. The last two compare the whole words: `Eq` gives 1 where they are equal, `Lt` where the first is below
@@ -79,30 +79,30 @@ target_of [] other word = other
 target_of (arm ∷ arms) other word = if nat_eq arm.number word then Some arm.target else target_of arms other word
 
 -- what comes after a load, by its answer, in this world: what goes on with the word, or the end with the trap
-abbrev pub after_load : Result ℕ Trap → World → (ℕ → Outcome) → Outcome
+abbrev pub after_load : Result ℕ Trap → World → (ℕ → CallEnd) → CallEnd
 after_load (Ok word) w go = go word
 after_load (Err t) w go = over (Trapped t) w
 
 -- what comes after a store, by its answer, in this world: the outcome of what goes on, or the end with the trap
-abbrev pub after_store : Result (Unit {0}) Trap → World → Outcome → Outcome
+abbrev pub after_store : Result (Unit {0}) Trap → World → CallEnd → CallEnd
 after_store (Ok u) w go = go
 after_store (Err t) w go = over (Trapped t) w
 
 -- what comes after a place, by its answer, in this world: what goes on with the block's address, or the end with what
 -- did not fit
-abbrev pub after_place : Result ℕ Full → World → (ℕ → Outcome) → Outcome
+abbrev pub after_place : Result ℕ Full → World → (ℕ → CallEnd) → CallEnd
 after_place (Ok a) w go = go a
 after_place (Err f) w go = over (Filled f) w
 
 -- what comes after a switch on a word, by the target that it found, in this world: what goes on at the target, or
 -- where none was found the end with a trap that names the word
-abbrev pub after_switch : Option ℕ → ℕ → World → (ℕ → Outcome) → Outcome
+abbrev pub after_switch : Option ℕ → ℕ → World → (ℕ → CallEnd) → CallEnd
 after_switch None word w go = over (Trapped (Unmatched word)) w
 after_switch (Some t) word w go = go t
 
 -- What comes after a call, by its end and the world that it left: what goes on with its results where it returned.
 -- Any other end is the end of what called, too.
-abbrev pub after_call : End → World → (List ℕ → Outcome) → Outcome
+abbrev pub after_call : End → World → (List ℕ → CallEnd) → CallEnd
 after_call (Returned words calls_left) w go = go words
 after_call Spent w go = over Spent w
 after_call (Filled f) w go = over (Filled f) w
@@ -121,7 +121,7 @@ with_memory w m = record w { memory = m }
 -- no target, and a call that ends in another way than by a return end it, too. All else goes on by `next`: at pc + 1,
 -- or a jump and a switch at a target. A switch is counted whether it finds a target or traps. `callee` does the
 -- calls.
-abbrev pub act : Instr → Next → Callee → ℕ → List ℕ → World → Outcome
+abbrev pub act : Instr → Next → Callee → ℕ → List ℕ → World → CallEnd
 act (Const d c) next callee pc slots w = next (pc + 1) (slice_set slots d c) w
 act (Copy d a) next callee pc slots w = next (pc + 1) (slice_set slots d (slice_index slots a)) w
 act (Alu op n d a b) next callee pc slots w =
@@ -155,13 +155,13 @@ taken w = record w { taken = w.taken + 1 }
 
 -- What is done at the number `pc`, by the instruction that stands there, which is counted as begun. Where none stands
 -- there the run is spent; valid code does not come to this.
-abbrev pub act_at : Option Instr → Next → Callee → ℕ → List ℕ → World → Outcome
+abbrev pub act_at : Option Instr → Next → Callee → ℕ → List ℕ → World → CallEnd
 act_at None next callee pc slots w = over Spent w
 act_at (Some i) next callee pc slots w = act i next callee pc slots (taken w)
 
 -- A body from the instruction `pc` on, for at most n instructions, and spent where these don't end it. Since jumps
 -- and switches of valid code go forward, the body's length is enough.
-abbrev pub steps : ℕ → List Instr → Callee → ℕ → List ℕ → World → Outcome
+abbrev pub steps : ℕ → List Instr → Callee → ℕ → List ℕ → World → CallEnd
 steps zero body callee pc slots w = over Spent w
 steps (suc n) body callee pc slots w = act_at (slice_get body pc) (steps n body callee) callee pc slots w
 
@@ -194,7 +194,7 @@ with_left w left = record w { left = left }
 
 -- What a call does that costs one of the calls that are left, by their number: it is spent where none is left, and
 -- else goes on in the world with one less.
-abbrev pub after_one_call : ℕ → World → (World → Outcome) → Outcome
+abbrev pub after_one_call : ℕ → World → (World → CallEnd) → CallEnd
 after_one_call zero w go = over Spent w
 after_one_call (suc left) w go = go (with_left w left)
 
@@ -207,5 +207,5 @@ enter funs (suc depth) f words w =
 
 -- a whole run of the function f with some words, over a memory and with a number of calls, its own included; neither
 -- a switch nor an instruction is counted yet
-abbrev pub run_of : List CodeFun → ℕ → ℕ → List ℕ → Memory → Outcome
+abbrev pub run_of : List CodeFun → ℕ → ℕ → List ℕ → Memory → CallEnd
 run_of funs calls f words m = enter funs calls f words (record { left = calls; memory = m; switches = 0; taken = 0 })

@@ -22,15 +22,15 @@ no_target None = None
 no_target (Some t) = Some 0
 
 -- an instruction with 0 in place of each of its targets; one without targets is itself
-abbrev pub shape : Instr → Instr
-shape (Jump t) = Jump 0
-shape (Switch a other arms) = Switch a (no_target other) (map untargeted arms)
-shape i = i
+abbrev pub without_targets : Instr → Instr
+without_targets (Jump t) = Jump 0
+without_targets (Switch a other arms) = Switch a (no_target other) (map untargeted arms)
+without_targets i = i
 
 -- the shape of an instruction, if there is one
-abbrev pub shape_in : Option Instr → Option Instr
-shape_in None = None
-shape_in (Some i) = Some (shape i)
+abbrev pub without_targets_in : Option Instr → Option Instr
+without_targets_in None = None
+without_targets_in (Some i) = Some (without_targets i)
 
 -- the target of an arm, if there is one
 abbrev pub arm_target : Option SwitchArm → Option ℕ
@@ -55,19 +55,19 @@ dests_in None = []
 dests_in (Some i) = dests i
 
 -- the hole is one of these holes
-abbrev pub IsIn : Hole → List Hole → Type 0
-IsIn h hs = (k : ℕ) × (slice_get hs k ≡ Some h)
+abbrev pub IsHoleAmong : Hole → List Hole → Type 0
+IsHoleAmong h hs = (k : ℕ) × (slice_get hs k ≡ Some h)
 
 -- this target of the instruction `pc` is open: one of the holes names it
-abbrev pub IsOpen : List Hole → ℕ → Option ℕ → Type 0
-IsOpen hs pc arm = (h : Hole) × IsIn h hs × (h.pc ≡ pc) × (h.arm ≡ arm)
+abbrev pub IsOpenTarget : List Hole → ℕ → Option ℕ → Type 0
+IsOpenTarget hs pc arm = (h : Hole) × IsHoleAmong h hs × (h.pc ≡ pc) × (h.arm ≡ arm)
 
 -- At `pc` the finished code has the instruction that this code has, or neither has one. Those of its targets that a
 -- hole names may differ; where no hole names one it is the very same.
 pub record AgreesAt (final code : List Instr) (hs : List Hole) (pc : ℕ) : Type 0 where
-  pub same : ((arm : Option ℕ) → IsOpen hs pc arm → ⊥) → slice_get final pc ≡ slice_get code pc
-  pub shapes : shape_in (slice_get final pc) ≡ shape_in (slice_get code pc)
-  pub targets : (arm : Option ℕ) → (IsOpen hs pc arm → ⊥)
+  pub same : ((arm : Option ℕ) → IsOpenTarget hs pc arm → ⊥) → slice_get final pc ≡ slice_get code pc
+  pub shapes : without_targets_in (slice_get final pc) ≡ without_targets_in (slice_get code pc)
+  pub targets : (arm : Option ℕ) → (IsOpenTarget hs pc arm → ⊥)
       → target_in (slice_get final pc) arm ≡ target_in (slice_get code pc) arm
 
 -- at each place from a up to b the finished code is this code, but for the targets that a hole names, which may be
@@ -83,7 +83,7 @@ pub record SetsTarget (b : Sheet) (h : Hole) (t : ℕ) (c : Sheet) : Type 0 wher
   -- the hole's instruction has its other targets as before, and all that is no target
   pub others : (arm : Option ℕ) → arm ≢ h.arm
       → target_in (slice_get c.code h.pc) arm ≡ target_in (slice_get b.code h.pc) arm
-  pub shapes : shape_in (slice_get c.code h.pc) ≡ shape_in (slice_get b.code h.pc)
+  pub shapes : without_targets_in (slice_get c.code h.pc) ≡ without_targets_in (slice_get b.code h.pc)
   -- other instructions are the same
   pub elsewhere : (pc : ℕ) → pc ≢ h.pc → slice_get c.code pc ≡ slice_get b.code pc
   -- each instruction writes the same slots, and there are as many parameters and slots

@@ -2,7 +2,7 @@
 -- `end`. One blank stands between two words of a line.
 --
 -- Texts are lists of bytes. A line is its first word, the other words of the line, each after a blank, and the byte
--- 10. The first word of an instruction's line is its key, as `const`; the others of a line are of the type `Word`.
+-- 10. The first word of an instruction's line is its key, as `const`; the others of a line are of the type `LineWord`.
 use Rattle.std.specs.Prelude.{ℕ, List, [], ◌∷◌, ◌++◌, map, codes, Option, Some, None}
 use Rattle.std.specs.Fmt.{decimal}
 use Rattle.rb_target.specs.declared.instr.AluOp.{AluOp}
@@ -12,8 +12,8 @@ use Rattle.rb_target.specs.declared.instr.Instr.{Instr}
 use Rattle.rb_target.specs.declared.instr.Instr.TheVariants.{Const, Copy, Alu, Take, Put, Load, Store, Place, Jump, Switch, Call, Return}
 use Rattle.rb_target.specs.declared.word.Key.{Key}
 use Rattle.rb_target.specs.declared.word.Key.TheVariants as key
-use Rattle.rb_target.specs.declared.word.Word.{Word}
-use Rattle.rb_target.specs.declared.word.Word.TheVariants.{Number, Op, Dash, Of}
+use Rattle.rb_target.specs.declared.word.LineWord.{LineWord}
+use Rattle.rb_target.specs.declared.word.LineWord.TheVariants.{Number, Op, Dash, Of}
 use Rattle.rb_target.specs.declared.code.CodeFun.{CodeFun}
 
 -- an operation's name, as the first word behind `alu` has it
@@ -28,11 +28,11 @@ op_text Eq = codes "eq"
 op_text Lt = codes "lt"
 
 -- a word's bytes: a number in decimal, an operation's name, `-` or `of`
-abbrev pub word_text : Word → List ℕ
-word_text (Number n) = decimal n
-word_text (Op op) = op_text op
-word_text Dash = codes "-"
-word_text Of = codes "of"
+abbrev pub line_word_text : LineWord → List ℕ
+line_word_text (Number n) = decimal n
+line_word_text (Op op) = op_text op
+line_word_text Dash = codes "-"
+line_word_text Of = codes "of"
 
 -- a key's bytes
 abbrev pub key_text : Key → List ℕ
@@ -65,47 +65,47 @@ key_of (Call f ds froms) = key.Call
 key_of (Return froms) = key.Return
 
 -- numbers as words, in their order
-abbrev pub numbers : List ℕ → List Word
+abbrev pub numbers : List ℕ → List LineWord
 numbers ns = map (λ n. Number n) ns
 
 -- a switch's arms as words, two for each in their order: the number and its target
-abbrev pub pairs : List SwitchArm → List Word
+abbrev pub pairs : List SwitchArm → List LineWord
 pairs [] = []
 pairs (arm ∷ arms) = Number arm.number ∷ Number arm.target ∷ pairs arms
 
 -- the word for a switch's other target: its number, or a dash where there is none
-abbrev pub other_word : Option ℕ → Word
+abbrev pub other_word : Option ℕ → LineWord
 other_word None = Dash
 other_word (Some t) = Number t
 
 -- the words of an instruction's line after the first: its parts in their order, with `of` in a call between the slots
 -- for the results and those of its words
-abbrev pub words_of : Instr → List Word
-words_of (Const d c) = Number d ∷ Number c ∷ []
-words_of (Copy d a) = Number d ∷ Number a ∷ []
-words_of (Alu op n d a b) = Op op ∷ Number n ∷ Number d ∷ Number a ∷ Number b ∷ []
-words_of (Take d a o l) = Number d ∷ Number a ∷ Number o ∷ Number l ∷ []
-words_of (Put d a o l) = Number d ∷ Number a ∷ Number o ∷ Number l ∷ []
-words_of (Load d a offset width) = Number d ∷ Number a ∷ Number offset ∷ Number width ∷ []
-words_of (Store a offset width v) = Number a ∷ Number offset ∷ Number width ∷ Number v ∷ []
-words_of (Place d size align) = Number d ∷ Number size ∷ Number align ∷ []
-words_of (Jump t) = Number t ∷ []
-words_of (Switch a other arms) = Number a ∷ other_word other ∷ pairs arms
-words_of (Call f ds froms) = Number f ∷ numbers ds ++ Of ∷ numbers froms
-words_of (Return froms) = numbers froms
+abbrev pub line_words : Instr → List LineWord
+line_words (Const d c) = Number d ∷ Number c ∷ []
+line_words (Copy d a) = Number d ∷ Number a ∷ []
+line_words (Alu op n d a b) = Op op ∷ Number n ∷ Number d ∷ Number a ∷ Number b ∷ []
+line_words (Take d a o l) = Number d ∷ Number a ∷ Number o ∷ Number l ∷ []
+line_words (Put d a o l) = Number d ∷ Number a ∷ Number o ∷ Number l ∷ []
+line_words (Load d a offset width) = Number d ∷ Number a ∷ Number offset ∷ Number width ∷ []
+line_words (Store a offset width v) = Number a ∷ Number offset ∷ Number width ∷ Number v ∷ []
+line_words (Place d size align) = Number d ∷ Number size ∷ Number align ∷ []
+line_words (Jump t) = Number t ∷ []
+line_words (Switch a other arms) = Number a ∷ other_word other ∷ pairs arms
+line_words (Call f ds froms) = Number f ∷ numbers ds ++ Of ∷ numbers froms
+line_words (Return froms) = numbers froms
 
 -- the bytes of some words, each after a blank; none for no words
-abbrev pub spaced : List Word → List ℕ
+abbrev pub spaced : List LineWord → List ℕ
 spaced [] = []
-spaced (w ∷ ws) = 32 ∷ word_text w ++ spaced ws
+spaced (w ∷ ws) = 32 ∷ line_word_text w ++ spaced ws
 
 -- a line, from its first word's bytes and its other words
-abbrev pub line : List ℕ → List Word → List ℕ
+abbrev pub line : List ℕ → List LineWord → List ℕ
 line first ws = first ++ spaced ws ++ 10 ∷ []
 
 -- an instruction's line
 abbrev pub instr_text : Instr → List ℕ
-instr_text i = line (key_text (key_of i)) (words_of i)
+instr_text i = line (key_text (key_of i)) (line_words i)
 
 -- a function's first line: `fun`, its name, and its numbers of parameters, results and slots
 abbrev pub head_text : CodeFun → List ℕ

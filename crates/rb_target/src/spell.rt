@@ -1,29 +1,29 @@
 //! Code as text: a line for each instruction. A line is its first word, which says what it is, the
-//! other words, each after a blank, and the line's end. A [`Word`] is one of those after the first.
+//! other words, each after a blank, and the line's end. A [`LineWord`] is one of those after the first.
 //! Where a function that adds to a list wants memory, what it added until then stays.
 
 ghost use Rattle.std.specs.Prelude.{◌≡◌, ◌++◌, ◌∷◌, [], IfOk, List};
 ghost use Rattle.rb_target.specs.Validity.{IsValid};
-ghost use Rattle.rb_target.specs.Text.{words_of, spaced, word_text, line, body_text, fun_text, code_text, numbers, pairs};
+ghost use Rattle.rb_target.specs.Text.{line_words, spaced, line_word_text, line, body_text, fun_text, code_text, numbers, pairs};
 
 use crate::code::{Code, CodeFun};
 use crate::instr::{Instr, SwitchArm};
-use crate::word::{Word, key_name, key_of, op_name};
+use crate::word::{LineWord, key_name, key_of, op_name};
 use rb_core::decimal::digits;
 use std::alloc::{AllocError, Global};
 
 // Adds the words of some slots, their numbers, in their order.
-fn push_slots(words: &mut Vec<Word>, slots: &[usize]) -> Result<(), AllocError>
+fn push_slots(words: &mut Vec<LineWord>, slots: &[usize]) -> Result<(), AllocError>
     ensures { IfOk result (λ _. words.new.items ≡ words.old.items ++ numbers slots.now) }
 {
     for slot in slots {
-        words.push(Word::Number(*slot as u64))?;
+        words.push(LineWord::Number(*slot as u64))?;
     }
     Ok(())
 }
 
 // Adds the words of a switch's arms, in their order: of each its number, then its target.
-fn push_arms(words: &mut Vec<Word>, arms: &[SwitchArm]) -> Result<(), AllocError>
+fn push_arms(words: &mut Vec<LineWord>, arms: &[SwitchArm]) -> Result<(), AllocError>
     ensures { IfOk result (λ _. words.new.items ≡ words.old.items ++ pairs arms.now) }
 {
     for arm in arms {
@@ -33,17 +33,17 @@ fn push_arms(words: &mut Vec<Word>, arms: &[SwitchArm]) -> Result<(), AllocError
 }
 
 // Adds the words of some numbers, in their order.
-fn push_numbers(words: &mut Vec<Word>, items: &[u64]) -> Result<(), AllocError>
+fn push_numbers(words: &mut Vec<LineWord>, items: &[u64]) -> Result<(), AllocError>
     ensures { IfOk result (λ _. words.new.items ≡ words.old.items ++ numbers items.now) }
 {
     for item in items {
-        words.push(Word::Number(*item))?;
+        words.push(LineWord::Number(*item))?;
     }
     Ok(())
 }
 
 // A new list with the words of some numbers, in their order.
-fn plain(alloc: Global, items: &[u64]) -> Result<Vec<Word>, AllocError>
+fn plain(alloc: Global, items: &[u64]) -> Result<Vec<LineWord>, AllocError>
     ensures { IfOk result (λ v. v.items ≡ numbers items.now) }
 {
     let mut words = Vec::new(alloc);
@@ -52,8 +52,8 @@ fn plain(alloc: Global, items: &[u64]) -> Result<Vec<Word>, AllocError>
 }
 
 // The words of an instruction's line after its first: its parts in their order.
-fn words(alloc: Global, instr: &Instr) -> Result<Vec<Word>, AllocError>
-    ensures { IfOk result (λ v. v.items ≡ words_of instr.now) }
+fn words(alloc: Global, instr: &Instr) -> Result<Vec<LineWord>, AllocError>
+    ensures { IfOk result (λ v. v.items ≡ line_words instr.now) }
 {
     match instr {
         Instr::Const(dest, number) => plain(alloc, &[*dest as u64, *number]),
@@ -61,7 +61,7 @@ fn words(alloc: Global, instr: &Instr) -> Result<Vec<Word>, AllocError>
         Instr::Alu(op, bits, dest, left, right) => {
             let slots = [*bits as u64, *dest as u64, *left as u64, *right as u64];
             let mut words = Vec::new(alloc);
-            words.push(Word::Op(*op))?;
+            words.push(LineWord::Op(*op))?;
             push_numbers(&mut words, &slots)?;
             Ok(words)
         }
@@ -98,13 +98,13 @@ fn switch_words(
     from: usize,
     other: Option<usize>,
     arms: &[SwitchArm],
-) -> Result<Vec<Word>, AllocError>
-    ensures { IfOk result (λ v. v.items ≡ words_of (Instr.Switch from other arms.now)) }
+) -> Result<Vec<LineWord>, AllocError>
+    ensures { IfOk result (λ v. v.items ≡ line_words (Instr.Switch from other arms.now)) }
 {
     let mut words = plain(alloc, &[from as u64])?;
     match other {
-        Some(target) => words.push(Word::Number(target as u64))?,
-        None => words.push(Word::Dash)?,
+        Some(target) => words.push(LineWord::Number(target as u64))?,
+        None => words.push(LineWord::Dash)?,
     }
     push_arms(&mut words, arms)?;
     Ok(words)
@@ -117,32 +117,32 @@ fn call_words(
     fun: usize,
     dests: &[usize],
     froms: &[usize],
-) -> Result<Vec<Word>, AllocError>
-    ensures { IfOk result (λ v. v.items ≡ words_of (Instr.Call fun dests.now froms.now)) }
+) -> Result<Vec<LineWord>, AllocError>
+    ensures { IfOk result (λ v. v.items ≡ line_words (Instr.Call fun dests.now froms.now)) }
 {
     let mut words = plain(alloc, &[fun as u64])?;
     push_slots(&mut words, dests)?;
-    words.push(Word::Of)?;
+    words.push(LineWord::Of)?;
     push_slots(&mut words, froms)?;
     Ok(words)
 }
 
 // Adds a blank and a word to a text.
-fn push_word(text: &mut Vec<u8>, word: Word) -> Result<(), AllocError>
-    ensures { IfOk result (λ _. text.new.items ≡ text.old.items ++ 32 ∷ word_text word) }
+fn push_word(text: &mut Vec<u8>, word: LineWord) -> Result<(), AllocError>
+    ensures { IfOk result (λ _. text.new.items ≡ text.old.items ++ 32 ∷ line_word_text word) }
 {
     text.push(b' ')?;
     match word {
-        Word::Number(number) => text.extend_from_slice(digits(number).as_slice())?,
-        Word::Op(op) => text.extend_from_slice(op_name(op))?,
-        Word::Dash => text.push(b'-')?,
-        Word::Of => text.extend_from_slice(b"of")?,
+        LineWord::Number(number) => text.extend_from_slice(digits(number).as_slice())?,
+        LineWord::Op(op) => text.extend_from_slice(op_name(op))?,
+        LineWord::Dash => text.push(b'-')?,
+        LineWord::Of => text.extend_from_slice(b"of")?,
     }
     Ok(())
 }
 
 // Adds a line to a text: its first word, the others each after a blank, and the line's end.
-fn push_line(text: &mut Vec<u8>, first: &[u8], words: &[Word]) -> Result<(), AllocError>
+fn push_line(text: &mut Vec<u8>, first: &[u8], words: &[LineWord]) -> Result<(), AllocError>
     ensures { IfOk result (λ _. text.new.items ≡ text.old.items ++ line first.now words.now) }
 {
     text.extend_from_slice(first)?;
@@ -152,7 +152,7 @@ fn push_line(text: &mut Vec<u8>, first: &[u8], words: &[Word]) -> Result<(), All
 }
 
 // Adds words to a text, each after a blank.
-fn push_words(text: &mut Vec<u8>, words: &[Word]) -> Result<(), AllocError>
+fn push_words(text: &mut Vec<u8>, words: &[LineWord]) -> Result<(), AllocError>
     ensures { IfOk result (λ _. text.new.items ≡ text.old.items ++ spaced words.now) }
 {
     for word in words {

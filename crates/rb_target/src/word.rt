@@ -41,7 +41,7 @@ pub(crate) const KEYS: [Key; 12] = [
 
 /// A word after a line's first.
 #[derive(Clone, Copy, PartialEq, Eq)]
-pub enum Word {
+pub enum LineWord {
     /// A number, written in decimal.
     Number(u64),
     /// An operation's name, as `add`.

@@ -6,7 +6,7 @@ use Rattle.std.proofs.lemmas.List.Elements.{All-head, All-tail}
 use Rattle.std.specs.Prelude.{slice_get, slice_index, slice_set, IfSome, All}
 use Rattle.rb_bits.specs.Words.{take_of, put_of}
 use Rattle.rb_bytes.specs.Memory.{Memory, load_of, store_of, place_of}
-use Rattle.rb_target.specs.Meaning.{World, Outcome, Next, Callee, act, over, switched, with_memory, target_of, alu_of, slots_at, put_slots, after_load, after_store, after_place, after_switch, after_call}
+use Rattle.rb_target.specs.Meaning.{World, CallEnd, Next, Callee, act, over, switched, with_memory, target_of, alu_of, slots_at, put_slots, after_load, after_store, after_place, after_switch, after_call}
 use Rattle.rb_target.specs.Validity.{SlotsFit, CallsFit, FitsCall}
 use Rattle.rb_target.specs.declared.outcome.End.TheVariants.{Returned, Trapped}
 use Rattle.rb_bytes.specs.declared.fault.Trap.TheVariants.{Unmatched}
@@ -21,7 +21,7 @@ use Rattle.rb_trim.specs.declared.hints.Hints.{Hints}
 use Rattle.rb_trim.specs.Trimming.{IsNoDearer}
 use Rattle.rb_trim.specs.inner.Facts.{IsContent, Hold, FactSays, Turns}
 use Rattle.rb_trim.specs.inner.Following.{AreSame, IsNarrow, FactIsMade, IsTold, Sets}
-use Rattle.rb_trim.specs.inner.Moving.{tells, IsWhole, SlotIsRead, Agree, NumbersAreApart, IsDest, IsName, landing, landing_in, moved_arm, MakesContent, IsWrite, IsRemade, IsPut, IsJumped, IsMoved, LeadsAhead}
+use Rattle.rb_trim.specs.inner.Moving.{tells, FindsWay, SlotIsRead, Agree, NumbersAreApart, IsDest, IsName, landing, landing_in, moved_arm, MakesContent, IsWrite, IsRemade, IsPut, IsJumped, IsMoved, LeadsAhead}
 use Rattle.rb_trim.specs.inner.Stepping.{HasArm}
 use Rattle.rb_trim.proofs.Outcomes.{Near, over_near, near_switched, near_memory, near_of, load_near, store_near, place_near, call_near}
 use Rattle.rb_trim.proofs.Slots.{AgreeOn, Borne, set_agrees, put_agrees, put_long, names_same}
@@ -64,7 +64,7 @@ module _ (other : Option ℕ) (x : ℕ) where
 
 -- a switch on few bits with an arm for each number comes to one
 pub whole_arms : (facts : List Fact) (slot from l count : ℕ) (other : Option ℕ) (arms : List SwitchArm) → AreSame facts slot from → IsNarrow facts from l → 2 ^ l ≤ count
-    → ((n : ℕ) → n < count → HasArm arms n) → IsWhole facts slot other arms
+    → ((n : ℕ) → n < count → HasArm arms n) → FindsWay facts slot other arms
 whole_arms facts slot from l count other arms same narrow most all = record {
   by = λ s m hold e.
       let x = slice_index s slot in
@@ -74,7 +74,7 @@ whole_arms facts slot from l count other arms same narrow most all = record {
 }
 
 -- one with another way comes to that
-pub whole_other : (facts : List Fact) (slot : ℕ) (other : Option ℕ) (t : ℕ) (arms : List SwitchArm) → other ≡ Some t → IsWhole facts slot other arms
+pub whole_other : (facts : List Fact) (slot : ℕ) (other : Option ℕ) (t : ℕ) (arms : List SwitchArm) → other ≡ Some t → FindsWay facts slot other arms
 whole_other facts slot other t arms is = record { by = λ s m hold e. some_way arms (slice_index s slot) (subst (λ (o : Option ℕ). target_of arms o (slice_index s slot) ≡ None) is e) }
   where
     some_way : (arms : List SwitchArm) (x : ℕ) → target_of arms (Some t) x ≡ None → ⊥
@@ -101,7 +101,7 @@ module _ (P : Option Fact → ℕ → Type 0) (a : ℕ) (s : List ℕ) (m : Memo
             (tells a arm.number, subst (λ (x : Option ℕ). IfSome x (P (tells a arm.number))) hit (All-head (λ (arm : SwitchArm). P (tells a arm.number) arm.target) arm arms all), is ∙ sym same.1)
       ]
 
-pub switch_near : (h : Hints) (o : Option ℕ) (word : ℕ) (v w : World) (g k : ℕ → Outcome) → Near v w → ((t : ℕ) → o ≡ Some t → IsNoDearer (g (landing h t)) (k t)) → IsNoDearer (after_switch (landing_in h o) word v g) (after_switch o word w k)
+pub switch_near : (h : Hints) (o : Option ℕ) (word : ℕ) (v w : World) (g k : ℕ → CallEnd) → Near v w → ((t : ℕ) → o ≡ Some t → IsNoDearer (g (landing h t)) (k t)) → IsNoDearer (after_switch (landing_in h o) word v g) (after_switch o word w k)
 switch_near h None word v w g k n e = over_near (Trapped (Unmatched word)) v w n
 switch_near h (Some t) word v w g k n e = e t refl
 
@@ -209,7 +209,7 @@ module _ (h : Hints) (apart : NumbersAreApart h) (funs : List CodeFun) (body : L
       let made : FactIsMade m.0 slots s (slice_set s d x) w.memory w.memory = told.by slots s (slice_set s d x) w.memory w.memory fit hold turns in
       let e : act j next' new pc' s' v ≡ next' (pc' + 1) (slice_set s' write.0 made.word) v = makes_acts m.0.content write.0 j made.word write.2 made.is in
       let turned : Turns i s w.memory (slice_set s m.0.slot made.word) w.memory = subst (λ y. Turns i s w.memory y w.memory) made.slot turns in
-      subst (λ (o : Outcome). IsNoDearer o (next (pc + 1) (slice_set s d x) w)) (sym e)
+      subst (λ (o : CallEnd). IsNoDearer o (next (pc + 1) (slice_set s d x) w)) (sym e)
       (subst (λ y. IsNoDearer (next' (pc' + 1) (slice_set s' write.0 made.word) v) (next (pc + 1) y w)) (sym made.slot)
       (writes i m.0.slot write.0 made.word made.word told.sets to write.1 made.within (makes_fit m.0.content write.0 j write.2 fit') refl turned go))
 

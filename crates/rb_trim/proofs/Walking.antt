@@ -5,7 +5,7 @@ use Rattle.std.proofs.lemmas.Option.{slice_get_within, same_Some}
 use Rattle.std.specs.Prelude.{slice_get, slice_index, slice_set, IfSome, All}
 use Rattle.rb_bits.specs.Words.{take_of}
 use Rattle.rb_bytes.specs.Memory.{load_of}
-use Rattle.rb_target.specs.Meaning.{World, Outcome, Next, Callee, act, over, taken, from, alu_of, after_load, after_switch, switched, target_of, slots_at}
+use Rattle.rb_target.specs.Meaning.{World, CallEnd, Next, Callee, act, over, taken, from, alu_of, after_load, after_switch, switched, target_of, slots_at}
 use Rattle.rb_target.specs.declared.outcome.End.TheVariants.{Returned}
 use Rattle.rb_target.specs.Laws.{Law}
 use Rattle.rb_target.specs.Validity.{IsTarget, TargetsFit, EndsInReturn, IsFine, IsValidFun}
@@ -18,7 +18,7 @@ use Rattle.rb_trim.specs.declared.hints.Hints.{Hints}
 use Rattle.rb_trim.specs.Trimming.{IsNoDearer}
 use Rattle.rb_trim.specs.inner.Facts.{Hold, FactSays, Turns}
 use Rattle.rb_trim.specs.inner.Following.{Sets}
-use Rattle.rb_trim.specs.inner.Moving.{IsUnread, IsReached, IsPlain, SlotIsRead, Agree, NumbersAreApart, IsDest, IsName, AreNames, IsMoved, IsCopied, IsInto, IsFolded, IsWhole, ComesBack, IsBack, landing_in, moved_arm, LivesOn, FallsOn, JumpsOn, GoesOn, EndsOn, facts_at, place, end, landing, IsIdle, IsJumped, LeadsAhead, InstrIsKept, IsLeftOut, IsSkipped, IsStep}
+use Rattle.rb_trim.specs.inner.Moving.{IsUnread, IsReached, IsPlain, SlotIsRead, Agree, NumbersAreApart, IsDest, IsName, AreNames, IsMoved, IsCopied, IsInto, IsFolded, FindsWay, ComesBack, IsBack, landing_in, moved_arm, LivesOn, FallsOn, JumpsOn, HintsHold, EndsOn, facts_at, place, end, landing, IsIdle, IsJumped, LeadsAhead, InstrIsKept, IsLeftOut, IsSkipped, IsStep}
 use Rattle.rb_trim.proofs.Outcomes.{Near, near_taken, near_behind, over_near, load_near, near_switched, near_more}
 use Rattle.rb_trim.proofs.Slots.{AgreeOn, Borne, same_or, ever, widened, onward, set_agrees, set_unread, names_same}
 use Rattle.rb_trim.proofs.Acting.{CallsNear, Comes, LedTo, acts_alike, moved_target, led_to, switch_near, first_or}
@@ -104,7 +104,7 @@ module _ (h : Hints) (pc : ℕ) where
   left_case (Return froms) on = inr on
 
 -- an instruction that is left out
-module _ (h : Hints) (slots pc : ℕ) (facts : List Fact) (old : Callee) (F : ℕ → Type 0) (J : Option Fact → ℕ → Type 0) (next : Next) (s s' : List ℕ) (w : World) (o : Outcome)
+module _ (h : Hints) (slots pc : ℕ) (facts : List Fact) (old : Callee) (F : ℕ → Type 0) (J : Option Fact → ℕ → Type 0) (next : Next) (s s' : List ℕ) (w : World) (o : CallEnd)
     (long : slots ≤ length s) (agree : Agree h pc s s') (hold : Hold s w.memory facts) where
   abbrev pub PassesOn : Instr → Type 0
   PassesOn i = (s1 : List ℕ) → F (pc + 1) → Turns i s w.memory s1 w.memory → slots ≤ length s1 → Agree h (pc + 1) s1 s' → IsNoDearer o (next (pc + 1) s1 w)
@@ -143,7 +143,7 @@ module _ (funs funs' : List CodeFun) (f q : CodeFun) (valid : IsValidFun funs f)
   led pc i is = led_behind h f.body valid.ends pc i is (valid.each pc i is).targets (steps pc i is).known
 
   -- what holds behind an instruction holds at a place behind it
-  holds_on : (pc : ℕ) (i : Instr) (told : Option Fact) (t : ℕ) → slice_get f.body pc ≡ Some i → GoesOn h pc i told t → (s s1 : List ℕ) (w w1 : World) → f.slots ≤ length s → Hold s w.memory (facts_at h pc) → FactSays told s w.memory
+  holds_on : (pc : ℕ) (i : Instr) (told : Option Fact) (t : ℕ) → slice_get f.body pc ≡ Some i → HintsHold h pc i told t → (s s1 : List ℕ) (w w1 : World) → f.slots ≤ length s → Hold s w.memory (facts_at h pc) → FactSays told s w.memory
       → Turns i s w.memory s1 w1.memory → Hold s1 w1.memory (facts_at h t)
   holds_on pc i told t is goes s s1 w w1 long hold says turns = goes.follows.by f.slots s s1 w.memory w1.memory long (valid.each pc i is).slots hold says turns
 
@@ -152,27 +152,27 @@ module _ (funs funs' : List CodeFun) (f q : CodeFun) (valid : IsValidFun funs f)
   jump_borne pc t s s' agree k (inr sets) e = absurd sets
 
   -- what the new code does from slots and a world on, whatever it is, is done from the end of an instruction on
-  abbrev pub AtEnd : ℕ → List ℕ → World → Outcome → Type 0
+  abbrev pub AtEnd : ℕ → List ℕ → World → CallEnd → Type 0
   AtEnd u s' v o = (s : List ℕ) (w : World) → Near v w → f.slots ≤ length s → Agree h u s s' → Hold s w.memory (facts_at h u) → IsNoDearer o (from f.body old u s w)
 
   abbrev pub Passes : ℕ → Type 0
-  Passes pc = (pc ≤ end h pc) × (end h pc < length f.body) × ((s' : List ℕ) (v : World) (o : Outcome) → AtEnd (end h pc) s' v o → AtEnd pc s' v o)
+  Passes pc = (pc ≤ end h pc) × (end h pc < length f.body) × ((s' : List ℕ) (v : World) (o : CallEnd) → AtEnd (end h pc) s' v o → AtEnd pc s' v o)
 
-  pass_jump : (pc t : ℕ) → slice_get f.body pc ≡ Some (Jump t) → (s' : List ℕ) (v : World) (o : Outcome) → AtEnd t s' v o → AtEnd pc s' v o
+  pass_jump : (pc t : ℕ) → slice_get f.body pc ≡ Some (Jump t) → (s' : List ℕ) (v : World) (o : CallEnd) → AtEnd t s' v o → AtEnd pc s' v o
   pass_jump pc t is s' v o go s w near long agree hold =
       let to : J pc (Jump t) None t = led pc (Jump t) is in
-      subst (λ (p : Outcome). IsNoDearer o p) (sym (law.step pc (Jump t) s w is))
+      subst (λ (p : CallEnd). IsNoDearer o p) (sym (law.step pc (Jump t) s w is))
       (go s (taken w) (near_behind v w near) long (onward h pc (Jump t) t s s' to.2.on.lives (jump_borne pc t s s' agree))
       (holds_on pc (Jump t) None t is to.2.on s s w (taken w) long hold tt (refl, refl)))
 
-  pass_idle : (pc : ℕ) (i : Instr) → slice_get f.body pc ≡ Some i → IsIdle h (facts_at h pc) pc i → (s' : List ℕ) (v : World) (o : Outcome) → AtEnd (pc + 1) s' v o → AtEnd pc s' v o
+  pass_idle : (pc : ℕ) (i : Instr) → slice_get f.body pc ≡ Some i → IsIdle h (facts_at h pc) pc i → (s' : List ℕ) (v : World) (o : CallEnd) → AtEnd (pc + 1) s' v o → AtEnd pc s' v o
   pass_idle pc i is idle s' v o go s w near long agree hold =
-      subst (λ (p : Outcome). IsNoDearer o p) (sym (law.step pc i s w is))
+      subst (λ (p : CallEnd). IsNoDearer o p) (sym (law.step pc i s w is))
       (idle_acts h f.slots pc (facts_at h pc) old (F pc i) (J pc i) (from f.body old) s s' (taken w) o long agree hold i idle (led pc i is)
       (λ to. to.2.on.lives)
       (λ s1 to turns long1 agree1. go s1 (taken w) (near_behind v w near) long1 agree1 (holds_on pc i None (pc + 1) is to.2.on s s1 w (taken w) long hold tt turns)))
 
-  from_end : (pc t : ℕ) → pc < t → Passes t → end h pc ≡ end h t → ((s' : List ℕ) (v : World) (o : Outcome) → AtEnd t s' v o → AtEnd pc s' v o) → Passes pc
+  from_end : (pc t : ℕ) → pc < t → Passes t → end h pc ≡ end h t → ((s' : List ℕ) (v : World) (o : CallEnd) → AtEnd t s' v o → AtEnd pc s' v o) → Passes pc
   from_end pc t lt rest e pass = (
     omega (arith, lt, rest.0, e),
     omega (arith, rest.1, e),
@@ -219,7 +219,7 @@ module _ (funs funs' : List CodeFun) (f q : CodeFun) (valid : IsValidFun funs f)
       passes.2 s' v (over (Returned (slots_at s' froms') v.left) v)
       (λ s w near long agree hold.
       let e : slots_at s' froms' ≡ slots_at s froms = names_same h (facts_at h (end h t)) (end h t) froms froms' s s' w.memory agree hold names in
-      subst (λ (p : Outcome). IsNoDearer (over (Returned (slots_at s' froms') v.left) v) p) (sym (law.step (end h t) (Return froms) s w is))
+      subst (λ (p : CallEnd). IsNoDearer (over (Returned (slots_at s' froms') v.left) v) p) (sym (law.step (end h t) (Return froms) s w is))
       (subst (λ us. IsNoDearer (over (Returned us v.left) v) (over (Returned (slots_at s froms) w.left) (taken w))) (sym e)
       (subst (λ n. IsNoDearer (over (Returned (slots_at s froms) n) v) (over (Returned (slots_at s froms) w.left) (taken w))) (sym near.left)
       (over_near (Returned (slots_at s froms) w.left) v (taken w) (near_behind v w near)))))
@@ -247,7 +247,7 @@ module _ (funs funs' : List CodeFun) (f q : CodeFun) (valid : IsValidFun funs f)
       let j = kept.0 in
       let fine : IsFine funs f pc i = valid.each pc i is in
       let fine' : IsFine funs' q (place h pc) j = valid'.each (place h pc) j kept.1 in
-      subst (λ (o : Outcome). IsNoDearer o (act i (from f.body old) old pc s (taken w))) (sym (law'.step (place h pc) j s' v kept.1))
+      subst (λ (o : CallEnd). IsNoDearer o (act i (from f.body old) old pc s (taken w))) (sym (law'.step (place h pc) j s' v kept.1))
       (acts_alike h apart funs f.body f.results f.slots q.slots pc (place h pc) (facts_at h pc) new old calls (F pc i) (J pc i)
       (from q.body new) (from f.body old) s s' (taken v) (taken w) (near_taken v w near) long long' agree hold
       i j moved fine.slots fine'.slots fine.calls (led pc i is)
@@ -279,7 +279,7 @@ module _ (funs funs' : List CodeFun) (f q : CodeFun) (valid : IsValidFun funs f)
         | inr idle ↦
             subst (λ m. AtEnd pc s' v (from q.body new m s' v)) skip.2
             (λ s w near long agree hold.
-            subst (λ (p : Outcome). IsNoDearer (from q.body new (place h (pc + 1)) s' v) p) (sym (law.step pc i s w is))
+            subst (λ (p : CallEnd). IsNoDearer (from q.body new (place h (pc + 1)) s' v) p) (sym (law.step pc i s w is))
             (idle_acts h f.slots pc (facts_at h pc) old (F pc i) (J pc i) (from f.body old) s s' (taken w) (from q.body new (place h (pc + 1)) s' v) long agree hold i idle (led pc i is)
             (λ to. to.2.on.lives)
             (λ s1 to turns long1 agree1. (rest (pc + 1) to.0 to.1).0 (to.2.comes skip.1 reached) s' v long' s1 (taken w) (near_behind v w near) long1 agree1
@@ -335,7 +335,7 @@ module _ (funs funs' : List CodeFun) (f q : CodeFun) (valid : IsValidFun funs f)
         let word : x ≡ slice_index s copied.from = sym (get_or-set_same wide copied.name x 0 room) ∙ copied.same.same s (slice_set wide copied.name x) w.memory agree hold in
         let turns : Turns (Copy to copied.from) s w.memory (slice_set s to x) w.memory = (ap (λ y. slice_set s to y) word, refl) in
         let back : pc + 1 ≤ here' = (passes_behind).0 in
-        subst (λ (p : Outcome). IsNoDearer (from q.body new (place h pc + 1) (slice_set s' to' x) (taken v)) p) (sym (law.step here' (Copy to copied.from) s w at))
+        subst (λ (p : CallEnd). IsNoDearer (from q.body new (place h pc + 1) (slice_set s' to' x) (taken v)) p) (sym (law.step here' (Copy to copied.from) s w at))
         (subst (λ y. IsNoDearer (from q.body new (place h pc + 1) (slice_set s' to' x) (taken v)) (from f.body old (here' + 1) (slice_set s to y) (taken w))) word
         (subst (λ n. IsNoDearer (from q.body new n (slice_set s' to' x) (taken v)) (from f.body old (here' + 1) (slice_set s to x) (taken w))) next
         ((rest (here' + 1) (omega (arith, back)) falls.1).0 copied.comes (slice_set s' to' x) (taken v) (omega (arith, long', length-set s' to' x))
@@ -352,8 +352,8 @@ module _ (funs funs' : List CodeFun) (f q : CodeFun) (valid : IsValidFun funs f)
         let falls : F pc (Load slot base offset width) (pc + 1) = led pc (Load slot base offset width) is in
         let e : load_of v.memory (slice_index s' base') offset width ≡ old_word =
         ap (λ m. load_of m (slice_index s' base') offset width) near.memory ∙ ap (λ a. load_of w.memory a offset width) (name.same s s' w.memory agree hold) in
-        subst (λ (p : Outcome). IsNoDearer (from q.body new (place h pc) s' v) p) (sym (law.step pc (Load slot base offset width) s w is))
-        (subst (λ (p : Outcome). IsNoDearer p (act (Load slot base offset width) (from f.body old) old pc s (taken w))) (sym (law'.step (place h pc) (Load to' base' offset width) s' v is'))
+        subst (λ (p : CallEnd). IsNoDearer (from q.body new (place h pc) s' v) p) (sym (law.step pc (Load slot base offset width) s w is))
+        (subst (λ (p : CallEnd). IsNoDearer p (act (Load slot base offset width) (from f.body old) old pc s (taken w))) (sym (law'.step (place h pc) (Load to' base' offset width) s' v is'))
         (subst (λ r. IsNoDearer (after_load r (taken v) (λ x. from q.body new (place h pc + 1) (slice_set s' to' x) (taken v))) (act (Load slot base offset width) (from f.body old) old pc s (taken w))) (sym e)
         (load_near old_word (taken v) (taken w) (λ x. from q.body new (place h pc + 1) (slice_set s' to' x) (taken v)) (λ x. from f.body old (pc + 1) (slice_set s slot x) (taken w)) (near_taken v w near)
         (λ x loaded. (rest (pc + 1) falls.0 falls.1).1.2 (slice_set wide copied.name x) (taken v) (from q.body new (place h pc + 1) (slice_set s' to' x) (taken v)) (from_copy x)
@@ -411,7 +411,7 @@ module _ (funs funs' : List CodeFun) (f q : CodeFun) (valid : IsValidFun funs f)
         let near1 : Near v1 (switched (taken w)) = near_more v1 (taken w) (near_behind v1 w near) in
         let P : Option Fact → ℕ → Type 0 = λ told t. J then i told t × IsReached h (end h t) in
         let le : pc ≤ then = omega (arith, leads.0.0, passes_on.0) in
-        subst (λ (p : Outcome). IsNoDearer (after_switch (target_of (map (λ (arm : SwitchArm). moved_arm h arm) more) (landing_in h other) x) x v1 (λ t. from q.body new t s' v1)) p) (sym (law.step then i s w following))
+        subst (λ (p : CallEnd). IsNoDearer (after_switch (target_of (map (λ (arm : SwitchArm). moved_arm h arm) more) (landing_in h other) x) x v1 (λ t. from q.body new t s' v1)) p) (sym (law.step then i s w following))
         (subst (λ y. IsNoDearer (after_switch (target_of (map (λ (arm : SwitchArm). moved_arm h arm) more) (landing_in h other) x) x v1 (λ t. from q.body new t s' v1)) (after_switch (target_of more other y) y (switched (taken w)) (λ t. from f.body old t s (switched (taken w))))) (sym e)
         (subst (λ (o : Option ℕ). IsNoDearer (after_switch o x v1 (λ t. from q.body new t s' v1)) (after_switch (target_of more other x) x (switched (taken w)) (λ t. from f.body old t s (switched (taken w))))) (sym (moved_target h more other x))
         (switch_near h (target_of more other x) x v1 (switched (taken w)) (λ t. from q.body new t s' v1) (λ t. from f.body old t s (switched (taken w))) near1
@@ -430,8 +430,8 @@ module _ (funs funs' : List CodeFun) (f q : CodeFun) (valid : IsValidFun funs f)
         let P : Option Fact → ℕ → Type 0 = λ told t. J pc i told t × IsReached h (end h t) in
         let onto : Agree h target s s' = onward h pc i target s s' leads.0.2.on.lives (switch_borne s' pc slot (Some target) arms s agree) in
         let held : Hold s w.memory (facts_at h target) = holds_on pc i None target is leads.0.2.on s s w w1 long hold tt (refl, refl) in
-        subst (λ (p : Outcome). IsNoDearer (from q.body new (place h pc) s' v) p) (sym (law.step pc i s w is))
-        (subst (λ (p : Outcome). IsNoDearer p (act i (from f.body old) old pc s (taken w))) (sym (law'.step (place h pc) (Switch word (landing_in h other) both_arms) s' v is'))
+        subst (λ (p : CallEnd). IsNoDearer (from q.body new (place h pc) s' v) p) (sym (law.step pc i s w is))
+        (subst (λ (p : CallEnd). IsNoDearer p (act i (from f.body old) old pc s (taken w))) (sym (law'.step (place h pc) (Switch word (landing_in h other) both_arms) s' v is'))
         (subst (λ y. IsNoDearer (after_switch (target_of both_arms (landing_in h other) x) x v1 (λ t. from q.body new t s' v1)) (after_switch (target_of arms (Some target) y) y w1 (λ t. from f.body old t s w1))) (sym e)
         (elim (first_or h P slot s w.memory arms (map (λ (arm : SwitchArm). moved_arm h arm) more) (landing_in h other) target x e (λ k d lt. (leads.1 k d lt, arms_come k d lt))) [
           | inl hit ↦
@@ -451,7 +451,7 @@ module _ (funs funs' : List CodeFun) (f q : CodeFun) (valid : IsValidFun funs f)
 
   -- a switch that returns
   module _ (pc slot : ℕ) (other : Option ℕ) (arms : List SwitchArm) (words : List ℕ) (is : slice_get f.body pc ≡ Some (Switch slot other arms)) (is' : slice_get q.body (place h pc) ≡ Some (Return words))
-      (whole : IsWhole (facts_at h pc) slot other arms) (arms_back : All (λ (arm : SwitchArm). ComesBack h f.body words arm.target) arms) (other_back : IfSome other (ComesBack h f.body words))
+      (whole : FindsWay (facts_at h pc) slot other arms) (arms_back : All (λ (arm : SwitchArm). ComesBack h f.body words arm.target) arms) (other_back : IfSome other (ComesBack h f.body words))
       (rest : (t : ℕ) → pc < t → t < length f.body → Both t) (s' : List ℕ) (v : World) where
     abbrev pub turn : Instr
     turn = Switch slot other arms
@@ -465,8 +465,8 @@ module _ (funs funs' : List CodeFun) (f q : CodeFun) (valid : IsValidFun funs f)
     returns : AtEnd pc s' v (from q.body new (place h pc) s' v)
     returns s w near long agree hold =
         let x = slice_index s slot in
-        subst (λ (p : Outcome). IsNoDearer (from q.body new (place h pc) s' v) p) (sym (law.step pc turn s w is))
-        (subst (λ (p : Outcome). IsNoDearer p (act turn (from f.body old) old pc s (taken w))) (sym (law'.step (place h pc) (Return words) s' v is'))
+        subst (λ (p : CallEnd). IsNoDearer (from q.body new (place h pc) s' v) p) (sym (law.step pc turn s w is))
+        (subst (λ (p : CallEnd). IsNoDearer p (act turn (from f.body old) old pc s (taken w))) (sym (law'.step (place h pc) (Return words) s' v is'))
         (each (target_of arms other x) refl))
       where
         w1 : World
@@ -498,7 +498,7 @@ module _ (funs funs' : List CodeFun) (f q : CodeFun) (valid : IsValidFun funs f)
         λ reached s' v long'. elim (steps pc i is).stands [
           | inl kept ↦ elim kept.2 [
             | inl plain ↦ λ s w near long agree hold.
-                subst (λ (o : Outcome). IsNoDearer (from q.body new (place h pc) s' v) o) (sym (law.step pc i s w is))
+                subst (λ (o : CallEnd). IsNoDearer (from q.body new (place h pc) s' v) o) (sym (law.step pc i s w is))
                 (stays pc i is rest kept plain.0 plain.1 plain.2 reached s' v long' s w near long agree hold)
             | inr merged ↦ elim merged [
               | inl into ↦ loads_into pc i kept.0 is rest kept.1 into s' v long'

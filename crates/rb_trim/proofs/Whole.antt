@@ -4,7 +4,7 @@ use Rattle.std.proofs.lemmas.List.{length-replicate, get_or_append_left}
 use Rattle.std.proofs.lemmas.Option.{slice_get_within}
 use Rattle.std.specs.Prelude.{slice_get, slice_index}
 use Rattle.rb_bytes.specs.Memory.{Memory}
-use Rattle.rb_target.specs.Meaning.{World, Outcome, Callee, from, enter, body_in, body_of, first_slots, slots_in, after_one_call, with_left}
+use Rattle.rb_target.specs.Meaning.{World, CallEnd, Callee, from, enter, body_in, body_of, first_slots, slots_in, after_one_call, with_left}
 use Rattle.rb_target.specs.Laws.{Law}
 use Rattle.rb_target.specs.Validity.{EndsInReturn, IsValid, IsValidFun}
 use Rattle.rb_target.specs.declared.outcome.End.TheVariants.{Spent}
@@ -55,7 +55,7 @@ some_instr body ends = slice_first body (slice_get_within body (length body - 1)
     slice_first : (b : List Instr) → length b - 1 < length b → 0 < length b
     slice_first b lt = omega (arith, lt)
 
-one_call_near : (n : ℕ) (v w : World) (g h : World → Outcome) → Near v w → ((l : ℕ) → IsNoDearer (g (with_left v l)) (h (with_left w l))) → IsNoDearer (after_one_call n v g) (after_one_call n w h)
+one_call_near : (n : ℕ) (v w : World) (g h : World → CallEnd) → Near v w → ((l : ℕ) → IsNoDearer (g (with_left v l)) (h (with_left w l))) → IsNoDearer (after_one_call n v g) (after_one_call n w h)
 one_call_near zero v w g h n e = over_near Spent v w n
 one_call_near (suc l) v w g h n e = e l
 
@@ -100,8 +100,8 @@ module _ (funs funs' : List CodeFun) (valid : IsValid funs) (valid' : IsValid fu
   enter_near zero g f is words same v w near = over_near Spent v w near
   enter_near (suc d) g f is words same v w near =
       let calls : CallsNear funs (enter funs' d) (enter funs d) = record { by = enter_near d } in
-      let go' : World → Outcome = λ u. from (body_of funs' g) (enter funs' d) 0 (first_slots funs' g words) u in
-      let go : World → Outcome = λ u. from (body_of funs g) (enter funs d) 0 (first_slots funs g words) u in
+      let go' : World → CallEnd = λ u. from (body_of funs' g) (enter funs' d) 0 (first_slots funs' g words) u in
+      let go : World → CallEnd = λ u. from (body_of funs g) (enter funs d) 0 (first_slots funs g words) u in
       subst (λ n. IsNoDearer (after_one_call n v go') (after_one_call w.left w go)) (sym near.left)
       (one_call_near w.left v w go' go near
       (λ l. fun_near g f is (enter funs' d) (enter funs d) calls words same (with_left v l) (with_left w l) (near_left v w l near)))

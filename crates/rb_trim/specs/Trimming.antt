@@ -4,10 +4,10 @@
 use Rattle.std.specs.Prelude.{◌≡◌, ℕ, ◌≤◌, List, length, Some, slice_get}
 use Rattle.rb_bytes.specs.Memory.{Memory}
 use Rattle.rb_target.specs.declared.code.CodeFun.{CodeFun}
-use Rattle.rb_target.specs.Meaning.{Outcome, run_of}
+use Rattle.rb_target.specs.Meaning.{CallEnd, run_of}
 
 -- the new run has the same end, calls left and memory as the old one, after no more switches and no more instructions
-pub record IsNoDearer (new old : Outcome) : Type 0 where
+pub record IsNoDearer (new old : CallEnd) : Type 0 where
   pub ended : new.ended ≡ old.ended
   pub left : new.world.left ≡ old.world.left
   pub memory : new.world.memory ≡ old.world.memory

@@ -6,7 +6,7 @@
 
 ghost use Rattle.std.specs.Prelude.{◌≡◌, ◌<◌, ◌≤◌, ◌^◌, ℕ, All, IfOk, IfSome, IsTrue, OnOk};
 ghost use Rattle.rb_target.specs.declared.instr.SwitchArm.{SwitchArm as SwitchArmDecl};
-ghost use Rattle.rb_trim.specs.inner.Moving.{ComesBack, IsBack, IsWhole};
+ghost use Rattle.rb_trim.specs.inner.Moving.{ComesBack, IsBack, FindsWay};
 ghost use Rattle.rb_trim.specs.inner.Stepping.{ComesBackAt, HasArm};
 
 use crate::fact::Fact;
@@ -47,7 +47,7 @@ fn has_all(
     count: u64,
 ) -> bool
     requires { 2 ^ l ≤ count }
-    ensures { IsTrue result → IsWhole facts.now slot other arms.now }
+    ensures { IsTrue result → FindsWay facts.now slot other arms.now }
 {
     let from = source(facts, slot);
     if !is_narrow(facts, from, l) {
@@ -65,7 +65,7 @@ pub(crate) fn is_whole(
     other: Option<usize>,
     arms: &[SwitchArm],
 ) -> bool
-    ensures { IsTrue result → IsWhole facts.now slot other arms.now }
+    ensures { IsTrue result → FindsWay facts.now slot other arms.now }
 {
     if let Some(_) = other {
         return true;

@@ -9,7 +9,7 @@
 
 ghost use Rattle.std.specs.Prelude.{◌≡◌, ◌⊎◌, ◌+◌, ◌<◌, ◌↔◌, ℕ, None, OnOk, IfOk, IsTrue, Contains, length, slice_get, All, IfSome};
 ghost use Rattle.rb_target.specs.declared.instr.SwitchArm.{SwitchArm as SwitchArmDecl};
-ghost use Rattle.rb_trim.specs.inner.Moving.{facts_at, dead_at, end, place, IsUnread, IsReached, IsPlain, IsIdle, IsLeftOut, LivesOn, GoesOn, FallsOn, JumpsOn, EndsWell, tells, IsSkipped, IsMerged, StandsFor};
+ghost use Rattle.rb_trim.specs.inner.Moving.{facts_at, dead_at, end, place, IsUnread, IsReached, IsPlain, IsIdle, IsLeftOut, LivesOn, HintsHold, FallsOn, JumpsOn, EndsWell, tells, IsSkipped, IsMerged, StandsFor};
 ghost use Rattle.rb_trim.specs.inner.Following.{IsLoaded, Sets};
 ghost use Rattle.rb_trim.specs.inner.Stepping.{JumpsOnAt, LivesAt, IsKnownOn, Steps, Walks};
 
@@ -192,7 +192,7 @@ fn lives_on(hints: &Hints, pc: usize, instr: &Instr, target: usize) -> bool
 // Whether what the hints say of `target`, the slots read and the facts, holds behind an
 // instruction, by a way that tells `told`.
 fn goes_on(hints: &Hints, pc: usize, instr: &Instr, told: Option<Fact>, target: usize) -> bool
-    ensures { IsTrue result → GoesOn hints.now pc instr.now told target }
+    ensures { IsTrue result → HintsHold hints.now pc instr.now told target }
 {
     if !lives_on(hints, pc, instr, target) {
         return false;

@@ -20,14 +20,14 @@ use Rattle.rb_layout.specs.declared.layout.Kind.{Kind}
 use Rattle.rb_layout.specs.declared.layout.Kind.TheVariants.{Bits, Word, Pointer}
 use Rattle.rb_layout.specs.Positions.{Open, open_positions}
 use Rattle.rb_layout.specs.Words.{words_of_block}
-use Rattle.rb_layout.specs.Flattening.{Laid, Laying, in_turn, item_laid, kind_laid, part_laid, items_laid, parts_of, whole_kind, kind_if_open, type_at, shape_of, inlined, words_of, flat_leaf}
+use Rattle.rb_layout.specs.Flattening.{WithBlocks, Laying, in_turn, item_laid, kind_laid, part_laid, items_laid, parts_of, whole_kind, kind_if_open, type_at, shape_of, inlined, inline_words, flat_leaf}
 use Rattle.rb_layout.specs.Items.{Content, Slice, WordOf, Address}
 use Rattle.rb_layout.specs.Placing.{whole_placed, if_open}
 use Rattle.rb_layout.proofs.FlatForms.{Each}
 use Rattle.rb_layout.proofs.WrittenForms.{item-induction}
 use Rattle.rb_layout.proofs.Computing.{word_laid, inline_laid, const_laid, whole_laid, slice_laid, word_of_laid, pointer_laid, part_laid_is}
 use Rattle.rb_layout.proofs.Blocks.{get_left, get_right}
-use Rattle.rb_unfold.specs.Unfolding.{Seen, Begins, Has, in_block, part_seen, word_seen, words_seen, block_seen, Nested, field_word, item_written, UnfoldingGivesBack}
+use Rattle.rb_unfold.specs.Unfolding.{Seen, Begins, Has, in_block, part_seen, word_seen, words_seen, block_seen, Nested, seen_word, item_written, UnfoldingGivesBack}
 use Rattle.rb_unfold.proofs.Written.{of_mapped, kind_has, kind_written, part_written, word_written, inline_written, const_written, whole_written, slice_written, word_of_written, pointer_written, part_written_is}
 
 none_before : (k : ℕ) → 0 + k ≡ k
@@ -99,7 +99,7 @@ module _ (leaf : Leaf) where
       (gives_in_turn see lay seen xs each.1 (n + length first.blocks) depth (stand_right n first.blocks rest.blocks stand) (fits_right n depth first.blocks rest.blocks le))
 
   -- the block behind a pointer stands behind those inside it
-  block_gives : (align n depth : ℕ) (laid : Laid (List FlatWord)) (seen : List Seen)
+  block_gives : (align n depth : ℕ) (laid : WithBlocks (List FlatWord)) (seen : List Seen)
       → ((d : ℕ) → Stand n laid.blocks → n + length laid.blocks ≤ d → words_seen (block_seen leaf d) laid.it ≡ seen)
       → Stand n (laid.blocks ++ record { align = align; words = laid.it } ∷ []) → n + length (laid.blocks ++ record { align = align; words = laid.it } ∷ []) ≤ depth
       → block_seen leaf depth (n + length laid.blocks) ≡ seen
@@ -112,12 +112,12 @@ module _ (leaf : Leaf) where
 -- Fields ----------------------------------------------------------------------------------------
 
 module _ (block : ℕ → List Seen) where
-  shape_seen : (path : List ℕ) (j : ℕ) (widths : List ℕ) → words_seen block (words_of path j widths) ≡ flat_map field_word (words_of path j widths)
+  shape_seen : (path : List ℕ) (j : ℕ) (widths : List ℕ) → words_seen block (inline_words path j widths) ≡ flat_map seen_word (inline_words path j widths)
   shape_seen path j [] = refl
   shape_seen path j (w ∷ widths) =
       ap (λ (s : List Seen). Begins w ∷ Has (record { width = w; o = 0; l = w; holds = WordOf path j }) ∷ s) (shape_seen path (j + 1) widths)
 
-  field_seen : (decls : List LayoutDecl) (ty : Option Ty) (path : List ℕ) → words_seen block (inlined decls ty path) ≡ flat_map field_word (inlined decls ty path)
+  field_seen : (decls : List LayoutDecl) (ty : Option Ty) (path : List ℕ) → words_seen block (inlined decls ty path) ≡ flat_map seen_word (inlined decls ty path)
   field_seen decls None path = refl
   field_seen decls (Some (Int bits)) path = refl
   field_seen decls (Some (Named s)) path = shape_seen path 0 (shape_of decls s)

@@ -13,7 +13,7 @@ use Rattle.rb_layout.specs.Flattening.{type_at, inlined}
 use Rattle.rb_layout.specs.Items.{Content, Number, Whole, Slice, WordOf, Address}
 use Rattle.rb_layout.specs.Placing.{part_placed}
 use Rattle.rb_layout.proofs.WrittenForms as W
-use Rattle.rb_unfold.specs.Unfolding.{Seen, Begins, Has, in_block, Nested, alone, kind_step, part_step, field_word, item_step, item_written}
+use Rattle.rb_unfold.specs.Unfolding.{Seen, Begins, Has, in_block, Nested, alone, kind_step, part_step, seen_word, item_step, item_written}
 
 pub of_mapped : {X Y : Type 0} (f : Y → List Seen) (g : X → Y) (xs : List X) → flat_map f (map g xs) ≡ flat_map (λ (x : X). f (g x)) xs
 of_mapped f g [] = refl
@@ -34,7 +34,7 @@ module _ (decls : List LayoutDecl) (opens : List Open) where
       → item_written decls opens (I.Word width parts) ≡ Begins width ∷ flat_map (λ (part : ℕ → List Seen). part width) (map part_written parts)
   word_written width parts = W.fold-Word (List Seen) (Nested Content) (ℕ → List Seen) (item_step decls opens) kind_step (part_step opens) width parts
 
-  pub inline_written : (path : List ℕ) → item_written decls opens (I.Inline path) ≡ flat_map field_word (inlined decls (type_at opens path) path)
+  pub inline_written : (path : List ℕ) → item_written decls opens (I.Inline path) ≡ flat_map seen_word (inlined decls (type_at opens path) path)
   inline_written path = W.fold-Inline (List Seen) (Nested Content) (ℕ → List Seen) (item_step decls opens) kind_step (part_step opens) path
 
   pub const_written : (c : ℕ) → kind_written (K.Const c) ≡ alone (Number c)

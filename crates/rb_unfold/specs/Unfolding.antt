@@ -33,16 +33,16 @@ in_block seen = Opens ∷ seen ++ Closes ∷ []
 -- Of a flat leaf ------------------------------------------------------------------------------
 
 -- what is seen behind a part, where `block b` is what is seen of block b: only a pointer has a block
-abbrev pub behind : (ℕ → List Seen) → Kind → List Seen
-behind block (Const c) = []
-behind block (Bits path a) = []
-behind block (Word path j) = []
-behind block (Pointer align b) = in_block (block b)
+abbrev pub seen_behind : (ℕ → List Seen) → Kind → List Seen
+seen_behind block (Const c) = []
+seen_behind block (Bits path a) = []
+seen_behind block (Word path j) = []
+seen_behind block (Pointer align b) = in_block (block b)
 
 -- what is seen of a part in a word of this width: the part, and behind a pointer its block,
 -- where `block b` is what is seen of block b
 abbrev pub part_seen : (ℕ → List Seen) → ℕ → Part → List Seen
-part_seen block width p = Has (stands width p) ∷ behind block p.kind
+part_seen block width p = Has (stands width p) ∷ seen_behind block p.kind
 
 -- what is seen of a word: its width, then its parts one after the other, where `block b` is what is seen of block b
 abbrev pub word_seen : (ℕ → List Seen) → FlatWord → List Seen
@@ -87,13 +87,13 @@ part_step opens p width =
     map Has (part_placed opens width (record { o = p.o; l = p.l; content = p.kind.it })) ++ p.kind.inside
 
 -- a word of an inlined field: it has no pointers
-abbrev pub field_word : FlatWord → List Seen
-field_word f = Begins f.width ∷ map Has (standing f)
+abbrev pub seen_word : FlatWord → List Seen
+seen_word f = Begins f.width ∷ map Has (standing f)
 
 -- what is written of an item: a word with its parts, or the words of the field at a path
 abbrev pub item_step : List LayoutDecl → List Open → LayItem-F (List Seen) (Nested Content) (ℕ → List Seen) → List Seen
 item_step decls opens (I.LayItem::Word width parts) = Begins width ∷ flat_map (λ part. part width) parts
-item_step decls opens (I.Inline path) = flat_map field_word (inlined decls (type_at opens path) path)
+item_step decls opens (I.Inline path) = flat_map seen_word (inlined decls (type_at opens path) path)
 
 -- what is written of an item of a leaf, where `opens` are the leaf's open positions
 abbrev pub item_written : List LayoutDecl → List Open → LayItem → List Seen

@@ -11,7 +11,7 @@ use Rattle.rb_values.specs.declared.fault.ValueFault.{ValueFault}
 use Rattle.rb_values.specs.declared.fault.ValueFault.TheVariants.{ValueSyntax, ValueTooLarge, ValueType, Memory}
 use Rattle.rb_values.specs.Terms.{Term, term_nodes, sign_of, signs, SpellsTerm}
 use Rattle.rb_values.specs.Fitting.{misfits, first, value_of}
-use Rattle.rb_values.specs.Reading.{Begins, StopsAt, token, refused, ended, SpellsValue, ValueIsRead}
+use Rattle.rb_values.specs.Reading.{IsSignFront, StopsAt, token, refused, ended, SpellsValue, ValueIsRead}
 use Rattle.rb_values.specs.inner.States.{expecting, answer}
 use Rattle.rb_values.proofs.SpellingLemmas.{again}
 
@@ -34,7 +34,7 @@ parts : (before : List Placed) (here : Placed) (behind : List Placed) → signs 
 parts before here behind = map-append sign_of before (here ∷ behind)
 
 -- what a value begins with, up to one of its tokens
-cut-short : (before : List Placed) (here : Placed) (behind all : List Placed) → all ≡ before ++ here ∷ behind → Begins (signs all) → Begins (signs before ++ sign_of here ∷ [])
+cut-short : (before : List Placed) (here : Placed) (behind all : List Placed) → all ≡ before ++ here ∷ behind → IsSignFront (signs all) → IsSignFront (signs before ++ sign_of here ∷ [])
 cut-short before here behind all e b = (
   b.0,
   signs behind ++ b.1,
@@ -44,7 +44,7 @@ cut-short before here behind all e b = (
       ∙ b.2,
 )
 
-whole-begins : (text : List ℕ) (t : Term) → SpellsTerm text t → Begins (signs (front text).tokens)
+whole-begins : (text : List ℕ) (t : Term) → SpellsTerm text t → IsSignFront (signs (front text).tokens)
 whole-begins text t h = (t, [], append-nil (signs (front text).tokens) ∙ h.1)
 
 not-spelled : (text : List ℕ) (p : ℕ) (t : Term) → StopsAt text p → SpellsTerm text t → ⊥
@@ -72,8 +72,8 @@ apart (b ∷ x) a y (d ∷ z) c w e =
     let r : x ++ a ∷ y ≡ z ++ c ∷ w = cc in
     apart-more x a z c b d q (apart x a y z c w r)
 
-met : (x : List Placed) (a : Placed) (z : List Placed) (c : Placed) → Begins (signs x) → (Begins (signs x ++ sign_of a ∷ []) → ⊥)
-    → Begins (signs z) → (Begins (signs z ++ sign_of c ∷ []) → ⊥) → Apart x a z c → a ≡ c
+met : (x : List Placed) (a : Placed) (z : List Placed) (c : Placed) → IsSignFront (signs x) → (IsSignFront (signs x ++ sign_of a ∷ []) → ⊥)
+    → IsSignFront (signs z) → (IsSignFront (signs z ++ sign_of c ∷ []) → ⊥) → Apart x a z c → a ≡ c
 met x a z c b stop d halt (same e) = e
 met x a z c b stop d halt (later m e) = absurd (stop (cut-short x a m z e d))
 met x a z c b stop d halt (sooner m e) = absurd (halt (cut-short z c m x e b))

@@ -23,7 +23,7 @@ use Rattle.rb_values.specs.declared.sign.Sign.{Sign}
 use Rattle.rb_values.specs.declared.sign.Sign.TheVariants as sign
 use Rattle.rb_values.specs.Terms.{Term, Terms, number, build, none, also, term_count, term_nodes, spelled, in_parens, others, signs}
 use Rattle.rb_values.specs.Fitting.{con_index, con_in, con_named, con_fields, misfits_of, misfits, misfits_each, con_number, or_none, value_of, values_of}
-use Rattle.rb_values.specs.Texts.{type_index, con_in as text_con_in, con_of, name_in, name_of, field_in, field_of, before, after_last, fields_text, text_step, text_of}
+use Rattle.rb_values.specs.Texts.{type_index, con_numbered as text_con_in, con_of, name_in, name_of, type_of_field, field_of, before, after_last, fields_text, text_step, text_of}
 use Rattle.rb_values.specs.Reading.{ValueIsRead}
 use Rattle.rb_values.specs.Laws.{AreDeclared, IsReadAs}
 use Rattle.rb_values.proofs.FittingLemmas.{as-many}
@@ -311,7 +311,7 @@ module _ (types : List DataDecl) where
       are-fields : AreFrom (field_of types t k) 0 b.con.fields
       unfolding field_of
       are-fields i u e = let same : 0 + i ≡ i = omega arith in
-          ap (λ (j : ℕ). field_in (con_of types t k) j) same ∙ ap (λ (c : Option Con). field_in c i) con-is ∙ get_or_from_slice_get b.con.fields i u (Int 1) e
+          ap (λ (j : ℕ). type_of_field (con_of types t k) j) same ∙ ap (λ (c : Option Con). type_of_field c i) con-is ∙ get_or_from_slice_get b.con.fields i u (Int 1) e
 
       con-named : con_named types (Named t) b.con.name ≡ Some (record { ty = t; con = k })
       con-named = ap (con_in t b.con.name) b.is_type

@@ -18,7 +18,7 @@ use Rattle.rb_syntax.specs.declared.piece.Piece.TheVariants as piece
 use Rattle.rb_syntax.specs.Bytes.{is_blank}
 use Rattle.rb_syntax.specs.Pieces.{name_token, number_or_fault, number_piece, run_piece, symbol_piece, first_piece, piece_at}
 use Rattle.rb_syntax.proofs.WordBytes.{digit-word, letter-word}
-use Rattle.rb_syntax.specs.Fronts.{Front, ends, behind, with_front, front_from}
+use Rattle.rb_syntax.specs.Fronts.{Front, ends, front_with, with_front, front_from}
 use Rattle.rb_values.specs.declared.sign.Sign.{Sign}
 use Rattle.rb_values.specs.declared.sign.Sign.TheVariants as sign
 use Rattle.rb_values.specs.Terms.{sign_of, signs}
@@ -44,7 +44,7 @@ gap-front : (at len : ℕ) (rest : ℕ → Front) → with_front at (piece.Gap l
 unfolding with_front
 gap-front at len rest = refl
 
-token-front : (at len : ℕ) (t : Token) (rest : ℕ → Front) → with_front at (piece.Token t len) rest ≡ behind (record { token = t; at = at }) (rest len)
+token-front : (at len : ℕ) (t : Token) (rest : ℕ → Front) → with_front at (piece.Token t len) rest ≡ front_with (record { token = t; at = at }) (rest len)
 unfolding with_front
 token-front at len t rest = refl
 
@@ -96,7 +96,7 @@ module _ (at len : ℕ) (xs rest : List ℕ) (ss : List Sign) (some : 0 < length
   } where
     cut : (n : ℕ) → length (xs ++ rest) ≤ n → front_from n at (xs ++ rest) ≡ record { tokens = record { token = t; at = at } ∷ next.tokens; fault = None }
     cut zero h = absurd (omega (arith, h, some, length-append xs rest))
-    cut (suc n) h = by-piece n (piece.Token t len) e ∙ token-front at len t _ ∙ ap (behind (record { token = t; at = at })) (rest-cut n h)
+    cut (suc n) h = by-piece n (piece.Token t len) e ∙ token-front at len t _ ∙ ap (front_with (record { token = t; at = at })) (rest-cut n h)
 
 -- Signs between names and numbers ---------------------------------------------------------------
 

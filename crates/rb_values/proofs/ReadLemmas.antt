@@ -5,7 +5,7 @@ use Rattle.rb_core.specs.declared.value.Value.{Value}
 use Rattle.rb_core.specs.declared.types.Ty.{Ty}
 use Rattle.rb_core.specs.declared.types.DataDecl.{DataDecl}
 use Rattle.rb_syntax.specs.declared.token.Placed.{Placed}
-use Rattle.rb_syntax.specs.Fronts.{Front, ends, behind, front_at, front}
+use Rattle.rb_syntax.specs.Fronts.{Front, ends, front_with, front_at, front}
 use Rattle.rb_values.specs.declared.outline.Outline.{Outline}
 use Rattle.rb_values.specs.declared.fault.ValueFault.{ValueFault}
 use Rattle.rb_values.specs.declared.fault.ValueFault.TheVariants.{ValueSyntax, ValueTooLarge, ValueType, Memory}
@@ -76,14 +76,14 @@ module _ (text : List ℕ) where
       record { tokens = ap (λ (f : Front). f.tokens) e; fault = ap (λ (f : Front). f.fault) e; reached = reached_first }
 
   module _ (at : ℕ) (seen : List Placed) (s : State) (h : At at seen s) where
-    pub at-next : (end : ℕ) (p : Placed) (next : State) → front_at text at ≡ behind p (front_at text end) → step s (sign_of p) ≡ Some next → At end (seen ++ p ∷ []) next
+    pub at-next : (end : ℕ) (p : Placed) (next : State) → front_at text at ≡ front_with p (front_at text end) → step s (sign_of p) ≡ Some next → At end (seen ++ p ∷ []) next
     at-next end p next e g = record {
       tokens = h.tokens ∙ ap (λ (f : Front). seen ++ f.tokens) e ∙ sym (append_assoc seen (p ∷ []) (front_at text end).tokens);
       fault = h.fault ∙ ap (λ (f : Front). f.fault) e;
       reached = rw (map-append sign_of seen (p ∷ [])) (reached_next (signs seen) (sign_of p) s next h.reached g);
     }
 
-    pub stops-token : (rest : Front) (p : Placed) → front_at text at ≡ behind p rest → step s (sign_of p) ≡ None → StopsAt text p.at
+    pub stops-token : (rest : Front) (p : Placed) → front_at text at ≡ front_with p rest → step s (sign_of p) ≡ None → StopsAt text p.at
     stops-token rest p e g =
         token seen p rest.tokens (h.tokens ∙ ap (λ (f : Front). seen ++ f.tokens) e) refl (begins (signs seen) s h.reached) (stops (signs seen) (sign_of p) s h.reached g)
 

@@ -8,7 +8,7 @@ use Rattle.rb_values.specs.declared.outline.Mode.{Mode}
 use Rattle.rb_values.specs.declared.outline.Mode.TheVariants as mode
 use Rattle.rb_values.specs.declared.outline.Outline.{Outline}
 use Rattle.rb_values.specs.Terms.{Term, Terms, number, build, none, also, spelled, in_parens, others, term_nodes, terms_nodes}
-use Rattle.rb_values.specs.Reading.{Begins}
+use Rattle.rb_values.specs.Reading.{IsSignFront}
 use Rattle.rb_values.specs.inner.States.{Wait, snoc, waits, longer, whole, State, expecting, named, complete, then_on, step, end_of, term_of, on, answer, each, shown_waits, shown, IsStateOf, waits_nodes, outline_of, outlined, outline_behind, outline_on, outline_step, mode_whole}
 
 -- what follows a value opens nothing
@@ -138,7 +138,7 @@ ends (named at x os) = record { more = closes os; tree = wrapped (build at x non
 ends (complete v os) = record { more = closes os; tree = wrapped v os; spells = closing v os }
 
 -- what led to a state is the beginning of a value
-pub begins : (ss : List Sign) (s : State) → IsStateOf ss s → Begins ss
+pub begins : (ss : List Sign) (s : State) → IsStateOf ss s → IsSignFront ss
 begins ss s r = let e = ends s in (e.tree, e.more, sym (r.said e.more) ∙ e.spells)
 
 shown_end : (v w : Term) (os : List Wait) → end_of v os ≡ Some w → shown (complete v os) [] ≡ spelled w []
@@ -163,7 +163,7 @@ some_not_none : (v : Term) → Some v ≡ None → ⊥
 some_not_none v e = cc
 
 -- no value goes on with a sign that leads nowhere
-pub stops : (ss : List Sign) (t : Sign) (s : State) → IsStateOf ss s → step s t ≡ None → Begins (ss ++ t ∷ []) → ⊥
+pub stops : (ss : List Sign) (t : Sign) (s : State) → IsStateOf ss s → step s t ≡ None → IsSignFront (ss ++ t ∷ []) → ⊥
 stops ss t s r e b =
     let v : Term = b.0 in
     let a : answer (expecting []) (ss ++ (t ∷ b.1)) ≡ Some v = ap (answer (expecting [])) (sym (append_assoc ss (t ∷ []) b.1) ∙ b.2) ∙ again v in

@@ -14,19 +14,19 @@ use Rattle.rb_values.specs.Terms.{Term, term_nodes, spelled, sign_of, signs, Spe
 use Rattle.rb_values.specs.Fitting.{misfits, first, value_of}
 
 -- the spelling of some value begins with these signs, or is just these
-abbrev pub Begins : List Sign → Type 0
-Begins before = (t : Term) × (more : List Sign) × (before ++ more ≡ spelled t [])
+abbrev pub IsSignFront : List Sign → Type 0
+IsSignFront before = (t : Term) × (more : List Sign) × (before ++ more ≡ spelled t [])
 
 -- the text spells no value, which shows at byte p
 pub data StopsAt (text : List ℕ) (p : ℕ) : Type 0 where
   -- a value goes on up to this token, which begins there, and none goes on with it
   token : (before : List Placed) (here : Placed) (behind : List Placed)
       → (front text).tokens ≡ before ++ here ∷ behind → here.at ≡ p
-      → Begins (signs before) → (Begins (signs before ++ sign_of here ∷ []) → ⊥) → StopsAt text p
+      → IsSignFront (signs before) → (IsSignFront (signs before ++ sign_of here ∷ []) → ⊥) → StopsAt text p
   -- a value goes on up to the byte at which the text has no token
-  refused : (front text).fault ≡ Some p → Begins (signs (front text).tokens) → StopsAt text p
+  refused : (front text).fault ≡ Some p → IsSignFront (signs (front text).tokens) → StopsAt text p
   -- a value goes on up to the text's end, and is not whole there
-  ended : (front text).fault ≡ None → p ≡ length text → Begins (signs (front text).tokens)
+  ended : (front text).fault ≡ None → p ≡ length text → IsSignFront (signs (front text).tokens)
       → ((t : Term) → signs (front text).tokens ≡ spelled t [] → ⊥) → StopsAt text p
 
 -- the text spells a term of at most so many nodes, which fits the type, and v is the value that it names there

@@ -18,13 +18,13 @@ type_index (Int bits) = 0
 type_index (Named t) = t
 
 -- constructor k of a data type; none where there is no such type or constructor
-abbrev pub con_in : Option DataDecl → ℕ → Option Con
-con_in None k = None
-con_in (Some d) k = slice_get d.cons k
+abbrev pub con_numbered : Option DataDecl → ℕ → Option Con
+con_numbered None k = None
+con_numbered (Some d) k = slice_get d.cons k
 
 -- constructor k of type t; none where there is no such type or constructor
 abbrev pub con_of : List DataDecl → ℕ → ℕ → Option Con
-con_of types t k = con_in (slice_get types t) k
+con_of types t k = con_numbered (slice_get types t) k
 
 -- the name of a constructor; empty where there is no constructor
 abbrev pub name_in : Option Con → List ℕ
@@ -36,13 +36,13 @@ unfoldable pub name_of : List DataDecl → ℕ → ℕ → List ℕ
 name_of types t k = name_in (con_of types t k)
 
 -- the type of field j of a constructor; u1 where there is no such constructor or field
-abbrev pub field_in : Option Con → ℕ → Ty
-field_in None j = Int 1
-field_in (Some c) j = slice_index_or c.fields j (Int 1)
+abbrev pub type_of_field : Option Con → ℕ → Ty
+type_of_field None j = Int 1
+type_of_field (Some c) j = slice_index_or c.fields j (Int 1)
 
 -- the type of field j of constructor k of type t; u1 where there is no such field
 unfoldable pub field_of : List DataDecl → ℕ → ℕ → ℕ → Ty
-field_of types t k j = field_in (con_of types t k) j
+field_of types t k j = type_of_field (con_of types t k) j
 
 -- Texts.
 

@@ -47,11 +47,11 @@ impl Model for Nodes {
 
     ghost coded = { coded_list value_row.the_row.coded };
 
-    ghost use Rattle.rb_values.specs.inner.Linking.{values_from, AreBelow};
+    ghost use Rattle.rb_values.specs.inner.Linking.{values_from, AreLinkedBack};
 
     ghost view = { λ s. values_from s.links.items s.nodes.items [] };
 
-    ghost invariant = { λ s. AreBelow s.links.items 0 s.nodes.items };
+    ghost invariant = { λ s. AreLinkedBack s.links.items 0 s.nodes.items };
 }
 
 impl Nodes {

@@ -14,7 +14,7 @@ use Rattle.rb_core.specs.declared.program.Program.{Program}
 use Rattle.rb_core.specs.declared.types.Ty.{Ty}
 use Rattle.rb_core.specs.declared.value.Value.{Value}
 use Rattle.rb_fragment.proofs.Represented.{Rep-count}
-use Rattle.rb_fragment.specs.Plan.{Plan, Reps, types_of, words_of, words_in}
+use Rattle.rb_fragment.specs.Plan.{Plan, Reps, types_of, words_needed, words_needed_by}
 use Rattle.rb_layout.specs.Flattening.{flat_layouts}
 use Rattle.rb_lines.specs.Answer.{Due, refusal}
 use Rattle.rb_lines.specs.Delivery.{Change}
@@ -27,7 +27,7 @@ use Rattle.ribbit_tool.specs.Compiling.{CompilesProgram, CompilesFile}
 use Rattle.ribbit_tool.specs.Exec.{fun_named, named_due, outcome_due}
 use Rattle.ribbit_tool.specs.Headlines.{SaysCode, CompileHeadline}
 use Rattle.ribbit_tool.specs.Laws.{CompiledTextsRun}
-use Rattle.ribbit_tool.specs.Promise.{Counting, GivesDue, IsRight}
+use Rattle.ribbit_tool.specs.Promise.{Counting, GivesDue, IsPromised}
 use Rattle.ribbit_tool.proofs.Executing.{executed_themselves}
 use Rattle.ribbit_tool.proofs.HeadlineLaws.{follows}
 use Rattle.ribbit_tool.proofs.Naming.{HaveNames, first_of_name}
@@ -53,7 +53,7 @@ module _ (bytes : List ℕ) (p : Program) (a : IsAccepted bytes p) (out err : Ch
   said due (turned_down h) given = absurd (accepted_unrefused bytes p due a h)
   said due (accepted q b h) given = said_as q (one_program bytes p q a b) due h given
 
-pub compile_headlined : (words : List (List ℕ)) (source : Source) (out err : Change) (steps : Counting) (status : ℕ) → IsRight words source out err steps status
+pub compile_headlined : (words : List (List ℕ)) (source : Source) (out err : Change) (steps : Counting) (status : ℕ) → IsPromised words source out err steps status
     → CompileHeadline words source out err status
 compile_headlined words source out err steps status r file written bytes gave p a calm =
     let parsed : r.parsed ≡ Ok (compile file) = one_meaning words r.parsed (Ok (compile file)) r.meant written in
@@ -65,14 +65,14 @@ compile_headlined words source out err steps status r file written bytes gave p 
 -- What it writes ----------------------------------------------------------------------------
 
 -- words that represent values are as many as the types have
-as_many_words : (plan : Plan) (clean : Bool) (m : Memory) (ts : List Ty) (vs : List Value) (ws : List ℕ) → Reps plan m clean ts vs ws → length ws ≡ words_in plan ts
+as_many_words : (plan : Plan) (clean : Bool) (m : Memory) (ts : List Ty) (vs : List Value) (ws : List ℕ) → Reps plan m clean ts vs ws → length ws ≡ words_needed_by plan ts
 as_many_words plan clean m [] [] ws r = ap length r
 as_many_words plan clean m [] (v ∷ vs) ws r = absurd r
 as_many_words plan clean m (t ∷ ts) [] ws r = absurd r
 as_many_words plan clean m (t ∷ ts) (v ∷ vs) ws r =
-    let first : length r.0 ≡ words_of plan t = Rep-count plan clean m r.3 in
+    let first : length r.0 ≡ words_needed plan t = Rep-count plan clean m r.3 in
     let rest = as_many_words plan clean m ts vs r.1 r.4 in
-    ap length r.2 ∙ length-append r.0 r.1 ∙ ap (λ n. n + length r.1) first ∙ ap (λ n. words_of plan t + n) rest
+    ap length r.2 ∙ length-append r.0 r.1 ∙ ap (λ n. n + length r.1) first ∙ ap (λ n. words_needed plan t + n) rest
 
 pub compiled_texts_run : CompiledTextsRun
 compiled_texts_run agreed typed code compiled g f is limits low high clean args words reps due executes =

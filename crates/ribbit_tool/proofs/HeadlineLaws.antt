@@ -22,7 +22,7 @@ use Rattle.rb_target.specs.declared.code.CodeFun.{CodeFun}
 use Rattle.ribbit_tool.specs.Answers.{AnswersCommand}
 use Rattle.ribbit_tool.specs.Compiling.{IsCompiled, IsLaidOut}
 use Rattle.ribbit_tool.specs.Headline.{SaysAnswer, OfCalls, Headline}
-use Rattle.ribbit_tool.specs.Promise.{Counting, GivesDue, IsRight}
+use Rattle.ribbit_tool.specs.Promise.{Counting, GivesDue, IsPromised}
 use Rattle.ribbit_tool.specs.Run.{Runs, answer_due, source_answer, value_line, Prepares, PreparesFile, prepared, misfit}
 
 -- Accepted files are prepared ---------------------------------------------------------------
@@ -81,7 +81,7 @@ module _ (command : List ℕ → Limits → List (List ℕ) → Command) (Then :
     → ReadsOne file file_limit (λ bs d. PreparesFile values bs (Then limits) d) readings due)
     (says : (p : Program) (args : List Value) (limits : Limits) (due : Due) → Ready (Then limits) p args due
     → (out err : Change) (steps : Counting) (status : ℕ) → GivesDue due out err steps status → Promised p args limits out err status) where
-  pub of_calls : (words : List (List ℕ)) (source : Source) (out err : Change) (steps : Counting) (status : ℕ) → IsRight words source out err steps status
+  pub of_calls : (words : List (List ℕ)) (source : Source) (out err : Change) (steps : Counting) (status : ℕ) → IsPromised words source out err steps status
       → OfCalls command Promised words source out err status
   of_calls words source out err steps status r file limits values written bytes gave p a args spelled calm =
       let parsed : r.parsed ≡ Ok (command file limits values) = one_meaning words r.parsed (Ok (command file limits values)) r.meant written in
@@ -112,7 +112,7 @@ run_says p args limits due r out err steps status g =
     ∙ ap (λ (ls : List Layout). answer_due (value_line p) limits.calls (source_answer p ls limits args) n) r.laid.layouts in
     says (value_line p) limits out err steps status (source_answer p (flat_layouts p) limits args) n (subst (λ (d : Due). GivesDue d out err steps status) is g)
 
-pub headlined : (words : List (List ℕ)) (source : Source) (out err : Change) (steps : Counting) (status : ℕ) → IsRight words source out err steps status
+pub headlined : (words : List (List ℕ)) (source : Source) (out err : Change) (steps : Counting) (status : ℕ) → IsPromised words source out err steps status
     → Headline words source out err status
 headlined = of_calls run Answered (λ p args limits out err status. SaysAnswer (value_line p) limits (source_answer p (flat_layouts p) limits args) out err status)
     (λ file limits values readings due h. h) run_says

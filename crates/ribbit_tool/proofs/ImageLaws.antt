@@ -32,7 +32,7 @@ use Rattle.ribbit_tool.specs.Exec.{end_due}
 use Rattle.ribbit_tool.specs.Generate.{generated}
 use Rattle.ribbit_tool.specs.Headlines.{SaysImage, ImageHeadline, SaysCount, CountHeadline, GenerateHeadline}
 use Rattle.ribbit_tool.specs.Image.{Images, IsImageOf, ShowWhole}
-use Rattle.ribbit_tool.specs.Promise.{Counting, GivesDue, IsRight}
+use Rattle.ribbit_tool.specs.Promise.{Counting, GivesDue, IsPromised}
 use Rattle.ribbit_tool.specs.Run.{answer_due, laid_all, source_answer, unbounded, whole_answer}
 use Rattle.ribbit_tool.proofs.HeadlineLaws.{Ready, ready_as, of_calls, says}
 
@@ -91,7 +91,7 @@ image_says p args limits due r out err steps status g =
       says = says shown limits out err steps status (whole_answer p (flat_layouts p) limits args) i.taken (subst (λ (d : Due). GivesDue d out err steps status) is.1 g);
     }
 
-pub image_headlined : (words : List (List ℕ)) (source : Source) (out err : Change) (steps : Counting) (status : ℕ) → IsRight words source out err steps status
+pub image_headlined : (words : List (List ℕ)) (source : Source) (out err : Change) (steps : Counting) (status : ℕ) → IsPromised words source out err steps status
     → ImageHeadline words source out err status
 image_headlined = of_calls image Imaged SaysImage (λ file limits values readings due h. h) image_says
 
@@ -113,13 +113,13 @@ count_says p args limits due r out err steps status g =
       says = says (count_text p i.tally) limits out err steps status (source_answer p (flat_layouts p) limits args) i.taken (subst (λ (d : Due). GivesDue d out err steps status) is.1 g);
     }
 
-pub count_headlined : (words : List (List ℕ)) (source : Source) (out err : Change) (steps : Counting) (status : ℕ) → IsRight words source out err steps status
+pub count_headlined : (words : List (List ℕ)) (source : Source) (out err : Change) (steps : Counting) (status : ℕ) → IsPromised words source out err steps status
     → CountHeadline words source out err status
 count_headlined = of_calls count Counted SaysCount (λ file limits values readings due h. h) count_says
 
 -- Generated files ---------------------------------------------------------------------------
 
-pub generate_headlined : (words : List (List ℕ)) (source : Source) (out err : Change) (steps : Counting) (status : ℕ) → IsRight words source out err steps status
+pub generate_headlined : (words : List (List ℕ)) (source : Source) (out err : Change) (steps : Counting) (status : ℕ) → IsPromised words source out err steps status
     → GenerateHeadline words out err status
 generate_headlined words source out err steps status r = record {
   text = λ functions written calm.

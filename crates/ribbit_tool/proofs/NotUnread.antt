@@ -28,7 +28,7 @@ use Rattle.ribbit_tool.specs.Image.{ImagesFile}
 use Rattle.ribbit_tool.specs.Layout.{LaysOutFile}
 use Rattle.ribbit_tool.specs.Peek.{Peeks, rooted_at, found, stopped}
 use Rattle.ribbit_tool.specs.Run.{RunsFile, answer_due, source_answer, value_line, whole_answer, PreparesFile, misfit, prepared}
-use Rattle.ribbit_tool.specs.Value.{ReadsBack, holds, large, unsound}
+use Rattle.ribbit_tool.specs.Value.{IsDueToImage, holds, large, unsound}
 
 -- Calls of `main` ---------------------------------------------------------------------------
 
@@ -66,7 +66,7 @@ named_other funs name limits words (Some f) =
 
 -- Images ------------------------------------------------------------------------------------
 
-pub back_other : (p : Program) (ty : Ty) (i : Image) (due : Due) → ReadsBack p ty i due → status_of due ≢ 7
+pub back_other : (p : Program) (ty : Ty) (i : Image) (due : Due) → IsDueToImage p ty i due → status_of due ≢ 7
 back_other p ty i due (holds v h few is) = other_by due _ is (λ e. omega (arith, e))
 back_other p ty i due (large v h more is) = other_by due _ is (λ e. omega (arith, e))
 back_other p ty i due (unsound f h is) = other_by due _ is (fault_other f)

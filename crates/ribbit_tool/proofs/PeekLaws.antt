@@ -17,23 +17,23 @@ use Rattle.rb_lines.specs.View.{IsRefusal}
 use Rattle.rb_lines.specs.declared.refusal.Refusal.{Refusal}
 use Rattle.rb_lines.proofs.Meeting.{refusal_met}
 use Rattle.ribbit_tool.specs.Peek.{Peeks, found, stopped, rooted_at}
-use Rattle.ribbit_tool.specs.Value.{ReadsBack}
+use Rattle.ribbit_tool.specs.Value.{IsDueToImage}
 
 module _ (p : Program) (layouts : List Layout) (flat : layouts ≡ flat_layouts p) (ty : Ty) (path : List ℕ) (image : Image) where
   -- what is due to a part that was found is due to the path
   module _ (part : Peeked) (is : IsPart p.types layouts image ty path part) where
-    part_due : (due : Due) → ReadsBack p part.ty (rooted_at image part) due → Peeks p ty path image due
+    part_due : (due : Due) → IsDueToImage p part.ty (rooted_at image part) due → Peeks p ty path image due
     part_due due h = found part (subst (λ (ls : List Layout). IsPart p.types ls image ty path part) flat is) h
 
-    pub part_shown : (r : Result (Vec ℕ Global) Refusal) → IfOk r (λ text. ReadsBack p part.ty (rooted_at image part) (printed text.items 0))
+    pub part_shown : (r : Result (Vec ℕ Global) Refusal) → IfOk r (λ text. IsDueToImage p part.ty (rooted_at image part) (printed text.items 0))
         → IfOk r (λ text. Peeks p ty path image (printed text.items 0))
     part_shown (Ok text) h = part_due (printed text.items 0) h
     part_shown (Err e) h = tt
 
-    pub part_refused : (r : Result (Vec ℕ Global) Refusal) → IfErr r (IsRefusal (ReadsBack p part.ty (rooted_at image part)))
+    pub part_refused : (r : Result (Vec ℕ Global) Refusal) → IfErr r (IsRefusal (IsDueToImage p part.ty (rooted_at image part)))
         → IfErr r (IsRefusal (Peeks p ty path image))
     part_refused (Ok text) h = tt
-    part_refused (Err e) h = refusal_met (ReadsBack p part.ty (rooted_at image part)) (Peeks p ty path image) part_due e h
+    part_refused (Err e) h = refusal_met (IsDueToImage p part.ty (rooted_at image part)) (Peeks p ty path image) part_due e h
 
   -- and so is a fault that is no want of memory
   pub path_refused : (fault : ImageFault) → IsPartFault p.types layouts image ty path fault ⊎ (fault ≡ Memory) → fault ≢ Memory

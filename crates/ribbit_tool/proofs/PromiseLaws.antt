@@ -11,7 +11,7 @@ use Rattle.rb_lines.specs.declared.status.Status.{Status}
 use Rattle.rb_lines.specs.declared.status.Status.TheVariants as status
 use Rattle.ribbit_tool.specs.Answers.{AnswersCommand, Owes, answered, out_of_memory, files_of}
 use Rattle.ribbit_tool.specs.Headline.{GivesHeld}
-use Rattle.ribbit_tool.specs.Promise.{Counting, Shows, GivesAnswer, Performs, IsCalm, IsCutOff, IsMissing, IsRight}
+use Rattle.ribbit_tool.specs.Promise.{Counting, Shows, GivesAnswer, Performs, IsCalm, IsCutOff, LastIsAbsent, IsPromised}
 use Rattle.ribbit_tool.proofs.ReadFaults.{fault_of, IsHeld, held_of}
 
 -- no named status is that of a printed text or of a failed write
@@ -90,7 +90,7 @@ module _ (words : List (List ℕ)) (source : Source) (out err : Change) (steps :
     the_complete : IsCalm out err status → GivesAnswer parsed source out err steps status
     the_complete calm = the_right (no_write_fault calm.0 calm.1) calm.2
 
-    the_read_fault : status ≡ 7 → Rose source.before source.now ⊎ IsMissing source
+    the_read_fault : status ≡ 7 → Rose source.before source.now ⊎ LastIsAbsent source
     the_read_fault seven =
         let no_8 : status ≢ 8 = λ f. omega (arith, seven, f) in
         let no_9 : status ≢ 9 = λ f. omega (arith, seven, f) in
@@ -105,7 +105,7 @@ module _ (words : List (List ℕ)) (source : Source) (out err : Change) (steps :
     all_held : IsCalm out err status → IsHeld source (files_of parsed)
     all_held calm = held_of source parsed due r.reads.in_turn (the_answer (no_write_fault calm.0 calm.1) calm.2)
 
-  pub promised : Performs words source out err steps status → IsRight words source out err steps status
+  pub promised : Performs words source out err steps status → IsPromised words source out err steps status
   promised r = record {
     parsed = r.parsed;
     meant = r.meant;

@@ -21,9 +21,9 @@ use Rattle.ribbit_tool.specs.Generate.{generated}
 use Rattle.ribbit_tool.specs.Image.{ImagesFile}
 use Rattle.ribbit_tool.specs.Layout.{LaysOutFile}
 use Rattle.ribbit_tool.specs.Peek.{Peeks}
-use Rattle.ribbit_tool.specs.Promise.{IsMissing}
+use Rattle.ribbit_tool.specs.Promise.{LastIsAbsent}
 use Rattle.ribbit_tool.specs.Run.{RunsFile}
-use Rattle.ribbit_tool.specs.Value.{ReadsBack}
+use Rattle.ribbit_tool.specs.Value.{IsDueToImage}
 use Rattle.ribbit_tool.proofs.NotUnread.{checks_other, lays_out_other, compiles_other, runs_other, images_other, counts_other, executes_other, back_other, part_other}
 
 module _ (source : Source) where
@@ -38,7 +38,7 @@ module _ (source : Source) where
 
     -- a file that was not read was missing, or the source failed
     pub one_missing : ((bytes : List ℕ) → Then bytes due → status_of due ≢ 7) → ReadsOne name limit Then rs due → status_of due ≡ 7
-        → Rose source.before source.now ⊎ IsMissing source
+        → Rose source.before source.now ⊎ LastIsAbsent source
     one_missing other (unread (too_long bytes long is e)) seven = let eleven = ap (λ (d : Due). status_of d) e in absurd (omega (arith, seven, eleven))
     one_missing other (within bytes later is short h) seven = absurd (other bytes h.1 seven)
     one_missing other (unread (not_read bytes is e)) seven =
@@ -70,7 +70,7 @@ module _ (source : Source) where
 
   -- the reading that failed is the last one
   missing_as : (name bytes : List ℕ) (limit : ℕ) (earlier : List Reading) → rs ≡ earlier ++ record { name = name; bytes = bytes; course = failed } ∷ []
-      → IsReading source name limit (record { name = name; bytes = bytes; course = failed }) → Rose source.before source.now ⊎ IsMissing source
+      → IsReading source name limit (record { name = name; bytes = bytes; course = failed }) → Rose source.before source.now ⊎ LastIsAbsent source
   missing_as name bytes limit earlier is read =
       elim (read.cause refl) [
         | inl rose ↦ inl rose
@@ -91,7 +91,7 @@ module _ (source : Source) where
     turns xs is = subst (λ (ys : List Reading). AreInTurn source ((file, file_limit) ∷ (second, image_limit) ∷ []) ys) is turn
 
     image_missing : (bytes : List ℕ) (later : List Reading) → rs ≡ whole file bytes ∷ later → (p : Program) → ReadsImage second (Then p) later due
-        → Rose source.before source.now ⊎ IsMissing source
+        → Rose source.before source.now ⊎ LastIsAbsent source
     image_missing bytes later is p (unread (too_long text long k e)) = let eleven = ap (λ (d : Due). status_of d) e in absurd (omega (arith, seven, eleven))
     image_missing bytes later is p (unread (not_read text k e)) =
         let all = is ∙ ap (λ (xs : List Reading). whole file bytes ∷ xs) k in
@@ -99,11 +99,11 @@ module _ (source : Source) where
     image_missing bytes later is p (within text rest k short h) = absurd (spells_other text (Then p) due (other p) h.1 seven)
 
     file_first : (bytes : List ℕ) (later : List Reading) → rs ≡ whole file bytes ∷ later
-        → AcceptsFirst bytes (λ p xs d. ReadsImage second (Then p) xs d) later due → Rose source.before source.now ⊎ IsMissing source
+        → AcceptsFirst bytes (λ p xs d. ReadsImage second (Then p) xs d) later due → Rose source.before source.now ⊎ LastIsAbsent source
     file_first bytes later is (turned_down h none) = absurd (refused_other bytes due h seven)
     file_first bytes later is (accepted p a h) = image_missing bytes later is p h
 
-    pub two_missing : Opens file second Then rs due → Rose source.before source.now ⊎ IsMissing source
+    pub two_missing : Opens file second Then rs due → Rose source.before source.now ⊎ LastIsAbsent source
     two_missing (unread (too_long bytes long is e)) = let eleven = ap (λ (d : Due). status_of d) e in absurd (omega (arith, seven, eleven))
     two_missing (unread (not_read bytes is e)) = missing_as file bytes file_limit [] is (turns _ is).0
     two_missing (within bytes later is short h) = file_first bytes later is h
@@ -111,7 +111,7 @@ module _ (source : Source) where
   -- Each command ----------------------------------------------------------------------------
 
   pub fault_of : (parsed : Parsed) (due : Due) → AreInTurn source (files_of parsed) rs → AnswersCommand parsed rs due → status_of due ≡ 7
-      → Rose source.before source.now ⊎ IsMissing source
+      → Rose source.before source.now ⊎ LastIsAbsent source
   fault_of (Ok (check file)) due turn h seven = one_missing file file_limit (λ bs d. ChecksFile bs d) due turn (λ bs k. checks_other bs due k) h seven
   fault_of (Ok (layout file)) due turn h seven = one_missing file file_limit (λ bs d. LaysOutFile bs d) due turn (λ bs k. lays_out_other bs due k) h seven
   fault_of (Ok (compile file)) due turn h seven = one_missing file file_limit (λ bs d. CompilesFile bs d) due turn (λ bs k. compiles_other bs due k) h seven
@@ -123,7 +123,7 @@ module _ (source : Source) where
   fault_of (Ok (exec code function limits words)) due turn h seven =
       one_missing code code_limit (λ bs d. Executes function limits words bs d) due turn (λ bs k. executes_other bs due function limits words k) h seven
   fault_of (Ok (value file second)) due turn h seven =
-      two_missing file second (λ p i d. ReadsBack p (result_type p.funs p.main) i d) due turn (λ p i k. back_other p (result_type p.funs p.main) i due k) seven h
+      two_missing file second (λ p i d. IsDueToImage p (result_type p.funs p.main) i d) due turn (λ p i k. back_other p (result_type p.funs p.main) i due k) seven h
   fault_of (Ok (peek file second path)) due turn h seven =
       two_missing file second (λ p i d. Peeks p (result_type p.funs p.main) path i d) due turn (λ p i k. part_other p (result_type p.funs p.main) path i due k) seven h
   fault_of (Err word) due turn h seven = let six = ap (λ (d : Due). status_of d) h in absurd (omega (arith, seven, six))

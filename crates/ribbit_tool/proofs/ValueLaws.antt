@@ -12,10 +12,10 @@ use Rattle.rb_layout.specs.declared.layout.Layout.{Layout}
 use Rattle.rb_lines.specs.Answer.{Due}
 use Rattle.rb_lines.specs.ArgumentLines.{node_limit}
 use Rattle.rb_lines.specs.ImageLines.{image_due}
-use Rattle.ribbit_tool.specs.Value.{ReadsBack, unsound, large}
+use Rattle.ribbit_tool.specs.Value.{IsDueToImage, unsound, large}
 
 pub refused_back : (p : Program) (layouts : List Layout) → layouts ≡ flat_layouts p → (ty : Ty) (image : Image) (fault : ImageFault)
-    → IsReason p layouts image ty node_limit fault → fault ≢ Memory → (due : Due) → due ≡ image_due fault → ReadsBack p ty image due
+    → IsReason p layouts image ty node_limit fault → fault ≢ Memory → (due : Due) → due ≡ image_due fault → IsDueToImage p ty image due
 refused_back p layouts same ty image fault (inl first) other due e =
     unsound fault (subst (λ (ls : List Layout). IsFirstImageFault p.types ls image ty fault) same first) e
 refused_back p layouts same ty image fault (inr (inl (is, v, held, more))) other due e = large v held more (e ∙ ap (λ (f : ImageFault). image_due f) is)

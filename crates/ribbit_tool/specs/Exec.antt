@@ -18,7 +18,7 @@ use Rattle.rb_target.specs.declared.fault.CodeFault.TheVariants.{CodeSyntax}
 use Rattle.rb_target.specs.declared.outcome.End.{End}
 use Rattle.rb_target.specs.declared.outcome.End.TheVariants.{Returned, Spent, Full, Trapped}
 use Rattle.rb_target.specs.Faults.{IsFirstCodeFault}
-use Rattle.rb_target.specs.Meaning.{Outcome, run_of}
+use Rattle.rb_target.specs.Meaning.{CallEnd, run_of}
 use Rattle.rb_target.specs.Stopping.{IsTextOf, StopsAt}
 use Rattle.rb_target.specs.Text.{code_text}
 use Rattle.rb_target.specs.Validity.{IsValid}
@@ -32,7 +32,7 @@ end_due shown calls (Full f) steps = refused status.Full (full_line f) steps
 end_due shown calls (Trapped t) steps = refused status.Trap (trap_line t) steps
 
 -- what is due to the outcome of a run that had so many calls: its words on a line, or the line of any other end
-abbrev pub outcome_due : Outcome → ℕ → Due
+abbrev pub outcome_due : CallEnd → ℕ → Due
 outcome_due o calls = end_due words_line calls o.ended o.world.taken
 
 -- the number of the first function of this name; None where none has it

@@ -13,7 +13,7 @@ use Rattle.rb_fragment.specs.Plan.{Reps, types_of}
 use Rattle.rb_layout.specs.declared.agreed.LaidOut.{LaidOut}
 use Rattle.rb_lines.specs.Answer.{Due}
 use Rattle.rb_target.specs.declared.code.CodeFun.{CodeFun}
-use Rattle.rb_target.specs.Meaning.{Outcome}
+use Rattle.rb_target.specs.Meaning.{CallEnd}
 use Rattle.rb_target.specs.Text.{code_text}
 use Rattle.rb_target.specs.Validity.{IsValid}
 use Rattle.ribbit_tool.specs.Compiling.{IsCompiled}
@@ -36,6 +36,6 @@ CompiledTextsRun =
     → (clean : Bool) (args : List Value) (words : List ℕ)
     → Reps (plan_of agreed) (empty_memory limits.region) clean (types_of f) args words
     → (due : Due) → Executes f.name limits words (code_text code) due
-    → (run : Outcome) × (due ≡ outcome_due run limits.calls)
+    → (run : CallEnd) × (due ≡ outcome_due run limits.calls)
     × DoesAs (plan_of agreed) clean f.result (empty_memory limits.region)
     (call_of agreed.covered.program g limits.calls args) run

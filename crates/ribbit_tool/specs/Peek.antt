@@ -15,7 +15,7 @@ use Rattle.rb_image_text.specs.declared.image.Image.{Image}
 use Rattle.rb_layout.specs.Flattening.{flat_layouts}
 use Rattle.rb_lines.specs.Answer.{Due}
 use Rattle.rb_lines.specs.ImageLines.{image_due}
-use Rattle.ribbit_tool.specs.Value.{ReadsBack}
+use Rattle.ribbit_tool.specs.Value.{IsDueToImage}
 
 -- an image of the same blocks, whose root words are those of a part
 abbrev pub rooted_at : Image → Peeked → Image
@@ -25,7 +25,7 @@ rooted_at image part = record { root = part.words; blocks = image.blocks }
 -- the image of that part is; or it does not, and the fault that it has is shown.
 pub data Peeks (p : Program) (ty : Ty) (path : List ℕ) (image : Image) (due : Due) : Type 0 where
   found : (part : Peeked) → IsPart p.types (flat_layouts p) image ty path part
-      → ReadsBack p part.ty (rooted_at image part) due
+      → IsDueToImage p part.ty (rooted_at image part) due
       → Peeks p ty path image due
   stopped : (fault : ImageFault) → IsPartFault p.types (flat_layouts p) image ty path fault → due ≡ image_due fault
       → Peeks p ty path image due

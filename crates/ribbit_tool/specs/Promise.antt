@@ -9,7 +9,7 @@ use Rattle.rb_command.specs.Command.{Parsed, IsParsed}
 use Rattle.rb_edge.specs.Faults.{Rose}
 use Rattle.rb_edge.specs.History.{Reading, missed}
 use Rattle.rb_lines.specs.Answer.{Due, printed, refused, status_of, steps_of, text_of_due}
-use Rattle.rb_lines.specs.Delivery.{Change, Took, CutOff, Tried, Stood, Delivers}
+use Rattle.rb_lines.specs.Delivery.{Change, Took, CutOff, TriesText, Stood, Delivers}
 use Rattle.rb_lines.specs.Lines.{write_fault_line}
 use Rattle.rb_lines.specs.Numbers.{status_number}
 use Rattle.rb_lines.specs.declared.status.Status.TheVariants.{NoMemory, Unread}
@@ -55,11 +55,11 @@ IsCalm out err status = Stood out × Stood err × (status ≢ status_number NoMe
 -- output at any other status. Each took a front of its text, and then no more.
 abbrev pub IsCutOff : Due → Change → Change → Type 0
 IsCutOff due out err =
-    ((status_of due ≡ 0) × CutOff out (text_of_due due) × Tried err write_fault_line)
+    ((status_of due ≡ 0) × CutOff out (text_of_due due) × TriesText err write_fault_line)
     ⊎ ((status_of due ≢ 0) × Took out [] × CutOff err (text_of_due due))
 
 -- The source tells that nothing is held under the name that was to be opened last.
-pub record IsMissing (source : Source) : Type 0 where
+pub record LastIsAbsent (source : Source) : Type 0 where
   pub told : IsTrue source.tells
   pub name : List ℕ
   pub nothing : source.held name ≡ None
@@ -67,7 +67,7 @@ pub record IsMissing (source : Source) : Type 0 where
   pub last : handed_out source ≡ earlier ++ missed name ∷ []
 
 -- what is promised of each command, whatever is read and written
-pub record IsRight (words : List (List ℕ)) (source : Source) (out err : Change) (steps : Counting)
+pub record IsPromised (words : List (List ℕ)) (source : Source) (out err : Change) (steps : Counting)
     (status : ℕ) : Type 0 where
   -- what the words come to: a command, or the first word at fault
   pub parsed : Parsed
@@ -80,6 +80,6 @@ pub record IsRight (words : List (List ℕ)) (source : Source) (out err : Change
   -- where no write failed, the answer is the right one, want of memory aside
   pub complete : IsCalm out err status → GivesAnswer parsed source out err steps status
   -- a read fault has its cause: the count rose, or nothing is held under the name
-  pub read_fault : status ≡ status_number Unread → Rose source.before source.now ⊎ IsMissing source
+  pub read_fault : status ≡ status_number Unread → Rose source.before source.now ⊎ LastIsAbsent source
   -- a write fault has its cause, and the sinks took fronts of their texts
   pub write_fault : status ≡ 8 → (due : Due) × Owes parsed (handed_out source) due × IsCutOff due out err

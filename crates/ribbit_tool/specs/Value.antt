@@ -25,16 +25,16 @@ use Rattle.rb_values.specs.Texts.{text_of}
 -- What is due to an image that is to hold a value of a type: its root words represent one in its blocks, and each
 -- pointer that a block holds leads to a block with a lower address; then the value is shown on a line, if it is not
 -- too large. Or else the image's first fault is shown.
-pub data ReadsBack (p : Program) (ty : Ty) (image : Image) (due : Due) : Type 0 where
+pub data IsDueToImage (p : Program) (ty : Ty) (image : Image) (due : Due) : Type 0 where
   holds : (v : Value) → RootDescends p image ty v → node_count v ≤ node_limit
-      → due ≡ printed (ended (text_of p.types v ty)) 0 → ReadsBack p ty image due
+      → due ≡ printed (ended (text_of p.types v ty)) 0 → IsDueToImage p ty image due
   large : (v : Value) → RootDescends p image ty v → node_limit < node_count v
-      → due ≡ refusal TooLarge (large_line node_limit) → ReadsBack p ty image due
+      → due ≡ refusal TooLarge (large_line node_limit) → IsDueToImage p ty image due
   unsound : (fault : ImageFault) → IsFirstImageFault p.types (flat_layouts p) image ty fault → due ≡ image_due fault
-      → ReadsBack p ty image due
+      → IsDueToImage p ty image due
 
 -- what is due to `value` of FILE and IMAGE over what was read: a refusal of either, or the value that IMAGE holds of
 -- the result type of `main`
 abbrev pub ReadsValue : List ℕ → List ℕ → List Reading → Due → Type 0
 ReadsValue file image readings due =
-    Opens file image (λ p i d. ReadsBack p (result_type p.funs p.main) i d) readings due
+    Opens file image (λ p i d. IsDueToImage p (result_type p.funs p.main) i d) readings due

@@ -3,7 +3,7 @@
 
 ghost use Rattle.std.specs.Prelude.{◌≤◌, ℕ, length, IfOk, IfErr, Ok, [], ◌∷◌};
 ghost use Rattle.rb_accept.specs.Reading.{ReadsInTurn, file_limit, source_of};
-ghost use Rattle.rb_accept.specs.View.{IsAcceptance, added};
+ghost use Rattle.rb_accept.specs.View.{IsAcceptance, handed_between};
 ghost use Rattle.rb_command.specs.Command as spec;
 ghost use Rattle.rb_lines.specs.Answer.{printed};
 ghost use Rattle.rb_lines.specs.View.{IsRefusal, Meets};
@@ -50,7 +50,7 @@ pub fn check_file<S: Source>(alloc: Global, src: &mut S, file: &[u8]) -> Result<
     ensures read { ReadsInTurn ((file.now, file_limit) ∷ [])
         (source_of S.tells S.held S.readings S.faults src.old src.new) }
     ensures owed { (steps : ℕ) → Meets
-        (Owes (Ok (spec.check file.now)) (added S.readings src.old src.new)) steps steps result }
+        (Owes (Ok (spec.check file.now)) (handed_between S.readings src.old src.new)) steps steps result }
 {
     let bytes = read_within(alloc, src, file, FILE_LIMIT)?;
     check_bytes(alloc, bytes.as_slice())

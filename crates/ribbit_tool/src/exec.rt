@@ -6,7 +6,7 @@
 
 ghost use Rattle.std.specs.Prelude.{◌≡◌, ◌≢◌, ◌<◌, ◌+◌, ℕ, length, IfOk, IfSome, Ok, slice_get, [], ◌∷◌};
 ghost use Rattle.rb_accept.specs.Reading.{ReadsInTurn, code_limit, source_of};
-ghost use Rattle.rb_accept.specs.View.{added};
+ghost use Rattle.rb_accept.specs.View.{handed_between};
 ghost use Rattle.rb_bytes.specs.Memory.{empty_memory};
 ghost use Rattle.rb_command.specs.Command as spec;
 ghost use Rattle.rb_command.specs.View.{limits_view};
@@ -187,7 +187,8 @@ pub fn run_code_file<S: Source, L: Ledger>(
     ensures read { ReadsInTurn ((code.now, code_limit) ∷ [])
         (source_of S.tells S.held S.readings S.faults src.old src.new) }
     ensures owed { Meets
-        (Owes (Ok (spec.exec code.now function.now (limits_view limits) words.now)) (added S.readings src.old src.new))
+        (Owes (Ok (spec.exec code.now function.now (limits_view limits) words.now))
+        (handed_between S.readings src.old src.new))
         steps.old.taken steps.new.taken result }
 {
     let bytes = read_within(alloc, src, code, CODE_LIMIT)?;

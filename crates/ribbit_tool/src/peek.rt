@@ -6,11 +6,11 @@
 
 ghost use Rattle.std.specs.Prelude.{◌≡◌, ℕ, IfOk, IfErr, Ok};
 ghost use Rattle.rb_accept.specs.Reading.{ReadsInTurn, source_of};
-ghost use Rattle.rb_accept.specs.View.{added};
+ghost use Rattle.rb_accept.specs.View.{handed_between};
 ghost use Rattle.rb_command.specs.Command as spec;
 ghost use Rattle.rb_core.specs.Typing.{result_type};
 ghost use Rattle.rb_image.specs.Values.{IsDeclared};
-ghost use Rattle.rb_image_text.specs.Images.{AreBlocks};
+ghost use Rattle.rb_image_text.specs.Images.{AreImageBlocks};
 ghost use Rattle.rb_image_text.specs.Places.{AreInPlace};
 ghost use Rattle.rb_lines.specs.Answer.{printed};
 ghost use Rattle.rb_lines.specs.View.{IsRefusal, Meets};
@@ -49,7 +49,7 @@ fn part_text(
     path: &[u32],
 ) -> Result<Vec<u8>, Refusal>
     requires placed { AreInPlace image.blocks }
-    requires sized { AreBlocks image.blocks }
+    requires sized { AreImageBlocks image.blocks }
     requires declared { IsDeclared agreed.now.covered.program.types ty }
     ensures text { IfOk result (λ text.
         Peeks agreed.now.covered.program ty path.now image (printed text.items 0)) }
@@ -78,7 +78,7 @@ fn part_of_main(
     path: &[u32],
 ) -> Result<Vec<u8>, Refusal>
     requires placed { AreInPlace image.blocks }
-    requires sized { AreBlocks image.blocks }
+    requires sized { AreImageBlocks image.blocks }
     ensures text { IfOk result (λ text. Peeks agreed.now.covered.program
         (result_type agreed.now.covered.program.funs agreed.now.covered.program.main) path.now image
         (printed text.items 0)) }
@@ -107,7 +107,8 @@ pub fn peek_file<S: Source>(
     ensures read { ReadsInTurn (files_of (Ok (spec.peek file.now image.now path.now)))
         (source_of S.tells S.held S.readings S.faults src.old src.new) }
     ensures owed { (steps : ℕ) → Meets
-        (Owes (Ok (spec.peek file.now image.now path.now)) (added S.readings src.old src.new)) steps steps result }
+        (Owes (Ok (spec.peek file.now image.now path.now)) (handed_between S.readings src.old src.new))
+        steps steps result }
 {
     let opened = open_image(alloc, src, file, image)?;
     let whole = opened.image;

@@ -7,7 +7,7 @@
 ghost use Rattle.std.specs.Prelude.{◌≡◌, ◌≤◌, ◌+◌, ℕ, length, IfOk, IfErr, Ok, [], ◌∷◌};
 ghost use Rattle.rb_accept.specs.Arguments.{IsMisfit, Spell};
 ghost use Rattle.rb_accept.specs.Reading.{ReadsInTurn, file_limit, source_of};
-ghost use Rattle.rb_accept.specs.View.{added};
+ghost use Rattle.rb_accept.specs.View.{handed_between};
 ghost use Rattle.rb_command.specs.Command as spec;
 ghost use Rattle.rb_command.specs.View.{limits_view};
 ghost use Rattle.rb_lines.specs.Lines.{ended};
@@ -171,7 +171,7 @@ pub fn run_file<S: Source, L: Ledger>(
     ensures read { ReadsInTurn ((file.now, file_limit) ∷ [])
         (source_of S.tells S.held S.readings S.faults src.old src.new) }
     ensures owed { Meets
-        (Owes (Ok (spec.run file.now (limits_view limits) values.now)) (added S.readings src.old src.new))
+        (Owes (Ok (spec.run file.now (limits_view limits) values.now)) (handed_between S.readings src.old src.new))
         steps.old.taken steps.new.taken result }
 {
     let bytes = read_within(alloc, src, file, FILE_LIMIT)?;

@@ -5,7 +5,7 @@
 
 ghost use Rattle.std.specs.Prelude.{◌≡◌, IfOk, Ok};
 ghost use Rattle.rb_accept.specs.Reading.{ReadsInTurn, source_of};
-ghost use Rattle.rb_accept.specs.View.{added};
+ghost use Rattle.rb_accept.specs.View.{handed_between};
 ghost use Rattle.rb_command.specs.View.{command_view};
 ghost use Rattle.rb_lines.specs.Answer.{refusal};
 ghost use Rattle.rb_lines.specs.Delivery.{change};
@@ -15,7 +15,7 @@ ghost use Rattle.rb_lines.specs.declared.status.Status.TheVariants as status;
 ghost use Rattle.ribbit_tool.specs.Answers.{Owes, files_of};
 ghost use Rattle.ribbit_tool.specs.Headline.{GivesHeld, Headline};
 ghost use Rattle.ribbit_tool.specs.Headlines.{CompileHeadline, CountHeadline, GenerateHeadline, ImageHeadline};
-ghost use Rattle.ribbit_tool.specs.Promise.{Performs, IsRight};
+ghost use Rattle.ribbit_tool.specs.Promise.{Performs, IsPromised};
 ghost use Rattle.ribbit_tool.specs.inner.Composing.{Composes};
 
 use crate::check::check_file;
@@ -49,7 +49,7 @@ fn obey<S: Source, L: Ledger>(
 ) -> Result<Vec<u8>, Refusal>
     ensures read { ReadsInTurn (files_of (Ok (command_view command.now)))
         (source_of S.tells S.held S.readings S.faults src.old src.new) }
-    ensures owed { Meets (Owes (Ok (command_view command.now)) (added S.readings src.old src.new))
+    ensures owed { Meets (Owes (Ok (command_view command.now)) (handed_between S.readings src.old src.new))
         steps.old.taken steps.new.taken result }
 {
     match command {
@@ -193,7 +193,7 @@ pub fn ribbit<S: Source, O: Sink, E: Sink, L: Ledger>(
         (change E.tells E.taken E.account E.faults err.old err.new) result }
     // For all words and files, with faults of the source and the sinks: which status, text and
     // steps come.
-    ensures right { IsRight words.now (source_of S.tells S.held S.readings S.faults src.old src.new)
+    ensures right { IsPromised words.now (source_of S.tells S.held S.readings S.faults src.old src.new)
         (change O.tells O.taken O.account O.faults out.old out.new)
         (change E.tells E.taken E.account E.faults err.old err.new)
         (record { before = steps.old.taken; now = steps.new.taken }) result }

@@ -4,17 +4,17 @@
 
 ghost use Rattle.std.specs.Prelude.{◌≡◌, ℕ, IfOk, IfErr, Ok};
 ghost use Rattle.rb_accept.specs.Reading.{ReadsInTurn, source_of};
-ghost use Rattle.rb_accept.specs.View.{added};
+ghost use Rattle.rb_accept.specs.View.{handed_between};
 ghost use Rattle.rb_command.specs.Command as spec;
 ghost use Rattle.rb_core.specs.Typing.{result_type};
 ghost use Rattle.rb_image.specs.Values.{IsDeclared};
-ghost use Rattle.rb_image_text.specs.Images.{AreBlocks};
+ghost use Rattle.rb_image_text.specs.Images.{AreImageBlocks};
 ghost use Rattle.rb_image_text.specs.Places.{AreInPlace};
 ghost use Rattle.rb_layout.specs.Flattening.{flat_layouts};
 ghost use Rattle.rb_lines.specs.Answer.{printed};
 ghost use Rattle.rb_lines.specs.View.{IsRefusal, Meets};
 ghost use Rattle.ribbit_tool.specs.Answers.{Owes, files_of};
-ghost use Rattle.ribbit_tool.specs.Value.{ReadsBack};
+ghost use Rattle.ribbit_tool.specs.Value.{IsDueToImage};
 
 use crate::run::show_at;
 use rb_accept::opening::{open_image, refuse_image};
@@ -47,11 +47,11 @@ pub(crate) fn value_text(
     image: &Image,
 ) -> Result<Vec<u8>, Refusal>
     requires placed { AreInPlace image.now.blocks }
-    requires sized { AreBlocks image.now.blocks }
+    requires sized { AreImageBlocks image.now.blocks }
     requires declared { IsDeclared agreed.now.covered.program.types ty }
     ensures text { IfOk result (λ text.
-        ReadsBack agreed.now.covered.program ty image.now (printed text.items 0)) }
-    ensures refused { IfErr result (IsRefusal (ReadsBack agreed.now.covered.program ty image.now)) }
+        IsDueToImage agreed.now.covered.program ty image.now (printed text.items 0)) }
+    ensures refused { IfErr result (IsRefusal (IsDueToImage agreed.now.covered.program ty image.now)) }
 {
     layouts_are_flat(agreed);
     match read_image(alloc, agreed, ty, image, NODES) {
@@ -71,11 +71,11 @@ pub(crate) fn value_text(
 // place.
 fn value_of_main(alloc: Global, agreed: &Agreed, image: &Image) -> Result<Vec<u8>, Refusal>
     requires placed { AreInPlace image.now.blocks }
-    requires sized { AreBlocks image.now.blocks }
-    ensures text { IfOk result (λ text. ReadsBack agreed.now.covered.program
+    requires sized { AreImageBlocks image.now.blocks }
+    ensures text { IfOk result (λ text. IsDueToImage agreed.now.covered.program
         (result_type agreed.now.covered.program.funs agreed.now.covered.program.main) image.now
         (printed text.items 0)) }
-    ensures refused { IfErr result (IsRefusal (ReadsBack agreed.now.covered.program
+    ensures refused { IfErr result (IsRefusal (IsDueToImage agreed.now.covered.program
         (result_type agreed.now.covered.program.funs agreed.now.covered.program.main) image.now)) }
 {
     let ty = result_of_main(agreed.covered().program());
@@ -99,7 +99,7 @@ pub fn value_file<S: Source>(
         (source_of S.tells S.held S.readings S.faults src.old src.new) }
     ensures owed { (steps : ℕ) → Meets
         (Owes (Ok (spec.value file.now image.now))
-        (added S.readings src.old src.new)) steps steps result }
+        (handed_between S.readings src.old src.new)) steps steps result }
 {
     let opened = open_image(alloc, src, file, image)?;
     value_of_main(alloc, &opened.accepted.agreed, &opened.image)

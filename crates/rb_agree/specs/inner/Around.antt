@@ -4,16 +4,18 @@ use Rattle.std.specs.Prelude.{List}
 use Rattle.rb_core.specs.declared.layout_decl.LayItem.TheFolds.{fold-PartKind, fold-PartDecl}
 use Rattle.rb_core.specs.declared.layout_decl.PartKind.{PartKind}
 use Rattle.rb_core.specs.declared.layout_decl.PartDecl.{PartDecl}
-use Rattle.rb_layout.specs.Items.{Around, item_step, kind_step, part_step}
+use Rattle.rb_layout.specs.Items.{Around, items_step, content_step, written_part_step}
 use Rattle.rb_layout.specs.Items as I
 
 -- what a part of this kind is written to hold, and the items behind it, if it is a pointer
 abbrev pub kind_around : PartKind → Around I.Content
-kind_around = fold-PartKind (List I.Item) (Around I.Content) (Around I.WrittenPart) item_step kind_step part_step
+kind_around =
+    fold-PartKind (List I.Item) (Around I.Content) (Around I.WrittenPart) items_step content_step written_part_step
 
 -- a part as it is written, and the items behind it, if it is a pointer
 abbrev pub part_around : PartDecl → Around I.WrittenPart
-part_around = fold-PartDecl (List I.Item) (Around I.Content) (Around I.WrittenPart) item_step kind_step part_step
+part_around =
+    fold-PartDecl (List I.Item) (Around I.Content) (Around I.WrittenPart) items_step content_step written_part_step
 
 -- what a part of this kind is written to hold
 abbrev pub content_of : PartKind → I.Content

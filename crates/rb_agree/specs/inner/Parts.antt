@@ -9,7 +9,7 @@ use Rattle.rb_layout.specs.declared.evidence.Why.{Why}
 use Rattle.rb_layout.specs.declared.evidence.Why.TheVariants.{Outside, Overlap, ConstWide, Misfit}
 use Rattle.rb_layout.specs.Positions.{Open}
 use Rattle.rb_layout.specs.Items.{Number, WrittenPart, content_paths}
-use Rattle.rb_layout.specs.A3.{FailsParts, Fits, IsIn, IsOfItem, IsPlaced, LiesIn}
+use Rattle.rb_layout.specs.A3.{FailsParts, Fits, IsIn, IsOfItem, IsContentPlaced, LiesIn}
 use Rattle.rb_agree.specs.declared.items.Written.{Written}
 use Rattle.rb_agree.specs.Written.{shown_part}
 use Rattle.rb_agree.specs.inner.Lists.{EachOf, SomeOf}
@@ -28,7 +28,7 @@ module _ (decls : List LayoutDecl) (opens : List Open) where
 
   -- a part lies in its word of `width` bits where its path, if it has one, is open, and fits what it holds
   pub record IsPartFine (width : ℕ) (p : WrittenPart) : Type 0 where
-    pub inside : IsPlaced opens p.content → LiesIn width p.o p.l
+    pub inside : IsContentPlaced opens p.content → LiesIn width p.o p.l
     pub fit : Fits decls opens p.l p.content
 
   -- a part of item i, a word of `width` bits, fails by itself as `why` says: it does not lie in the word, or does not
@@ -41,7 +41,7 @@ module _ (decls : List LayoutDecl) (opens : List Open) where
 
   -- a part of item i, a word of `width` bits, has no path or an open one, and fails by itself as `why` says
   abbrev pub FailsPart : ℕ → ℕ → WrittenPart → Why → Type 0
-  FailsPart i width p why = IsPlaced opens p.content × FailsPlaced i width p why
+  FailsPart i width p why = IsContentPlaced opens p.content × FailsPlaced i width p why
 
   -- each of these parts of a word of `width` bits is fine by itself
   abbrev pub AreFine : ℕ → List Written → Type 0
@@ -73,7 +73,7 @@ FailsPair i p q why = ⊥
 module _ (opens : List Open) where
   -- the path of a part, if it has one, is that of an open position
   abbrev pub IsSet : Written → Type 0
-  IsSet w = IsPlaced opens (shown_part w).content
+  IsSet w = IsContentPlaced opens (shown_part w).content
 
   -- each of these parts has a bit, where its path, if it has one, is open
   abbrev pub HaveBits : List Written → Type 0

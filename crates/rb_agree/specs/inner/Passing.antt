@@ -39,8 +39,8 @@ abbrev pub KeepsMarks : List Bool → List Bool → Type 0
 KeepsMarks old new = (n : ℕ) → IsOff new n → IsOff old n
 
 -- leaf n is one of a span
-abbrev pub IsAmong : Span → ℕ → Type 0
-IsAmong span n = (span.first ≤ n) × (n < span.end)
+abbrev pub IsInSpan : Span → ℕ → Type 0
+IsInSpan span n = (span.first ≤ n) × (n < span.end)
 
 -- the span `whole` has all leaves of the other span
 abbrev pub CoversSpan : Span → Span → Type 0
@@ -65,12 +65,12 @@ module _ (types : List DataDecl) (layouts : List Layout) (leaves : List Leaf) wh
   -- the leaves of a span were asked a test: marks were only put on, and those whose mark is off still meet the test
   pub record AreAsked (test : Test) (span : Span) (old new : List Bool) : Type 0 where
     pub keeps : KeepsMarks old new
-    pub meet : (n : ℕ) → IsAmong span n → MeetsWhereOff new n test
+    pub meet : (n : ℕ) → IsInSpan span n → MeetsWhereOff new n test
 
   -- these ways were walked: they lead to leaves of the span; marks were only put on, and a leaf whose mark is off
   -- still meets each test on a way to it
   pub record AreWalked (routes : List Route) (span : Span) (old new : List Bool) : Type 0 where
-    pub among : EachOf (λ (r : Route). IsAmong span r.leaf) routes
+    pub among : EachOf (λ (r : Route). IsInSpan span r.leaf) routes
     pub keeps : KeepsMarks old new
     pub meet : EachOf (λ (r : Route). EachOf (MeetsWhereOff new r.leaf) r.tests) routes
 

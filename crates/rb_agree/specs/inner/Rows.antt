@@ -17,7 +17,7 @@ use Rattle.rb_layout.specs.declared.layout.Kind.{Kind}
 use Rattle.rb_layout.specs.declared.layout.Kind.TheVariants.{Const, Bits, Word, Pointer}
 use Rattle.rb_layout.specs.Positions.{open_positions}
 use Rattle.rb_layout.specs.Flattening.{type_at}
-use Rattle.rb_layout.specs.A9.{cons_below, cons_of}
+use Rattle.rb_layout.specs.A9.{cons_below, pattern_cons}
 
 -- the types of constructors, in order
 abbrev pub types_of_cons : List ConRef → List ℕ
@@ -25,7 +25,7 @@ types_of_cons cs = map (λ (c : ConRef). c.ty) cs
 
 -- the types of all constructors in a pattern, its root's and those below it
 abbrev pub pattern_types : Pat → List ℕ
-pattern_types p = types_of_cons (cons_of p)
+pattern_types p = types_of_cons (pattern_cons p)
 
 -- the types of the constructors below a provenance's root
 abbrev pub below_types : Pat → List ℕ

@@ -144,8 +144,8 @@ abbrev pub FindsAtLeaves : Ruled → Option Refused → Type 0
 FindsAtLeaves r = FindsOf r (leaves_spots r.program.now.layouts r.rule r.ty r.layout.now)
 
 -- what is found where the rule of r is checked at its type, and then at the leaves of its layout
-abbrev pub FindsIn : Ruled → Option Refused → Type 0
-FindsIn r = FindsOf r (spots_of r.program.now.layouts r.rule r.ty r.layout.now)
+abbrev pub RuleFinds : Ruled → Option Refused → Type 0
+RuleFinds r = FindsOf r (spots_of r.program.now.layouts r.rule r.ty r.layout.now)
 
 -- the rule of r holds at each leaf of its layout whose mark is off
 abbrev pub RuleHoldsWhereOff : Ruled → List Bool → Type 0

@@ -31,17 +31,18 @@ MayBe None con = Unit {0}
 MayBe (Some d) con = d ≡ con
 
 -- leaf m is one of these members of a group
-abbrev pub IsIn : List ℕ → ℕ → Type 0
-IsIn members m = (k : ℕ) × (slice_get members k ≡ Some m)
+abbrev pub IsMember : List ℕ → ℕ → Type 0
+IsMember members m = (k : ℕ) × (slice_get members k ≡ Some m)
 
 -- all leaves before number i that may have constructor `con` are among the members
 abbrev pub HaveBefore : List (Option ℕ) → ℕ → ℕ → List ℕ → Type 0
 HaveBefore heads con i members =
-    (m : ℕ) (head : Option ℕ) → m < i → slice_get heads m ≡ Some head → MayBe head con → IsIn members m
+    (m : ℕ) (head : Option ℕ) → m < i → slice_get heads m ≡ Some head → MayBe head con → IsMember members m
 
 -- all leaves that may have constructor `con` are among the members
 abbrev pub HaveAll : List (Option ℕ) → ℕ → List ℕ → Type 0
-HaveAll heads con members = (m : ℕ) (head : Option ℕ) → slice_get heads m ≡ Some head → MayBe head con → IsIn members m
+HaveAll heads con members = (m : ℕ) (head : Option ℕ) → slice_get heads m ≡ Some head → MayBe head con
+    → IsMember members m
 
 -- for each constructor c that has a group, all leaves that may have it are among its members
 abbrev pub AreGroups : List (Option ℕ) → List (List ℕ) → Type 0

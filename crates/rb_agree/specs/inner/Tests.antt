@@ -10,7 +10,7 @@ use Rattle.rb_layout.specs.declared.layout.Leaf.{Leaf}
 use Rattle.rb_layout.specs.declared.layout.FlatTree.{FlatTree}
 use Rattle.rb_layout.specs.declared.layout.FlatArm.{FlatArm}
 use Rattle.rb_layout.specs.declared.evidence.Why.{Why}
-use Rattle.rb_layout.specs.Splits.{Test, IsNone, Route, behind, arm_routes, routes_of, routes_under}
+use Rattle.rb_layout.specs.Splits.{Test, IsNone, Route, under_test, arm_routes, routes_of, routes_under}
 use Rattle.rb_layout.specs.A7.{FailsTest, MeetsTest}
 use Rattle.rb_agree.specs.declared.tests.Below.{Below}
 use Rattle.rb_agree.specs.declared.tests.Below.TheVariants.{Absent, Passes, Fails}
@@ -24,7 +24,7 @@ arms_routes loc arms = flat_map (λ (a : FlatArm). arm_routes loc (routes_under 
 -- is there
 abbrev pub other_routes : Loc → List ℕ → Option FlatTree → List Route
 other_routes loc literals None = []
-other_routes loc literals (Some tree) = map (behind (IsNone loc literals)) (routes_of tree)
+other_routes loc literals (Some tree) = map (under_test (IsNone loc literals)) (routes_of tree)
 
 -- what is known of a leaf where no test fails: that it passes, if it stands there, or else that it is absent
 abbrev pub status_of : Bool → Below

@@ -23,11 +23,11 @@ AnswersTyping (Err fault) gives = gives ≡ Err fault
 
 -- what a call that is done left behind is what typing gives, and its fault is the fault there, which is none for an
 -- empty type; want of memory says nothing
-abbrev pub Leaves : {A : Type 0} → Typing (Unit {0}) → A → Typing A → Type 0
-Leaves (Ok done) left gives = gives ≡ Ok left
-Leaves (Err Memory) left gives = Unit {0}
-Leaves (Err (Empty t)) left gives = ⊥
-Leaves (Err fault) left gives = gives ≡ Err fault
+abbrev pub LeavesTyping : {A : Type 0} → Typing (Unit {0}) → A → Typing A → Type 0
+LeavesTyping (Ok done) left gives = gives ≡ Ok left
+LeavesTyping (Err Memory) left gives = Unit {0}
+LeavesTyping (Err (Empty t)) left gives = ⊥
+LeavesTyping (Err fault) left gives = gives ≡ Err fault
 
 -- the answer is this fault, which is none for an empty type, or done where there is none; want of memory says
 -- nothing of it
@@ -42,8 +42,8 @@ abbrev pub arm_fault : List DataDecl → ℕ → Arm → Option TypeFault
 arm_fault types ty arm = first_fault (map (provenance_fault types ty) (arm_provenances arm))
 
 -- the binders of a list of parameters and variables, in order
-abbrev pub binders : List Param → List Binder
-binders = map binder_of
+abbrev pub binders_of_params : List Param → List Binder
+binders_of_params = map binder_of
 
 -- the scope of a clause's body: the binders of the match's scope and behind them those that typing gives of the
 -- clause's pattern, or the fault that it gives instead

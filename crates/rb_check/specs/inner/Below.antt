@@ -4,5 +4,5 @@ use Rattle.std.specs.List.{AllByRecursion}
 use Rattle.rb_core.specs.declared.program.Param.{Param}
 
 -- the variable of each parameter is below a bound
-abbrev pub AreBelow : ℕ → List Param → Type 0
-AreBelow above = AllByRecursion (λ p. p.var < above)
+abbrev pub ParamsBelow : ℕ → List Param → Type 0
+ParamsBelow above = AllByRecursion (λ p. p.var < above)

@@ -15,7 +15,7 @@ use Rattle.rb_layout.specs.declared.layout.Kind.TheVariants.{Pointer}
 use Rattle.rb_layout.specs.A4.{IsBlockWidth}
 use Rattle.rb_layout.specs.Readable.{AreShort}
 use Rattle.rb_layout.specs.Words.{size_of}
-use Rattle.rb_rel.specs.Placing.{Laid, Over, Request, request_of, behind, lay}
+use Rattle.rb_rel.specs.Placing.{Laid, Over, Request, request_of, block_before, lay}
 use Rattle.rb_rel.proofs.Storing.{with_blocks}
 use Rattle.rb_rel.proofs.Layers.{address_at}
 use Rattle.rb_coding.specs.declared.fault.EncodeFault.{EncodeFault}
@@ -26,7 +26,7 @@ use Rattle.rb_coding.specs.Packing.{word_made}
 -- what is laid, with these blocks in front of it
 abbrev pub behind_all : List (ℕ × ℕ) → Laid → Laid
 behind_all [] laid = laid
-behind_all (b ∷ bs) laid = behind b (behind_all bs laid)
+behind_all (b ∷ bs) laid = block_before b (behind_all bs laid)
 
 -- the requests rs were laid as the blocks bs, and the memory has grown by them: whatever requests qs follow are laid
 -- in the new memory as they would be behind rs in the old one

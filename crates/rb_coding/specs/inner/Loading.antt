@@ -9,7 +9,7 @@ use Rattle.rb_layout.specs.declared.layout.Leaf.{Leaf}
 use Rattle.rb_layout.specs.A4.{IsBlockWidth}
 use Rattle.rb_layout.specs.Flat.{IsFlat}
 use Rattle.rb_layout.specs.Words.{begins_at}
-use Rattle.rb_rel.specs.Relation.{Placed}
+use Rattle.rb_rel.specs.Relation.{LeafStands}
 
 -- each word of a block that begins at `base` can be loaded
 abbrev pub CanLoad : Memory → ℕ → List FlatWord → Type 0
@@ -28,11 +28,11 @@ pub record IsLoadable (leaf : Leaf) (ws : List ℕ) (m : Memory) : Type 0 where
       → slice_get block.words j ≡ Some f → IsBlockWidth f.width
   pub subs : List ℕ → List ℕ
   pub ats : ℕ → ℕ
-  pub placed : Placed leaf ws m false subs ats
+  pub placed : LeafStands leaf ws m false subs ats
 
 -- these are the words of the blocks of a leaf that is placed over root words `ws`, those of the last block first
 pub record AreWordsOf (leaf : Leaf) (ws : List ℕ) (m : Memory) (loaded : List (List ℕ)) : Type 0 where
   pub count : length loaded ≡ length leaf.blocks
-  pub words : (subs : List ℕ → List ℕ) (ats : ℕ → ℕ) → Placed leaf ws m false subs ats
+  pub words : (subs : List ℕ → List ℕ) (ats : ℕ → ℕ) → LeafStands leaf ws m false subs ats
       → (b c : ℕ) (block : Block) → b + 1 + c ≡ length leaf.blocks → slice_get leaf.blocks b ≡ Some block
       → AreLoaded m (ats b) block.words (slice_index_or loaded c [])

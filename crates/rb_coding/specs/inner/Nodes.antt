@@ -28,25 +28,25 @@ layer_fields types ty (L.Num n) = []
 layer_fields types ty (L.Con k count) = field_list types ty k
 
 -- the nodes of a value, each with its type, once the value's own type is given
-abbrev pub Typing : Type 0
-Typing = Ty → List (Value × Ty)
+abbrev pub NodeTyping : Type 0
+NodeTyping = Ty → List (Value × Ty)
 
 -- the nodes of fields, each field at its own type, from left to right, as far as both lists reach
-abbrev pub typed_in_turn : List Typing → List Ty → List (Value × Ty)
+abbrev pub typed_in_turn : List NodeTyping → List Ty → List (Value × Ty)
 typed_in_turn [] ts = []
 typed_in_turn (f ∷ fs) [] = []
 typed_in_turn (f ∷ fs) (t ∷ ts) = f t ++ typed_in_turn fs ts
 
 -- one level of `typed_posts`: the nodes of the fields, and behind them the value itself, each with its type
-abbrev pub typed_step : List DataDecl → Value-F (Value × Typing) → Typing
+abbrev pub typed_step : List DataDecl → Value-F (Value × NodeTyping) → NodeTyping
 typed_step types (V.Num n) ty = (Num n, ty) ∷ []
 typed_step types (V.Con k ps) ty =
-    typed_in_turn (map (λ (p : Value × Typing). p.1) ps) (field_list types ty k)
-    ++ (Con k (map (λ (p : Value × Typing). p.0) ps), ty) ∷ []
+    typed_in_turn (map (λ (p : Value × NodeTyping). p.1) ps) (field_list types ty k)
+    ++ (Con k (map (λ (p : Value × NodeTyping). p.0) ps), ty) ∷ []
 
 -- the nodes of a value at a type, in post-order and each with its type
-abbrev pub typed_posts : List DataDecl → Value → Typing
-typed_posts types = para-Value Typing (typed_step types)
+abbrev pub typed_posts : List DataDecl → Value → NodeTyping
+typed_posts types = para-Value NodeTyping (typed_step types)
 
 -- Where nodes stand: the nodes of a subvalue end with its own, behind those of the fields before it, and
 -- `sizes` has the number of nodes of each ----------------------------------------------------------

@@ -25,9 +25,9 @@ use Rattle.rb_fragment.specs.declared.held.Held.{Held}
 use Rattle.rb_fragment.specs.declared.held.Joined.{Joined}
 use Rattle.rb_fragment.specs.declared.held.Local.{Local}
 use Rattle.rb_fragment.specs.Adding.{Adds}
-use Rattle.rb_fragment.specs.Arms.{AreShared, Arm, ArmsIn}
+use Rattle.rb_fragment.specs.Arms.{AreShared, CodeArm, ArmsIn}
 use Rattle.rb_fragment.specs.Holding.{AreGiven, Holds, scope_of}
-use Rattle.rb_fragment.specs.Plan.{Plan, Rep, words_of}
+use Rattle.rb_fragment.specs.Plan.{Plan, Rep, words_needed}
 use Rattle.rb_fragment.specs.Slots.{AllBelow}
 use Rattle.rb_fetch.specs.Fetching.{PlanIsSound}
 use Rattle.rb_match.specs.Bounding.{binding_bound}
@@ -35,7 +35,7 @@ use Rattle.rb_compile.specs.inner.Ready.{SitesAreReady}
 
 -- slots below n that hold a value of type s
 abbrev pub IsSubject : Plan → ℕ → Held → Ty → Type 0
-IsSubject plan n held s = (held.ty ≡ s) × AllBelow n held.slots × (length held.slots ≡ words_of plan s)
+IsSubject plan n held s = (held.ty ≡ s) × AllBelow n held.slots × (length held.slots ≡ words_needed plan s)
 
 -- what is wanted of the next arm: of the first what is wanted of the match, of a later one the type of what the arms
 -- before it gave
@@ -47,7 +47,7 @@ wanted_in wanted (Some h) = Some h.ty
 -- nothing is said
 abbrev pub IsShared : Plan → ℕ → ℕ → Ty → Option Held → Type 0
 IsShared plan n m t None = Unit {0}
-IsShared plan n m t (Some h) = (h.ty ≡ t) × AreShared n m (words_of plan t) h.slots
+IsShared plan n m t (Some h) = (h.ty ≡ t) × AreShared n m (words_needed plan t) h.slots
 
 -- the slots in which arms leave their values; none before the first arm stands
 abbrev pub shared_slots : Option Held → List ℕ
@@ -97,7 +97,7 @@ pub record DoesClause (plan : Plan) (f : ℕ) (c : Clause) (wanted : Option Ty) 
     (xs : List ℕ) (n : ℕ) (into : List ℕ) (a d : Sheet) (join : ℕ) : Type 0 where
   pub adds : Adds plan a d
   pub does : (calls : Calls) (clean : Bool) (env : List Binding) (v : Value) → matches_of c.pat v ≡ true
-      → Arm plan clean calls n a d join (binding_bound plan.program.types plan.layouts s c.pat)
+      → CodeArm plan clean calls n a d join (binding_bound plan.program.types plan.layouts s c.pat)
       (λ sl m. Rep plan m clean s v (slots_at sl xs) × Holds plan clean sl m ls env)
       (λ left. meaning_of plan.program calls f c.body wanted (clause_scope plan c ls s) left (env ++ bindings c.pat v))
       t into

@@ -19,7 +19,7 @@ use Rattle.rb_target.specs.Operators.{alu_op_of}
 use Rattle.rb_target.specs.Sheet.{Sheet, pushed, with_slot}
 use Rattle.rb_fragment.specs.declared.held.Held.{Held}
 use Rattle.rb_fragment.specs.declared.held.Local.{Local}
-use Rattle.rb_fragment.specs.Plan.{Plan, words_of}
+use Rattle.rb_fragment.specs.Plan.{Plan, words_needed}
 use Rattle.rb_fragment.specs.Slots.{slots_from}
 use Rattle.rb_fragment.specs.Fragments.{Emits, EmitsAll}
 use Rattle.rb_fragment.specs.Holding.{AreGiven, scope_of}
@@ -65,7 +65,7 @@ low_bits_of b x bits = Take b.slots (slice_index x.slots 0) 0 bits
 
 -- a value of type t in new slots, which are those behind the slots of the sheet b
 abbrev pub new_held : Plan → Sheet → Ty → Held
-new_held plan b t = record { ty = t; slots = slots_from b.slots (words_of plan t) }
+new_held plan b t = record { ty = t; slots = slots_from b.slots (words_needed plan t) }
 
 -- the slots and the type of the last of the variables that has number x, or d where none has
 abbrev pub held_or : Option Held → ℕ → List Local → Option Held

@@ -26,8 +26,8 @@ use Rattle.rb_fragment.specs.declared.held.Held.{Held}
 use Rattle.rb_fragment.specs.declared.held.Local.{Local}
 use Rattle.rb_fragment.specs.Adding.{CallsWell, IsWrittenFrom}
 use Rattle.rb_fragment.specs.Holding.{Holds}
-use Rattle.rb_fragment.specs.Owing.{Does, GivesValue, Related}
-use Rattle.rb_fragment.specs.Plan.{Plan, Rep, words_of}
+use Rattle.rb_fragment.specs.Owing.{Does, GivesValue, CallsAgree}
+use Rattle.rb_fragment.specs.Plan.{Plan, Rep, words_needed}
 use Rattle.rb_fragment.specs.Slots.{AllFrom}
 use Rattle.rb_match.specs.Bounding.{binding_bound}
 use Rattle.rb_compile.specs.inner.Ready.{ExprIsReady}
@@ -38,7 +38,7 @@ use Rattle.rb_compile.specs.inner.Arms.{ClauseIsReady, GroundIsReady, clause_sco
 
 -- a return of as many words as a value of type t has
 abbrev pub IsReturn : Plan → Ty → Instr → Type 0
-IsReturn plan t i = (froms : List ℕ) × (i ≡ Return froms) × (length froms ≡ words_of plan t)
+IsReturn plan t i = (froms : List ℕ) × (i ≡ Return froms) × (length froms ≡ words_needed plan t)
 
 -- instruction i with number pc fits code of so many slots and `long` instructions: nothing stands behind the last, so
 -- no target does; what calls or returns does so with as many words as the program's types have
@@ -71,7 +71,7 @@ pub record IsTail (plan : Plan) (t : Ty) (old new : Sheet) : Type 0 where
 pub record Tail (plan : Plan) (clean : Bool) (calls : Calls) (extra : ℕ) (old new : Sheet)
     (Pre : List ℕ → Memory → Type 0) (o : ℕ → Outcome) (t : Ty) : Type 0 where
   pub runs : (final : List Instr) (callee : Callee) (next : Next)
-      → Law final callee next → Related plan calls callee
+      → Law final callee next → CallsAgree plan calls callee
       → AgreesBut final new.code (length old.code) (length new.code) Nowhere
       → (s : List ℕ) (w : World) → new.slots ≤ length s → IsGood w.memory → Pre s w.memory
       → Does plan (w.switches + extra) (next (length old.code) s w) w.memory (o w.left)

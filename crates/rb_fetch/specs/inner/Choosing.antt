@@ -26,11 +26,11 @@ use Rattle.rb_layout.specs.declared.agreed.LaidOut.{LaidOut}
 use Rattle.rb_layout.specs.declared.layout.Layout.{Layout}
 use Rattle.rb_layout.specs.declared.layout.Leaf.{Leaf}
 use Rattle.rb_layout.specs.Positions.{Open, leaf_of, layout_of, open_positions, opens_of}
-use Rattle.rb_rel.specs.Switches.{Head, choose_of, depth_of, inner_heads, is_leaf_for, mend_leaf, mend_of, places_of}
+use Rattle.rb_rel.specs.Switches.{HeadAt, choose_of, depth_of, inner_heads, is_leaf_for, mend_leaf, mend_of, places_of}
 use Rattle.rb_fragment.specs.declared.held.Held.{Held}
 use Rattle.rb_fragment.specs.Adding.{Adds}
-use Rattle.rb_fragment.specs.Pieces.{AtEnd, Piece}
-use Rattle.rb_fragment.specs.Plan.{Plan, Rep, words_of}
+use Rattle.rb_fragment.specs.Pieces.{AtEnd, CodePiece}
+use Rattle.rb_fragment.specs.Plan.{Plan, Rep, words_needed}
 use Rattle.rb_fragment.specs.Slots.{AllBelow, AllFrom}
 use Rattle.rb_compose.specs.declared.subvalue.Subvalue.{Subvalue}
 use Rattle.rb_compose.specs.Subvalues.{AreGivenAt, subvalue_at}
@@ -52,8 +52,8 @@ abbrev pub HasCon : Value → List ℕ → ℕ → Type 0
 HasCon v path con = (u : Value) × (part_at v path ≡ Some u) × (root_con (out-Value u) ≡ Some con)
 
 -- the value has each of these constructors at its position
-abbrev pub HasAll : List Head → Value → Type 0
-HasAll hs v = (k : ℕ) (h : Head) → slice_get hs k ≡ Some h → HasCon v h.path h.con.con
+abbrev pub HasAll : List HeadAt → Value → Type 0
+HasAll hs v = (k : ℕ) (h : HeadAt) → slice_get hs k ≡ Some h → HasCon v h.path h.con.con
 
 -- Parts in slots -----------------------------------------------------------------------------
 
@@ -77,7 +77,7 @@ HasParts types v xs =
 abbrev pub PartsGiven : Plan → ℕ → List Subvalue → Type 0
 PartsGiven plan n xs =
     (k : ℕ) (x : Subvalue) → slice_get xs k ≡ Some x → AllBelow n x.held.slots
-    × (length x.held.slots ≡ words_of plan x.held.ty)
+    × (length x.held.slots ≡ words_needed plan x.held.ty)
 
 -- the slots of each of xs represent the value's part at its position, where the value has one there
 abbrev pub PartsHold : Plan → Bool → Value → List ℕ → Memory → List Subvalue → Type 0
@@ -91,12 +91,12 @@ IsPartIn xs path t words = (k : ℕ) × (x : Subvalue) × (slice_get xs k ≡ So
     × (x.held.ty ≡ Named t) × (x.held.slots ≡ words)
 
 -- one of the parts xs is at the position, and the first that is there is of type ty
-abbrev pub HasType : List Subvalue → List ℕ → Ty → Type 0
-HasType xs path ty = (h : Held) × (subvalue_at xs path ≡ Some h) × (h.ty ≡ ty)
+abbrev pub PartHasType : List Subvalue → List ℕ → Ty → Type 0
+PartHasType xs path ty = (h : Held) × (subvalue_at xs path ≡ Some h) × (h.ty ≡ ty)
 
 -- the parts xs have one at each of these open positions below `path`, of its type
 abbrev pub HasOpens : List Open → List ℕ → List Subvalue → Type 0
-HasOpens opens path xs = (k : ℕ) (o : Open) → slice_get opens k ≡ Some o → HasType xs (path ++ o.path) o.ty
+HasOpens opens path xs = (k : ℕ) (o : Open) → slice_get opens k ≡ Some o → PartHasType xs (path ++ o.path) o.ty
 
 -- Leaves -------------------------------------------------------------------------------------
 
@@ -117,7 +117,7 @@ AreLeavesOf layout k leaves =
 -- at positions that need no look any more, the value has the constructor that each of these leaves has there, if any
 abbrev pub HasLooked : Layout → Value → List ℕ → List (List ℕ) → Type 0
 HasLooked layout v leaves looked =
-    (i n : ℕ) (leaf : Leaf) (j : ℕ) (h : Head) → slice_get leaves i ≡ Some n → slice_get layout.leaves n ≡ Some leaf
+    (i n : ℕ) (leaf : Leaf) (j : ℕ) (h : HeadAt) → slice_get leaves i ≡ Some n → slice_get layout.leaves n ≡ Some leaf
     → slice_get (inner_heads leaf) j ≡ Some h → is_among looked h.path ≡ true → HasCon v h.path h.con.con
 
 -- what is known is so of the value: it has these constructors, and at positions that need no look those of the leaves
@@ -131,7 +131,7 @@ pub record IsPlaceOf (layout : Layout) (leaves : List ℕ) (looked : List (List 
   pub number : ℕ
   pub leaf : Leaf
   pub place : ℕ
-  pub head : Head
+  pub head : HeadAt
   pub is_number : slice_get leaves index ≡ Some number
   pub is_leaf : slice_get layout.leaves number ≡ Some leaf
   pub is_head : slice_get (inner_heads leaf) place ≡ Some head
@@ -142,11 +142,11 @@ pub record IsPlaceOf (layout : Layout) (leaves : List ℕ) (looked : List (List 
 -- Switches -----------------------------------------------------------------------------------
 
 -- the most switches of a look at a place, and of rebuilding what the leaf there has taken apart
-abbrev pub look_cost : List Layout → Head → ℕ
+abbrev pub look_cost : List Layout → HeadAt → ℕ
 look_cost layouts h = depth_of layouts (Named h.con.ty) + mend_of layouts h.con.ty
 
 -- whether the position of h needs a look still: it is not among `looked`
-abbrev pub is_left : List (List ℕ) → Head → Bool
+abbrev pub is_left : List (List ℕ) → HeadAt → Bool
 is_left looked h = not (is_among looked h.path)
 
 -- the most switches by which a leaf for values of constructor k of type t is chosen, of looks and of the rebuilding
@@ -199,7 +199,7 @@ pub record TakesOneWay (plan : Plan) (old new : Sheet) (ways : List Way) (v : Va
   pub is_way : slice_get ways number ≡ Some way
   pub is_leaf : way.leaf ≡ n
   pub parts : HasParts plan.program.types v way.fields
-  pub does : (clean : Bool) → Piece plan old.slots old new (IsWayAt ways) most (Pre clean)
+  pub does : (clean : Bool) → CodePiece plan old.slots old new (IsWayAt ways) most (Pre clean)
       (λ pc s m. (pc ≡ way.pc) × PartsHold plan clean v s m way.fields)
 
 -- Choosing -----------------------------------------------------------------------------------
@@ -245,7 +245,7 @@ ChoosesBy agreed t leaves seen xs path s old new ways =
 pub record AreInnerWords (plan : Plan) (s : ℕ) (inner : Layout) (words : List ℕ) (n : ℕ) : Type 0 where
   pub is_inner : layout_of plan.layouts s ≡ Some inner
   pub below : AllBelow n words
-  pub count : length words ≡ words_of plan (Named s)
+  pub count : length words ≡ words_needed plan (Named s)
 
 -- the code from old to new fetches fields of the part at `path`, of type s and leaf l, whose words are in the slots
 -- `words`, perhaps none of them: the parts of the whole value that are in slots are xs before, and ys with them
@@ -259,7 +259,7 @@ pub record GivesFields (plan : Plan) (path : List ℕ) (s l : ℕ) (inner : Layo
       → leaf_of inner u ≡ Some l → HasParts plan.program.types v fresh
   pub does : (v u : Value) → part_at v path ≡ Some u → is_of_type plan.program.types u (Named s) ≡ true
       → leaf_of inner u ≡ Some l → (clean : Bool)
-      → Piece plan old.slots old new Nowhere (mend_leaf (choose_of plan.layouts) leaf)
+      → CodePiece plan old.slots old new Nowhere (mend_leaf (choose_of plan.layouts) leaf)
       (λ s1 m. IsGood m × Rep plan m clean (Named s) u (slots_at s1 words))
       (AtEnd new (λ s1 m. PartsHold plan clean v s1 m fresh))
 

@@ -23,7 +23,7 @@ use Rattle.rb_rel.specs.Switches.{inner_heads, is_leaf_for}
 use Rattle.rb_fragment.specs.declared.held.Held.{Held}
 use Rattle.rb_fragment.specs.Adding.{Adds}
 use Rattle.rb_fragment.specs.Arms.{ArmsAre, ArmsIn, AreShared, whole_match}
-use Rattle.rb_fragment.specs.Plan.{Plan, words_of}
+use Rattle.rb_fragment.specs.Plan.{Plan, words_needed}
 use Rattle.rb_fragment.specs.Slots.{copies, joining}
 use Rattle.rb_compose.specs.Making.{MakesValue}
 use Rattle.rb_compose.specs.Subvalues.{ArePartsHeld}
@@ -82,7 +82,7 @@ pub record IsMet (into : Option (List ℕ)) (slots : List ℕ) (c d : Sheet) (r 
 -- the slots that arms share, once there are some: as many as a value of type t has words, from n on and below m
 abbrev pub IsShared : Plan → ℕ → ℕ → ℕ → Option (List ℕ) → Type 0
 IsShared plan n m t None = Unit {0}
-IsShared plan n m t (Some xs) = AreShared n m (words_of plan (Named t)) xs
+IsShared plan n m t (Some xs) = AreShared n m (words_needed plan (Named t)) xs
 
 -- slots are shared where the number of arms is not 0, and none are where it is 0
 abbrev pub Reaches : ℕ → Option (List ℕ) → Type 0

@@ -14,7 +14,7 @@ use Rattle.rb_layout.specs.declared.layout.Part.{Part}
 use Rattle.rb_layout.specs.declared.layout.Kind.{Kind}
 use Rattle.rb_layout.specs.declared.layout.Kind.TheVariants.{Const, Bits, Word, Pointer}
 use Rattle.rb_layout.specs.Positions.{layout_of}
-use Rattle.rb_rel.specs.Relation.{HoldsKind, Placed}
+use Rattle.rb_rel.specs.Relation.{HoldsKind, LeafStands}
 use Rattle.rb_fragment.specs.declared.reads.Read.{Read, Slot}
 use Rattle.rb_fragment.specs.declared.reads.Share.{Share}
 use Rattle.rb_fragment.specs.Reads.{mean, meant_of, joined_over, fits, fits_share}
@@ -34,7 +34,7 @@ pub record SpansPart (leaf : Leaf) (words : List Read) (span : Span) (l : ℕ) (
   pub range : IsRange span.o span.l
   pub fit : (k : ℕ) → AllFit k words → length words ≡ length leaf.root → fits k span.read ≡ true
   pub means : (ws s : List ℕ) (m : Memory) (clean : Bool) (subs : List ℕ → List ℕ) (ats : ℕ → ℕ) → IsGood m
-      → AreMeant words s m ws → Placed leaf ws m clean subs ats
+      → AreMeant words s m ws → LeafStands leaf ws m clean subs ats
       → (n : ℕ) × Spans span s m n × HoldsKind subs ats n l kind
   pub origin : (width x : ℕ) → span.width ≡ Some width → span.read ≡ Slot x → IsSlotOf x words
 
@@ -44,7 +44,7 @@ pub record ReadsPart (leaf : Leaf) (words : List Read) (read : Read) (l : ℕ) (
   pub fit : (k : ℕ) → AllFit k words → length words ≡ length leaf.root → fits k read ≡ true
   pub origin : (x : ℕ) → read ≡ Slot x → IsSlotOf x words
   pub means : (ws s : List ℕ) (m : Memory) (clean : Bool) (subs : List ℕ → List ℕ) (ats : ℕ → ℕ) → IsGood m
-      → AreMeant words s m ws → Placed leaf ws m clean subs ats
+      → AreMeant words s m ws → LeafStands leaf ws m clean subs ats
       → (n : ℕ) × (mean read s m ≡ Some n) × HoldsKind subs ats n l kind
 
 -- the read means a number that the words at the leaf's open positions tell, wherever `words` mean the words of a
@@ -53,7 +53,7 @@ pub record ReadsAs (leaf : Leaf) (words : List Read) (read : Read) (number : (Li
   pub fit : (k : ℕ) → AllFit k words → length words ≡ length leaf.root → fits k read ≡ true
   pub origin : (x : ℕ) → read ≡ Slot x → IsSlotOf x words
   pub means : (ws s : List ℕ) (m : Memory) (clean : Bool) (subs : List ℕ → List ℕ) (ats : ℕ → ℕ) → IsGood m
-      → AreMeant words s m ws → Placed leaf ws m clean subs ats
+      → AreMeant words s m ws → LeafStands leaf ws m clean subs ats
       → mean read s m ≡ Some (number subs)
 
 -- Integers
@@ -83,7 +83,7 @@ pub record Slices (leaf : Leaf) (words : List Read) (path : List ℕ) (i : ℕ) 
   pub fit : (k : ℕ) → AllFit k words → length words ≡ length leaf.root
       → list_all (λ b. b) (map (fits_share k) shares) ≡ true
   pub means : (ws s : List ℕ) (m : Memory) (clean : Bool) (subs : List ℕ → List ℕ) (ats : ℕ → ℕ) → IsGood m
-      → AreMeant words s m ws → Placed leaf ws m clean subs ats
+      → AreMeant words s m ws → LeafStands leaf ws m clean subs ats
       → joined_over 0 (map meant_of shares) s m ≡ Some (take_of (slice_index (subs path) 0) 0 i)
 
 -- the shares side by side mean the integer of this width at a path, where the leaf holds all its bits

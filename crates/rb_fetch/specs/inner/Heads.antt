@@ -11,20 +11,20 @@ use Rattle.rb_layout.specs.declared.layout.Layout.{Layout}
 use Rattle.rb_layout.specs.declared.layout.Leaf.{Leaf}
 use Rattle.rb_layout.specs.Flattening.{same_path}
 use Rattle.rb_layout.specs.Positions.{layout_of, leaves_of_layout}
-use Rattle.rb_rel.specs.Switches.{Head, inner_heads, is_leaf_for}
+use Rattle.rb_rel.specs.Switches.{HeadAt, inner_heads, is_leaf_for}
 use Rattle.rb_fetch.specs.declared.heads.Place.{Place}
 use Rattle.rb_fetch.specs.inner.Fields.{leaf_at}
 
 -- the constructor and its position for which a place of the code stands
-abbrev pub shown_head : Place → Head
+abbrev pub shown_head : Place → HeadAt
 shown_head p = record { path = p.path; con = p.con }
 
 -- the constructors and their positions for which places of the code stand, in order
-abbrev pub shown_heads : List Place → List Head
+abbrev pub shown_heads : List Place → List HeadAt
 shown_heads ps = map shown_head ps
 
 -- a constructor of the part at `path`, given at its position in the part, at its position in the whole
-abbrev pub head_under : List ℕ → Head → Head
+abbrev pub head_under : List ℕ → HeadAt → HeadAt
 head_under path h = record { path = path ++ h.path; con = h.con }
 
 -- Positions
@@ -48,18 +48,18 @@ is_bare types con = length (field_types types con) == 0
 
 -- the positions of those constructors that have no fields, in order: where one is known to stand, a look would find
 -- nothing more, so that these positions need none
-abbrev pub bare_paths : List DataDecl → List Head → List (List ℕ)
+abbrev pub bare_paths : List DataDecl → List HeadAt → List (List ℕ)
 bare_paths types [] = []
 bare_paths types (h ∷ hs) = if is_bare types h.con then h.path ∷ bare_paths types hs else bare_paths types hs
 
 -- Leaves
 
 -- whether h, if it stands at `path`, is constructor number con of its type; true where it stands elsewhere
-abbrev pub is_at : List ℕ → ℕ → Head → Bool
+abbrev pub is_at : List ℕ → ℕ → HeadAt → Bool
 is_at path con h = if same_path h.path path then h.con.con == con else true
 
 -- whether no other constructor than con stands at `path`; true where none stands there
-abbrev pub can_be : List ℕ → ℕ → List Head → Bool
+abbrev pub can_be : List ℕ → ℕ → List HeadAt → Bool
 can_be path con [] = true
 can_be path con (h ∷ hs) = is_at path con h && can_be path con hs
 
@@ -79,7 +79,7 @@ leaves_that_can_be layouts t path con (n ∷ ns) =
 
 -- those of the leaves ns of type t, by number, whose provenances have each of these constructors at its position, or
 -- none there
-abbrev pub leaves_beside : List Layout → ℕ → List Head → List ℕ → List ℕ
+abbrev pub leaves_beside : List Layout → ℕ → List HeadAt → List ℕ → List ℕ
 leaves_beside layouts t [] ns = ns
 leaves_beside layouts t (h ∷ hs) ns = leaves_beside layouts t hs (leaves_that_can_be layouts t h.path h.con.con ns)
 
@@ -90,12 +90,12 @@ leaves_for k (leaf ∷ leaves) n =
     if is_leaf_for k leaf then n ∷ leaves_for k leaves (n + 1) else leaves_for k leaves (n + 1)
 
 -- the constructors below the root of a leaf's provenance; none without a leaf
-abbrev pub heads_in : Option Leaf → List Head
+abbrev pub heads_in : Option Leaf → List HeadAt
 heads_in None = []
 heads_in (Some leaf) = inner_heads leaf
 
 -- whether one of the constructors stands at `path`
-abbrev pub stands_at : List ℕ → List Head → Bool
+abbrev pub stands_at : List ℕ → List HeadAt → Bool
 stands_at path [] = false
 stands_at path (h ∷ hs) = if same_path h.path path then true else stands_at path hs
 
@@ -120,17 +120,17 @@ behind (i ∷ above) [] = None
 behind (i ∷ above) (j ∷ path) = if i == j then behind above path else None
 
 -- constructor con at this position, in front of hs; hs alone where no position is given
-abbrev pub head_behind : Option (List ℕ) → ConRef → List Head → List Head
+abbrev pub head_behind : Option (List ℕ) → ConRef → List HeadAt → List HeadAt
 head_behind None con hs = hs
 head_behind (Some path) con hs = record { path = path; con = con } ∷ hs
 
 -- those of the constructors that stand at `path` or below it, at their positions as seen from there
-abbrev pub heads_behind : List ℕ → List Head → List Head
+abbrev pub heads_behind : List ℕ → List HeadAt → List HeadAt
 heads_behind path [] = []
 heads_behind path (h ∷ hs) = head_behind (behind path h.path) h.con (heads_behind path hs)
 
 -- the constructor at the path, by number: the first of these that stands there, or none
-abbrev pub known_con : List ℕ → List Head → Option ℕ
+abbrev pub known_con : List ℕ → List HeadAt → Option ℕ
 known_con path [] = None
 known_con path (h ∷ hs) = if same_path h.path path then Some h.con.con else known_con path hs
 
@@ -142,11 +142,11 @@ sole (n ∷ m ∷ ns) = None
 
 -- the leaf of type t for the values of constructor k in whose parts the constructors hs stand, by number, where
 -- exactly one fits; none without k
-abbrev pub leaf_by : List Layout → ℕ → List Head → Option ℕ → Option ℕ
+abbrev pub leaf_by : List Layout → ℕ → List HeadAt → Option ℕ → Option ℕ
 leaf_by layouts t hs None = None
 leaf_by layouts t hs (Some k) =
     sole (leaves_beside layouts t hs (leaves_for k (leaves_of_layout (layout_of layouts t)) 0))
 
 -- the leaf of the part of type t at a path, where the constructors that are known there and below leave one
-abbrev pub leaf_known : List Layout → ℕ → List ℕ → List Head → Option ℕ
+abbrev pub leaf_known : List Layout → ℕ → List ℕ → List HeadAt → Option ℕ
 leaf_known layouts t path known = leaf_by layouts t (heads_behind path known) (known_con path known)

@@ -17,7 +17,7 @@ use Rattle.rb_target.specs.Growth.{Grows}
 use Rattle.rb_target.specs.Laws.{Law}
 use Rattle.rb_target.specs.Meaning.{World, Next, Callee}
 use Rattle.rb_target.specs.Sheet.{Sheet, IsHole}
-use Rattle.rb_target.specs.Targets.{shape, shape_in, target_in, IsIn, IsOpen, Finishes}
+use Rattle.rb_target.specs.Targets.{without_targets, without_targets_in, target_in, IsHoleAmong, IsOpenTarget, Finishes}
 use Rattle.rb_layout.specs.declared.layout.FlatTree.{FlatTree, Split}
 use Rattle.rb_layout.specs.declared.layout.FlatArm.{FlatArm}
 use Rattle.rb_layout.specs.Splits.{Route, routes_of, SplitAt, splits_of}
@@ -27,7 +27,7 @@ use Rattle.rb_fragment.specs.declared.reads.Read.{Read}
 use Rattle.rb_fragment.specs.Plan.{Plan}
 use Rattle.rb_fragment.specs.Adding.{Adds}
 use Rattle.rb_fragment.specs.Arms.{AreOfOneWay}
-use Rattle.rb_fragment.specs.Pieces.{Leaves}
+use Rattle.rb_fragment.specs.Pieces.{GoesOutBy}
 use Rattle.rb_fragment.specs.WordReads.{AreMeant, AllFit}
 use Rattle.rb_fetch.specs.Fetching.{LocFits}
 use Rattle.rb_fetch.specs.inner.Fetching.{AreSmall, FetchesAt}
@@ -53,7 +53,7 @@ abbrev pub Does : List Instr → Next → List Read → List ℕ → FlatTree �
 Does final next words widths tree hs n top start =
     (s : List ℕ) (w : World) (k : ℕ) (ws : List ℕ) → top ≤ length s → IsGood w.memory → AreMeant words s w.memory ws
     → AreSmall widths ws → walk tree ws w.memory ≡ Some k
-    → Leaves final next hs n (nesting tree) start s w k (λ s' m. Unit {0})
+    → GoesOutBy final next hs n (nesting tree) start s w k (λ s' m. Unit {0})
 
 -- the arm of the instruction at pc, or its else where arm is none, has a target, from which on the run does the tree
 abbrev pub ArmLeads : List Instr → Next → List Read → List ℕ → FlatTree → List Hole → ℕ → ℕ → ℕ → Option ℕ → Type 0
@@ -64,8 +64,8 @@ ArmLeads final next words widths tree hs n top pc arm =
 
 -- hs has all holes of hs0, and others only in the code from a up to b
 pub record MoreHoles (hs0 hs : List Hole) (a b : ℕ) : Type 0 where
-  pub old : (h : Hole) → IsIn h hs0 → IsIn h hs
-  pub new : (h : Hole) → IsIn h hs → IsIn h hs0 ⊎ ((a ≤ h.pc) × (h.pc < b))
+  pub old : (h : Hole) → IsHoleAmong h hs0 → IsHoleAmong h hs
+  pub new : (h : Hole) → IsHoleAmong h hs → IsHoleAmong h hs0 ⊎ ((a ≤ h.pc) × (h.pc < b))
 
 -- each leaf to which the tree leads has a number below `count`
 abbrev pub LeavesBelow : ℕ → FlatTree → Type 0
@@ -77,14 +77,15 @@ IsLeafHole count code h = (h.leaf < count) × IsHole code h
 
 -- all holes stand in front of instruction a
 abbrev pub AreBefore : ℕ → List Hole → Type 0
-AreBefore a hs = (h : Hole) → IsIn h hs → h.pc < a
+AreBefore a hs = (h : Hole) → IsHoleAmong h hs → h.pc < a
 
 -- The code from the end of the old one on does the tree, and leaves by holes of its leaves: it tests the words that
 -- the reads `words` mean. hs0 are the holes before, and hs those with the holes of this code.
 pub record Looks (words : List Read) (widths : List ℕ) (tree : FlatTree) (old : Sheet) (hs0 : List Hole)
     (new : Sheet) (hs : List Hole) : Type 0 where
   pub more : MoreHoles hs0 hs (length old.code) (length new.code)
-  pub leaves : (count : ℕ) → LeavesBelow count tree → (h : Hole) → IsIn h hs → IsIn h hs0 ⊎ IsLeafHole count new.code h
+  pub leaves : (count : ℕ) → LeavesBelow count tree → (h : Hole) → IsHoleAmong h hs → IsHoleAmong h hs0
+      ⊎ IsLeafHole count new.code h
   pub ways : AreBefore (length old.code) hs0 → AreOfOneWay hs0 → AreOfOneWay hs
   pub adds : (plan : Plan) (k : ℕ) → k ≤ old.slots → AllFit k words → TreeFits (length words) tree → Adds plan old new
   pub runs : (plan : Plan) (final : List Instr) (callee : Callee) (next : Next) (n top : ℕ) → Law final callee next
@@ -124,20 +125,21 @@ pub record SplitDone (words : List Read) (widths : List ℕ) (loc : Loc) (arms :
     (other : Option FlatTree) (c : Sheet) (slot : ℕ) (hs0 : List Hole) (Done : Option ℕ → Type 0) (b : Sheet)
     (hs : List Hole) : Type 0 where
   pub fetched : (q : ℕ) → q < length c.code → slice_get b.code q ≡ slice_get c.code q
-  pub shaped : shape_in (slice_get b.code (length c.code)) ≡ Some (shape (switch_of c slot arms other))
+  pub shaped : without_targets_in (slice_get b.code (length c.code))
+      ≡ Some (without_targets (switch_of c slot arms other))
   pub long : length c.code < length b.code
   pub more : MoreHoles hs0 hs (length c.code) (length b.code)
-  pub done : (h : Hole) → IsIn h hs → h.pc ≡ length c.code → IsIn h hs0 ⊎ Done h.arm
-  pub leaves : (count : ℕ) → LeavesBelow count (Split loc arms other) → (h : Hole) → IsIn h hs
-      → IsIn h hs0 ⊎ IsLeafHole count b.code h
+  pub done : (h : Hole) → IsHoleAmong h hs → h.pc ≡ length c.code → IsHoleAmong h hs0 ⊎ Done h.arm
+  pub leaves : (count : ℕ) → LeavesBelow count (Split loc arms other) → (h : Hole) → IsHoleAmong h hs
+      → IsHoleAmong h hs0 ⊎ IsLeafHole count b.code h
   pub ways : AreBefore (length c.code) hs0 → AreOfOneWay hs0 → AreOfOneWay hs
   pub adds : (plan : Plan) (k : ℕ) → slot < c.slots → k ≤ c.slots → AllFit k words
       → TreeFits (length words) (Split loc arms other) → Adds plan c b
   pub runs : (plan : Plan) (final : List Instr) (callee : Callee) (next : Next) (n top : ℕ) → Law final callee next
       → AllFit n words → n ≤ c.slots → slot < c.slots → b.slots ≤ top
       → TreeFits (length words) (Split loc arms other) → AreBefore (length c.code) hs0
-      → shape_in (slice_get final (length c.code)) ≡ Some (shape (switch_of c slot arms other))
-      → ((arm : Option ℕ) → Done arm → (IsOpen hs (length c.code) arm → ⊥)
+      → without_targets_in (slice_get final (length c.code)) ≡ Some (without_targets (switch_of c slot arms other))
+      → ((arm : Option ℕ) → Done arm → (IsOpenTarget hs (length c.code) arm → ⊥)
       → target_in (slice_get final (length c.code)) arm ≡ target_in (slice_get b.code (length c.code)) arm)
       → Finishes final b.code hs (length c.code + 1) (length b.code)
       → (arm : Option ℕ) (tree : FlatTree) → Done arm → under_at arms other arm ≡ Some tree

@@ -20,10 +20,10 @@ use Rattle.rb_layout.specs.declared.agreed.LaidOut.{LaidOut}
 use Rattle.rb_layout.specs.declared.layout.Layout.{Layout}
 use Rattle.rb_layout.specs.Positions.{leaf_of, sub_of_layer, types_or_none}
 use Rattle.rb_fragment.specs.declared.held.Held.{Held}
-use Rattle.rb_fragment.specs.Plan.{Plan, Rep, words_of}
+use Rattle.rb_fragment.specs.Plan.{Plan, Rep, words_needed}
 use Rattle.rb_fragment.specs.Adding.{Adds}
 use Rattle.rb_fragment.specs.Holding.{AllGiven, AreHeld, held_type}
-use Rattle.rb_fragment.specs.Pieces.{AtEnd, Piece, Straight}
+use Rattle.rb_fragment.specs.Pieces.{AtEnd, CodePiece, Straight}
 use Rattle.rb_fragment.specs.Slots.{AllBelow, IsOneOf}
 use Rattle.rb_fetch.specs.Fields.{FieldAt, FieldIsFetched}
 use Rattle.rb_fetch.specs.Finding.{IsPlanOf}
@@ -44,7 +44,7 @@ pattern_at (Some p) (i ∷ path) = pattern_at (sub_at p i) path
 abbrev pub FetchesPart : LaidOut → ℕ → ℕ → Pat → List ℕ → List ℕ → Sheet → Sheet → List ℕ → Type 0
 FetchesPart agreed t n pat path words old new slots =
     (plan : Plan) → IsPlanOf agreed plan → (ty : Ty) (f : PositionAt plan t n path ty) → f.pat ≡ pat → (path ≡ [] → ⊥)
-    → AllBelow old.slots words → length words ≡ words_of plan (Named t)
+    → AllBelow old.slots words → length words ≡ words_needed plan (Named t)
     → FieldIsFetched plan t n path ty f words old new slots
 
 -- A field at an open position is fetched without a switch: each of its slots is new, or is one of the value's.
@@ -52,7 +52,7 @@ pub record OpenIsFetched (plan : Plan) (t n : ℕ) (path : List ℕ) (ty : Ty) (
     (old new : Sheet) (slots : List ℕ) : Type 0 where
   pub adds : Adds plan old new
   pub given : AllBelow new.slots slots
-  pub count : length slots ≡ words_of plan ty
+  pub count : length slots ≡ words_needed plan ty
   pub origin : (x : ℕ) → IsOneOf x slots → (old.slots ≤ x) ⊎ IsOneOf x words
   pub runs : (clean : Bool) (v part : Value) → leaf_of layout v ≡ Some n → part_at v path ≡ Some part
       → Straight plan old.slots old new (λ s m. IsGood m × Rep plan m clean (Named t) v (slots_at s words))
@@ -63,7 +63,7 @@ pub record OpenIsFetched (plan : Plan) (t n : ℕ) (path : List ℕ) (ty : Ty) (
 abbrev pub FetchesOpen : LaidOut → ℕ → ℕ → List ℕ → List ℕ → Sheet → Sheet → List ℕ → Type 0
 FetchesOpen agreed t n path words old new slots =
     (plan : Plan) → IsPlanOf agreed plan → (ty : Ty) (f : FieldAt plan t n path ty) → AllBelow old.slots words
-    → length words ≡ words_of plan (Named t)
+    → length words ≡ words_needed plan (Named t)
     → OpenIsFetched plan t n path ty f.layout words old new slots
 
 -- The code from old to new leaves in slots the parts at the first fields, as many as there are in hs, of constructor
@@ -76,7 +76,7 @@ pub record PartsAreFetched (plan : Plan) (t n : ℕ) (layout : Layout) (c : ConR
   pub kinds : map held_type hs ≡ take (length hs) (types_or_none (fields_of plan.program.types c))
   pub runs : (clean : Bool) (v part : Value) → leaf_of layout v ≡ Some n → part_at v path ≡ Some part
       → length hs ≤ length (subs part)
-      → Piece plan old.slots old new Nowhere (sum_by (mend_under plan.layouts) (take (length hs) ps))
+      → CodePiece plan old.slots old new Nowhere (sum_by (mend_under plan.layouts) (take (length hs) ps))
       (λ s m. IsGood m × Rep plan m clean (Named t) v (slots_at s words))
       (AtEnd new (λ s m. AreHeld plan clean s m hs (take (length hs) (subs part))))
 
@@ -85,5 +85,5 @@ pub record PartsAreFetched (plan : Plan) (t n : ℕ) (layout : Layout) (c : ConR
 abbrev pub FetchesParts : LaidOut → ℕ → ℕ → ConRef → List Pat → ℕ → List ℕ → List ℕ → Sheet → Sheet → List Held → Type 0
 FetchesParts agreed t n c ps k path words old new hs =
     (plan : Plan) → IsPlanOf agreed plan → (at : ℕ) (ty : Ty) (f : PositionAt plan t n path ty) → f.pat ≡ Con at c ps
-    → AllBelow old.slots words → length words ≡ words_of plan (Named t) → (length hs ≡ k)
+    → AllBelow old.slots words → length words ≡ words_needed plan (Named t) → (length hs ≡ k)
     × PartsAreFetched plan t n f.layout c ps path words old new hs

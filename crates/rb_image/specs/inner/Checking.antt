@@ -13,12 +13,12 @@ use Rattle.rb_image_text.specs.declared.image.Image.{Image}
 use Rattle.rb_image_text.specs.declared.image.ImageBlock.{ImageBlock}
 use Rattle.rb_image.specs.declared.kept.Kept.{Kept}
 use Rattle.rb_image.specs.declared.path_words.WordAt.{WordAt}
-use Rattle.rb_image.specs.LeafWords.{reached}
-use Rattle.rb_image.specs.Orders.{PartAt, order_of}
+use Rattle.rb_image.specs.LeafWords.{block_addresses}
+use Rattle.rb_image.specs.Orders.{LocatedPart, order_of}
 use Rattle.rb_image.specs.Parts.{At, bits_at}
 use Rattle.rb_image.specs.Paths.{is_there, part_fault, words_ahead, words_asked}
 use Rattle.rb_image.specs.Roots.{kept_from}
-use Rattle.rb_image.specs.Walks.{Seen, Where}
+use Rattle.rb_image.specs.Walks.{Waypoint, Where}
 use Rattle.rb_image.specs.Ways.{leads_below}
 
 -- what was found, and none where a fault was
@@ -42,56 +42,56 @@ with_word ws k base place = has_word ws base place || (nat_eq base k.base && nat
 
 -- whether the word of part s is there, and the part holds what stands at a path of the leaf or below it, or is a
 -- pointer on the way there
-abbrev pub leads_there : Leaf → List ℕ → List ℕ → PartAt → Bool
+abbrev pub leads_there : Leaf → List ℕ → List ℕ → LocatedPart → Bool
 leads_there leaf ats path s = is_there ats s.block && leads_below leaf path s.part.kind
 
 -- the words that hold the field of subvalue s which the first step of a path inside its leaf names, or what is below
 -- it, and those whose pointers lead to them; none where the path is empty
-abbrev pub first_ahead : List ImageBlock → Seen → List ℕ → List Kept
+abbrev pub first_ahead : List ImageBlock → Waypoint → List ℕ → List Kept
 first_ahead m s [] = []
 first_ahead m s (i ∷ path) = words_ahead m (record s { at = i ∷ [] })
 
 -- the place at which a subvalue stands: its type and its words
-abbrev pub stand_of : Seen → At
+abbrev pub stand_of : Waypoint → At
 stand_of s = record { ty = s.ty; words = s.words }
 
 -- the words of subvalue s that are on a path: those that its splits read, those that hold the field that comes next
 -- or what is below it, and those whose pointers lead to them
-abbrev pub words_seen : List Layout → List ImageBlock → Seen → List Kept
+abbrev pub words_seen : List Layout → List ImageBlock → Waypoint → List Kept
 words_seen layouts m s = words_asked layouts m (stand_of s) ++ first_ahead m s s.at
 
 -- the subvalues of data types to which one came, outer ones first, the last included
-abbrev pub all_seen : Where → List Seen
+abbrev pub all_seen : Where → List Waypoint
 all_seen w = w.before ++ w.last ∷ []
 
 -- the words on a path on which these are the subvalues of data types: those of the root, and those of each of these
-abbrev pub words_of_path : List Layout → Image → List Seen → List Kept
+abbrev pub words_of_path : List Layout → Image → List Waypoint → List Kept
 words_of_path layouts image seen = kept_from 0 image.root ++ flat_map (words_seen layouts image.blocks) seen
 
 -- the words `found` are kept just where the words on a path are on which these are the subvalues
-abbrev pub IsFoundOn : List Layout → Image → List Seen → List WordAt → Type 0
+abbrev pub IsFoundOn : List Layout → Image → List Waypoint → List WordAt → Type 0
 IsFoundOn layouts image seen found =
     (base place : ℕ) → has_word found base place ≡ is_kept_at (words_of_path layouts image seen) base place
 
 -- Faults -------------------------------------------------------------------------------------
 module _ (on : ℕ → ℕ → Bool) (m : List ImageBlock) where
   -- the fault of part s of a leaf, if the word that it is of is there, and is one that `on` has; else none
-  abbrev pub fault_at : Leaf → List Kept → List ℕ → PartAt → Option ImageFault
+  abbrev pub fault_at : Leaf → List Kept → List ℕ → LocatedPart → Option ImageFault
   fault_at leaf ws ats s = let bits = bits_at m ws ats s in
       if is_there ats s.block && on bits.base bits.place then part_fault m leaf bits s.part.kind else None
 
   -- the first fault among these parts of a leaf, of those whose words are there and are ones that `on` has; none
   -- where there is none
-  abbrev pub fault_among : Leaf → List Kept → List ℕ → List PartAt → Option ImageFault
+  abbrev pub fault_among : Leaf → List Kept → List ℕ → List LocatedPart → Option ImageFault
   fault_among leaf ws ats [] = None
   fault_among leaf ws ats (s ∷ ss) = option_or (fault_at leaf ws ats s) (fault_among leaf ws ats ss)
 
   -- the first fault of the leaf of a subvalue in words that `on` has, none where there is none
-  abbrev pub fault_seen : Seen → Option ImageFault
-  fault_seen s = fault_among s.leaf s.words (reached m s.leaf s.words) (order_of s.leaf)
+  abbrev pub fault_seen : Waypoint → Option ImageFault
+  fault_seen s = fault_among s.leaf s.words (block_addresses m s.leaf s.words) (order_of s.leaf)
 
   -- the first fault of the leaves of these subvalues in words that `on` has, those of the first subvalue first; none
   -- where there is none
-  abbrev pub fault_of_seen : List Seen → Option ImageFault
+  abbrev pub fault_of_seen : List Waypoint → Option ImageFault
   fault_of_seen [] = None
   fault_of_seen (s ∷ ss) = option_or (fault_seen s) (fault_of_seen ss)

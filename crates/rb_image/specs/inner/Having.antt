@@ -9,7 +9,7 @@ use Rattle.rb_bytes.specs.Memory.{Memory}
 use Rattle.rb_layout.specs.declared.layout.Layout.{Layout}
 use Rattle.rb_coding.specs.Decoding.{AreOf}
 use Rattle.rb_image_text.specs.declared.image.Image.{Image}
-use Rattle.rb_image_text.specs.Images.{AreBlocks}
+use Rattle.rb_image_text.specs.Images.{AreImageBlocks}
 use Rattle.rb_image_text.specs.Places.{AreInPlace}
 use Rattle.rb_image.specs.Falling.{RootDescends}
 use Rattle.rb_image.specs.Roots.{IsSoundImage}
@@ -24,11 +24,11 @@ HaveValues p layouts = (image : Image) (ty : Ty) → IsDeclared p.types ty → I
 -- the root words of an image that is sound for a declared type represent a value of it, and all pointers fall
 abbrev pub HaveDescents : Program → List Layout → Type 0
 HaveDescents p layouts =
-    (image : Image) → AreInPlace image.blocks → AreBlocks image.blocks → (ty : Ty) → IsDeclared p.types ty
+    (image : Image) → AreInPlace image.blocks → AreImageBlocks image.blocks → (ty : Ty) → IsDeclared p.types ty
     → IsSoundImage p.types layouts image ty → (v : Value) × RootDescends p image ty v
 
 -- an image is sound for a type where its root words represent a value of it and all pointers fall
 abbrev pub AreSoundWhereTheyDescend : Program → List Layout → Type 0
 AreSoundWhereTheyDescend p layouts =
-    (image : Image) → AreInPlace image.blocks → AreBlocks image.blocks → (ty : Ty) (v : Value)
+    (image : Image) → AreInPlace image.blocks → AreImageBlocks image.blocks → (ty : Ty) (v : Value)
     → RootDescends p image ty v → IsSoundImage p.types layouts image ty

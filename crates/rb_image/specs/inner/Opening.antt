@@ -10,12 +10,12 @@ use Rattle.rb_image.specs.Parts.{At, field_word, place_at}
 use Rattle.rb_image.specs.inner.Viewing.{spots_of}
 
 -- word j of the field at a path of a leaf that was examined, with where it is kept
-abbrev pub word_of : Examined → List ℕ → ℕ → Kept
-word_of x = field_word x.memory.now x.words.now x.addresses.now (spots_of x.order.now)
+abbrev pub examined_word : Examined → List ℕ → ℕ → Kept
+examined_word x = field_word x.memory.now x.words.now x.addresses.now (spots_of x.order.now)
 
 -- the place at an open position below a path of a leaf that was examined; none where an integer stands there
 abbrev pub place_below : Examined → List ℕ → Open → List At
-place_below x path o = place_at x.layouts.now (word_of x) (path ++ o.path) o.ty
+place_below x path o = place_at x.layouts.now (examined_word x) (path ++ o.path) o.ty
 
 -- the places at these open positions below a path of a leaf that was examined, in their order
 abbrev pub opened : Examined → List ℕ → List Open → List At

@@ -6,7 +6,7 @@ use Rattle.rb_layout.specs.declared.layout.Leaf.{Leaf}
 use Rattle.rb_image.specs.declared.kept.Kept.{Kept}
 use Rattle.rb_image.specs.declared.leaf_words.LeafWords.{LeafWords}
 use Rattle.rb_image.specs.LeafWords.{items_or_none}
-use Rattle.rb_image.specs.Orders.{PartAt, order_of}
+use Rattle.rb_image.specs.Orders.{LocatedPart, order_of}
 use Rattle.rb_image.specs.Splits.{word_at}
 
 -- how many words those blocks have whose addresses are not known, that is 0 or missing
@@ -16,12 +16,12 @@ unread (b ∷ bs) [] = length b.words + unread bs []
 unread (b ∷ bs) (at ∷ ats) = (if at == 0 then length b.words else 0) + unread bs ats
 
 -- s is one of the parts of a leaf, each with the word that it is of, as `order_of` lists them
-abbrev pub IsPartOf : Leaf → PartAt → Type 0
+abbrev pub IsPartOf : Leaf → LocatedPart → Type 0
 IsPartOf leaf s = (k : ℕ) × (slice_get (order_of leaf) k ≡ Some s)
 
 -- the word that part s is of, among the words of its leaf that were read: of the root, or of the block with this
 -- number
-abbrev pub word_read : LeafWords → Option ℕ → PartAt → Kept
+abbrev pub word_read : LeafWords → Option ℕ → LocatedPart → Kept
 word_read x None s = word_at x.root.items s.word
 word_read x (Some b) s = record {
   number = slice_index (items_or_none (slice_get x.blocks.items b)) s.word;

@@ -17,10 +17,10 @@ use Rattle.rb_image.specs.Fields.{position_of}
 use Rattle.rb_image.specs.LeafWords.{HasNumbers}
 use Rattle.rb_image.specs.Rebuilds.{or_fault_before}
 use Rattle.rb_image.specs.Splits.{and_then}
-use Rattle.rb_image.specs.Views.{Standing}
+use Rattle.rb_image.specs.Views.{LeafPosition}
 
 -- the position that a view has
-abbrev pub shown : View → Standing
+abbrev pub shown : View → LeafPosition
 shown v = record {
   leaf = v.leaf.now;
   root = v.words.now.root.items;
@@ -30,7 +30,7 @@ shown v = record {
 }
 
 -- the position that a view has, where there is a view
-abbrev pub shown_option : Option View → Option Standing
+abbrev pub shown_option : Option View → Option LeafPosition
 shown_option None = None
 shown_option (Some v) = Some (shown v)
 
@@ -45,7 +45,7 @@ source_words (Lent words) = words.now
 source_words (Own words) = words
 
 -- the position to which an arrival has come
-abbrev pub come_to : Arrival → Standing
+abbrev pub come_to : Arrival → LeafPosition
 come_to x = record {
   leaf = x.leaf.now;
   root = (source_words x.source).root.items;

@@ -5,14 +5,14 @@ use Rattle.std.specs.Borrow.{Bor}
 use Rattle.rb_layout.specs.declared.layout.Part.{Part}
 use Rattle.rb_image_text.specs.declared.fault.ImageFault.{ImageFault}
 use Rattle.rb_image.specs.declared.order.Spot.{Spot}
-use Rattle.rb_image.specs.Orders.{PartAt}
+use Rattle.rb_image.specs.Orders.{LocatedPart}
 
 -- the part that a spot is, with the word that it is of
-abbrev pub at_of : Spot → PartAt
+abbrev pub at_of : Spot → LocatedPart
 at_of s = record { block = s.block; word = s.word; byte = s.byte; width = s.width; part = s.part.now }
 
 -- the parts that spots are, with the words that they are of, in their order
-abbrev pub spots_of : List Spot → List PartAt
+abbrev pub spots_of : List Spot → List LocatedPart
 spots_of spots = map at_of spots
 
 -- the parts that are borrowed, in their order

@@ -71,8 +71,8 @@ abbrev pub KeepsGoals : List Entry → List Entry → Type 0
 KeepsGoals es fs = (g : Goal) → has_goal es g ≡ true → has_goal fs g ≡ true
 
 -- a goal is among the entries
-abbrev pub IsIn : List Entry → Goal → Type 0
-IsIn es g = has_goal es g ≡ true
+abbrev pub IsGoalOf : List Entry → Goal → Type 0
+IsGoalOf es g = has_goal es g ≡ true
 
 -- the goals on which a goal rests in one step are among the entries: those that the parts of its root word give, in
 -- each leaf of its type
@@ -81,7 +81,7 @@ HasBelow types layouts es g =
     (n : ℕ) (layout : Layout) (leaf : Leaf) (f : FlatWord) → layout_of layouts g.ty ≡ Some layout
     → slice_get layout.leaves n ≡ Some leaf
     → slice_get leaf.root g.word ≡ Some f → (k : ℕ) (p : Part) (h : Goal) → slice_get f.parts k ≡ Some p
-    → goal_in (position_type types leaf.prov) g.literal p ≡ Some h → IsIn es h
+    → goal_in (position_type types leaf.prov) g.literal p ≡ Some h → IsGoalOf es h
 
 -- The new entries have all goals on which the old ones rest, in any number of steps: all of the old, and with each
 -- goal those on which it rests in one step. Each asks for a range with a bit that ends within 64 bits, and none is

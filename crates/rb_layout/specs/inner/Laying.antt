@@ -16,17 +16,18 @@ use Rattle.rb_layout.specs.declared.layout.Kind.{Kind}
 use Rattle.rb_layout.specs.declared.layout.Leaf.{Leaf}
 use Rattle.rb_layout.specs.declared.layout.Part.{Part}
 use Rattle.rb_layout.specs.Positions.{open_positions}
-use Rattle.rb_layout.specs.Flattening.{Laid, Laying, arm_numbering, flat_leaf, in_turn, inlined, item_laid, items_laid, kind_laid, part_laid, type_at}
+use Rattle.rb_layout.specs.Flattening.{WithBlocks, Laying, arm_numbering, flat_leaf, in_turn, inlined, item_laid, items_laid, kind_laid, part_laid, type_at}
 
 -- what is placed, its things behind the things xs and its blocks behind these blocks
-abbrev pub behind : {A : Type 0} → List A → List Block → Laid (List A) → Laid (List A)
+abbrev pub behind : {A : Type 0} → List A → List Block → WithBlocks (List A) → WithBlocks (List A)
 behind xs blocks laid = record { it = xs ++ laid.it; blocks = blocks ++ laid.blocks }
 
 -- Code that lays something has the things xs and the blocks `old` before, and the things ys and the blocks `new`
 -- after: ys are xs with the laid things behind them, and `new` are `old` with the laid blocks behind them. The laying
 -- is told how many blocks stand before, which is the length of `old`.
 abbrev pub Lays : {A : Type 0} → List A → List A → List Block → List Block → Laying (List A) → Type 0
-Lays xs ys old new lay = ◌≡◌ {A = Laid (List _)} (record { it = ys; blocks = new }) (behind xs old (lay (length old)))
+Lays xs ys old new lay =
+    ◌≡◌ {A = WithBlocks (List _)} (record { it = ys; blocks = new }) (behind xs old (lay (length old)))
 
 -- Code lays what a part holds, if anything: `kind` is what the laying gives, and the blocks `new` are the blocks
 -- `old` with those of the laying behind them.

@@ -4,7 +4,7 @@
 -- switches and instructions so far. `callee` says what the calls that the body makes do, each up to its end.
 use Rattle.std.specs.Prelude.{ℕ, ◌+◌, ◌<◌, ◌≤◌, List, length, slice_get}
 use Rattle.rb_bytes.specs.Memory.{Memory}
-use Rattle.rb_target.specs.Meaning.{World, Outcome, Callee, over, from}
+use Rattle.rb_target.specs.Meaning.{World, CallEnd, Callee, over, from}
 use Rattle.rb_target.specs.Laws.{IsFinal}
 use Rattle.rb_target.specs.declared.instr.Instr.{Instr}
 use Rattle.rb_machine.specs.Runs.{IsNotTrapped}
@@ -14,7 +14,7 @@ use Rattle.rb_machine.specs.declared.state.Stop.TheVariants.{At, Ends}
 
 -- what is still to come of a call of the body that stopped so: the instruction at which it stopped and what follows,
 -- or just the end of the run
-abbrev pub stop_to : List Instr → Callee → Stop → List ℕ → World → Outcome
+abbrev pub stop_to : List Instr → Callee → Stop → List ℕ → World → CallEnd
 stop_to body callee (At pc l) slots w = from body callee pc slots w
 stop_to body callee (Ends e) slots w = over e w
 

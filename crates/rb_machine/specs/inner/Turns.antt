@@ -7,7 +7,7 @@
 -- on in its function, leaves it by a call or a return, or ends the run.
 use Rattle.std.specs.Prelude.{◌≡◌, ℕ, ◌+◌, ◌-◌, ◌*◌, ◌^◌, ◌<◌, ◌≤◌, List, [], ◌∷◌, length, Option, Some, None, Result, Ok, Err, IsOk, take, drop, slice_get, slice_index, All}
 use Rattle.rb_bytes.specs.Memory.{Memory, load_of, store_of}
-use Rattle.rb_target.specs.Meaning.{World, Outcome, over, Next, Callee, act, after_call, put_slots, from, enter, body_of, slots_in}
+use Rattle.rb_target.specs.Meaning.{World, CallEnd, over, Next, Callee, act, after_call, put_slots, from, enter, body_of, slots_in}
 use Rattle.rb_target.specs.Validity.{IsTarget}
 use Rattle.rb_target.specs.declared.outcome.End.{End}
 use Rattle.rb_target.specs.declared.outcome.End.TheVariants.{Returned}
@@ -29,23 +29,23 @@ call_dests o = []
 
 -- what a call that waits, with its slots, makes of the outcome of the call that it made: it goes on where that
 -- returned, and any other end is the end
-abbrev pub resume : List CodeFun → ℕ → Frame → List ℕ → Outcome → Outcome
+abbrev pub resume : List CodeFun → ℕ → Frame → List ℕ → CallEnd → CallEnd
 resume funs depth frame slots o =
     after_call o.ended o.world
     (λ words. from (body_of funs frame.fun) (enter funs depth) (frame.pc + 1)
     (put_slots slots (call_dests (slice_get (body_of funs frame.fun) frame.pc)) words) o.world)
 
 -- how many slots function number `fun` has; 0 where there is no such function
-abbrev pub width_of : List CodeFun → ℕ → ℕ
-width_of funs fun = slots_in (slice_get funs fun)
+abbrev pub slot_count : List CodeFun → ℕ → ℕ
+slot_count funs fun = slots_in (slice_get funs fun)
 
 -- what the calls that wait make of an end; the outermost is first, as its slots are on the stack, and depth calls
 -- can be nested in it
-abbrev pub unwind : List CodeFun → ℕ → List Frame → List ℕ → Outcome → Outcome
+abbrev pub unwind : List CodeFun → ℕ → List Frame → List ℕ → CallEnd → CallEnd
 unwind funs depth [] stack o = o
 unwind funs depth (frame ∷ frames) stack o =
-    resume funs depth frame (take (width_of funs frame.fun) stack)
-    (unwind funs (depth - 1) frames (drop (width_of funs frame.fun) stack) o)
+    resume funs depth frame (take (slot_count funs frame.fun) stack)
+    (unwind funs (depth - 1) frames (drop (slot_count funs frame.fun) stack) o)
 
 -- the slots of the calls that wait, the outermost first
 abbrev pub waiting_slots : State → List ℕ
@@ -64,7 +64,7 @@ abbrev pub world_of : State → Memory → ℕ → World
 world_of s m taken = world s.left m s.switches taken
 
 -- what is still to come of a run that has come to a state, where at most `depth` calls can be nested in the first
-abbrev pub rest_of : List CodeFun → ℕ → State → Memory → ℕ → Outcome
+abbrev pub rest_of : List CodeFun → ℕ → State → Memory → ℕ → CallEnd
 rest_of funs depth s m taken =
     unwind funs depth s.frames.items (waiting_slots s)
     (from (body_of funs s.fun) (enter funs (depth - length s.frames.items)) s.pc (current_slots s) (world_of s m taken))
@@ -85,15 +85,15 @@ abbrev pub work : List CodeFun → State → ℕ
 work funs s = s.left * 2 ^ 65 + room_in funs s.frames.items + room_at funs s.fun s.pc
 
 -- how many slots the calls that wait have together
-abbrev pub held_in : List CodeFun → List Frame → ℕ
-held_in funs [] = 0
-held_in funs (frame ∷ frames) = width_of funs frame.fun + held_in funs frames
+abbrev pub slots_in_wait : List CodeFun → List Frame → ℕ
+slots_in_wait funs [] = 0
+slots_in_wait funs (frame ∷ frames) = slot_count funs frame.fun + slots_in_wait funs frames
 
 -- a place in the code, with its slots: there is an instruction there, and they are as many as the function has
 pub record IsPlace (funs : List CodeFun) (fun pc : ℕ) (held : List ℕ) : Type 0 where
   pub known : fun < length funs
   pub inside : pc < length (body_of funs fun)
-  pub slots : length held ≡ width_of funs fun
+  pub slots : length held ≡ slot_count funs fun
 
 -- a call that waits is of a function of the code, and its body goes on behind the call instruction, at number pc
 pub record IsFrame (funs : List CodeFun) (frame : Frame) : Type 0 where
@@ -115,7 +115,7 @@ results_in (Some f) = f.results
 pub record StateIsSound (funs : List CodeFun) (depth : ℕ) (s : State) : Type 0 where
   pub place : IsPlace funs s.fun s.pc (current_slots s)
   pub frames : All (λ (frame : Frame). IsFrame funs frame) s.frames.items
-  pub base : s.base ≡ held_in funs s.frames.items
+  pub base : s.base ≡ slots_in_wait funs s.frames.items
   pub fits : s.base ≤ length s.stack.items
   pub nested : s.left + length s.frames.items ≤ depth
   pub results : length s.results.items ≡ results_in (slice_get funs (outermost s.frames.items s.fun))
@@ -123,7 +123,7 @@ pub record StateIsSound (funs : List CodeFun) (depth : ℕ) (s : State) : Type 0
   pub bounded : s.switches + work funs s < 2 ^ 127
 
 -- what is still to come after an instruction, by where it leads; one that leaves its function is itself still to come
-abbrev pub flow_to : Instr → Callee → ℕ → Flow → Next → List ℕ → World → Outcome
+abbrev pub flow_to : Instr → Callee → ℕ → Flow → Next → List ℕ → World → CallEnd
 flow_to i callee pc (Goes t) next slots w = next t slots w
 flow_to i callee pc (Leaves l) next slots w = act i next callee pc slots w
 flow_to i callee pc (Ends e) next slots w = over e w
@@ -143,9 +143,9 @@ MayRun m slots (Store a offset width v) = IsOk (store_of m (slice_index slots a)
 MayRun m slots i = Unit {0}
 
 -- instruction pc stands in a body of `long` instructions, and, unless it is a return, another one behind it
-abbrev pub GoesOn : ℕ → ℕ → Instr → Type 0
-GoesOn long pc (Return froms) = pc < long
-GoesOn long pc i = pc + 1 < long
+abbrev pub HasNext : ℕ → ℕ → Instr → Type 0
+HasNext long pc (Return froms) = pc < long
+HasNext long pc i = pc + 1 < long
 
 -- the instruction is the call or the return that is told
 abbrev pub IsLeave : Option Instr → Leave → Type 0

@@ -39,7 +39,7 @@ use Rattle.rb_layout.specs.declared.layout.Layout.{Layout}
 use Rattle.rb_layout.specs.declared.layout.Leaf.{Leaf}
 use Rattle.rb_layout.specs.Positions.{con_of_layer, layout_of}
 use Rattle.rb_fragment.specs.declared.reads.Read.{Read}
-use Rattle.rb_fragment.specs.Plan.{Plan, Rep, words_of}
+use Rattle.rb_fragment.specs.Plan.{Plan, Rep, words_needed}
 use Rattle.rb_fragment.specs.Adding.{Adds}
 use Rattle.rb_fragment.specs.Pieces.{IsLater}
 use Rattle.rb_fragment.specs.Slots.{AllFrom, SlotsAreApart, IsDistinct}
@@ -300,7 +300,7 @@ abbrev pub AsksLeaf : LaidOut → ℕ → List Read → List Known → List ℕ 
     → List Edge → Type 0
 AsksLeaf agreed t reads known position arms other old new edges =
     (plan : Plan) (n : ℕ) (spots : List Spot) → IsPlanOf agreed plan → AreSpots plan n old.slots spots
-    → AllFit old.slots reads → length reads ≡ words_of plan (Named t)
+    → AllFit old.slots reads → length reads ≡ words_needed plan (Named t)
     → AskedAt plan (Named t) n spots reads known position arms other old new edges
 
 -- The code from old to new tests the part at a position, at which some pattern looks, over reads of the whole value:

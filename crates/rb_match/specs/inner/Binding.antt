@@ -34,8 +34,8 @@ use Rattle.rb_layout.specs.Positions.{layout_of, leaf_of}
 use Rattle.rb_fragment.specs.declared.held.Local.{Local}
 use Rattle.rb_fragment.specs.Adding.{Adds}
 use Rattle.rb_fragment.specs.Holding.{AreGiven, Holds, IsOfLocal, scope_of}
-use Rattle.rb_fragment.specs.Pieces.{AtEnd, Piece}
-use Rattle.rb_fragment.specs.Plan.{Plan, Rep, words_of}
+use Rattle.rb_fragment.specs.Pieces.{AtEnd, CodePiece}
+use Rattle.rb_fragment.specs.Plan.{Plan, Rep, words_needed}
 use Rattle.rb_fragment.specs.Slots.{AllBelow, IsOneOf}
 use Rattle.rb_fetch.specs.Finding.{IsPlanOf, leaf_count}
 use Rattle.rb_matrix.specs.Apart.{PatternsAreApart}
@@ -91,7 +91,7 @@ pub record BindsParts (plan : Plan) (most t leaf : ℕ) (words : List ℕ) (scop
   pub origin : (x : ℕ) → IsOfLocal x bound → (old.slots ≤ x) ⊎ IsOneOf x words
   pub runs : (clean : Bool) (v : Value) (bs : List Binding) (layout : Layout) → layout_of plan.layouts t ≡ Some layout
       → leaf_of layout v ≡ Some leaf → Parts v bs
-      → Piece plan old.slots old new Nowhere most
+      → CodePiece plan old.slots old new Nowhere most
       (λ s m. IsGood m × Rep plan m clean (Named t) v (slots_at s words))
       (AtEnd new (λ s m. Holds plan clean s m bound bs))
 
@@ -110,7 +110,7 @@ fields_bound plan subs fields =
 -- data type t
 abbrev pub BindsFields : LaidOut → ℕ → ℕ → List ℕ → List Pat → List Ty → ℕ → Sheet → Sheet → List Local → Type 0
 BindsFields agreed t leaf words subs fields i old new bound =
-    (plan : Plan) → IsPlanOf agreed plan → AllBelow old.slots words → length words ≡ words_of plan (Named t)
+    (plan : Plan) → IsPlanOf agreed plan → AllBelow old.slots words → length words ≡ words_needed plan (Named t)
     → BindsParts plan (mends_from plan.layouts t leaf subs i + fields_bound plan subs fields) t leaf words
     (all_binders (map (binders plan.program.types) subs) fields) old new bound (FieldsMatch subs i)
 
@@ -122,7 +122,7 @@ FieldMatches sub i v bs =
 -- the appended code binds the variables of the pattern of field i, where the value has this leaf of data type t
 abbrev pub BindsField : LaidOut → ℕ → ℕ → List ℕ → Pat → Ty → ℕ → Sheet → Sheet → List Local → Type 0
 BindsField agreed t leaf words sub field i old new bound =
-    (plan : Plan) → IsPlanOf agreed plan → AllBelow old.slots words → length words ≡ words_of plan (Named t)
+    (plan : Plan) → IsPlanOf agreed plan → AllBelow old.slots words → length words ≡ words_needed plan (Named t)
     → BindsParts plan (mend_at plan.layouts t leaf (i ∷ []) + binding_bound plan.program.types plan.layouts field sub)
     t leaf words (binders plan.program.types sub field) old new bound (FieldMatches sub i)
 
@@ -138,14 +138,14 @@ pub record SavedTogether (plan : Plan) (n : ℕ) (c : ConRef) (words : List ℕ)
     (old new : Sheet) : Type 0 where
   pub adds : Adds plan old new
   pub runs : (clean : Bool) (v : Value) (us : List Value) → out-Value v ≡ V.Con c.con us
-      → Piece plan n old new Nowhere (choosing_look plan.layouts (Named c.ty))
+      → CodePiece plan n old new Nowhere (choosing_look plan.layouts (Named c.ty))
       (λ s m. IsThere plan clean c.ty v words s m) (AtEnd new (λ s m. AreSeen plan clean v spots known s m))
 
 -- the appended code saves fields of a value that begins with the constructor, whichever of its leaves it has
 abbrev pub SavesTogether : LaidOut → ConRef → List ℕ → List Spot → List Known → Sheet → Sheet → Type 0
 SavesTogether agreed c words spots known old new =
     (plan : Plan) (n : ℕ) → IsPlanOf agreed plan → AreSpots plan n old.slots spots → AllBelow old.slots words
-    → length words ≡ words_of plan (Named c.ty)
+    → length words ≡ words_needed plan (Named c.ty)
     → SavedTogether plan n c words spots known old new
 
 -- the appended code leaves what some patterns bind in slots from n on, where these facts are known of the value, with
@@ -157,7 +157,7 @@ pub record BindsSaved (plan : Plan) (n most : ℕ) (spots : List Spot) (known : 
   pub given : AreGiven plan new.slots bound
   pub origin : (x : ℕ) → IsOfLocal x bound → n ≤ x
   pub runs : (clean : Bool) (v : Value) (bs : List Binding) → Parts v bs
-      → Piece plan old.slots old new Nowhere most (λ s m. AreSeen plan clean v spots known s m)
+      → CodePiece plan old.slots old new Nowhere most (λ s m. AreSeen plan clean v spots known s m)
       (AtEnd new (λ s m. Holds plan clean s m bound bs))
 
 -- the appended code binds the variables of the patterns of the fields from i on, from the spots that these facts say

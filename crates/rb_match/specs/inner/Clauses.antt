@@ -23,9 +23,9 @@ use Rattle.rb_target.specs.Targets.{Finishes}
 use Rattle.rb_layout.specs.declared.agreed.LaidOut.{LaidOut}
 use Rattle.rb_fragment.specs.declared.reads.Read.{Read}
 use Rattle.rb_fragment.specs.Arms.{AreHoles, AreOfOneWay}
-use Rattle.rb_fragment.specs.Plan.{Plan, Rep, words_of}
+use Rattle.rb_fragment.specs.Plan.{Plan, Rep, words_needed}
 use Rattle.rb_fragment.specs.Adding.{Adds}
-use Rattle.rb_fragment.specs.Pieces.{IsLater, Leaves}
+use Rattle.rb_fragment.specs.Pieces.{IsLater, GoesOutBy}
 use Rattle.rb_fragment.specs.WordReads.{AreMeant, AllFit}
 use Rattle.rb_fetch.specs.Finding.{IsPlanOf}
 use Rattle.rb_match.specs.Bounding.{choosing_look, looks_with, places_of_patterns}
@@ -47,7 +47,7 @@ TakesAlone agreed ty words pat old new holes =
 
 -- the run from `start` comes to `end`, the end of the code, after at most so many switches, with the first n slots
 -- kept
-pub record GoesOn (next : Next) (n most start end : ℕ) (s : List ℕ) (w : World) : Type 0 where
+pub record ComesToEnd (next : Next) (n most start end : ℕ) (s : List ℕ) (w : World) : Type 0 where
   pub slots : List ℕ
   pub world : World
   pub runs : next start s w ≡ next end slots world
@@ -75,15 +75,15 @@ pub record ClauseTried (plan : Plan) (ty : Ty) (words : List Read) (pats : List 
     (old new : Sheet) (holes : List Hole) : Type 0 where
   pub adds : Adds plan old new
   pub matched : OnValues plan ty words old new holes (λ final next s w v. matches_of pat v ≡ true
-      → Leaves final next holes old.slots (round_of plan ty pats) (length old.code) s w number (λ s' m. Unit {0}))
+      → GoesOutBy final next holes old.slots (round_of plan ty pats) (length old.code) s w number (λ s' m. Unit {0}))
   pub other : OnValues plan ty words old new holes (λ final next s w v. matches_of pat v ≡ false
-      → GoesOn next old.slots (round_of plan ty pats) (length old.code) (length new.code) s w)
+      → ComesToEnd next old.slots (round_of plan ty pats) (length old.code) (length new.code) s w)
 
 -- a plan of the layouts, and a read for each word of the type, which fits all slots that the code has or adds
 pub record IsFineFor (agreed : LaidOut) (plan : Plan) (ty : Ty) (words : List Read) (old : Sheet) : Type 0 where
   pub of : IsPlanOf agreed plan
   pub fit : (k : ℕ) → old.slots ≤ k → AllFit k words
-  pub count : length words ≡ words_of plan ty
+  pub count : length words ≡ words_needed plan ty
 
 -- holes in the code from old to new, each of one of so many clauses, and one target is of one clause
 pub record HolesStand (old new : Sheet) (count : ℕ) (holes : List Hole) : Type 0 where
@@ -105,10 +105,10 @@ pub record AllTried (plan : Plan) (ty : Ty) (words : List Read) (pats : List Pat
   pub adds : Adds plan old new
   pub chosen : OnValues plan ty words old new holes (λ final next s w v. (k : ℕ) → chosen_clause pats v ≡ Some k
       → k < count
-      → Leaves final next holes old.slots (count * round_of plan ty pats) (length old.code) s w k (λ s' m. Unit {0}))
+      → GoesOutBy final next holes old.slots (count * round_of plan ty pats) (length old.code) s w k (λ s' m. Unit {0}))
   pub later : OnValues plan ty words old new holes (λ final next s w v. (k : ℕ) → chosen_clause pats v ≡ Some k
       → count ≤ k
-      → GoesOn next old.slots (count * round_of plan ty pats) (length old.code) (length new.code) s w)
+      → ComesToEnd next old.slots (count * round_of plan ty pats) (length old.code) (length new.code) s w)
 
 -- in each plan of the layouts the code tries the first `count` clauses of a match, and leaves by a hole of the first
 -- that matches

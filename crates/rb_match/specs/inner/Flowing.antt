@@ -16,7 +16,7 @@ use Rattle.rb_decide.specs.declared.decision_tree.Tree.{Tree}
 use Rattle.rb_decide.specs.declared.decision_graph.GraphNode.{GraphNode}
 use Rattle.rb_decide.specs.declared.decision_graph.GraphNode.TheVariants.{Clause}
 use Rattle.rb_decide.specs.Graphs.{node_trees, tree_under, LinksAreLower}
-use Rattle.rb_decide.specs.Trees.{Way, taken, ways}
+use Rattle.rb_decide.specs.Trees.{Way, clause_taken, ways}
 use Rattle.rb_bytes.specs.Memory.{Memory, IsGood}
 use Rattle.rb_target.specs.declared.instr.Instr.{Instr}
 use Rattle.rb_target.specs.declared.body.Hole.{Hole}
@@ -27,15 +27,15 @@ use Rattle.rb_target.specs.Sheet.{Sheet}
 use Rattle.rb_target.specs.Targets.{target_in, Finishes}
 use Rattle.rb_layout.specs.declared.agreed.LaidOut.{LaidOut}
 use Rattle.rb_fragment.specs.declared.reads.Read.{Read}
-use Rattle.rb_fragment.specs.Plan.{Plan, Rep, words_of}
+use Rattle.rb_fragment.specs.Plan.{Plan, Rep, words_needed}
 use Rattle.rb_fragment.specs.Adding.{Adds}
-use Rattle.rb_fragment.specs.Pieces.{IsLater, Leaves}
+use Rattle.rb_fragment.specs.Pieces.{IsLater, GoesOutBy}
 use Rattle.rb_fragment.specs.WordReads.{AreMeant, AllFit}
 use Rattle.rb_fetch.specs.Finding.{IsPlanOf}
 use Rattle.rb_match.specs.declared.knowledge.Known.{Known}
 use Rattle.rb_match.specs.declared.knowledge.Edge.{Edge}
 use Rattle.rb_match.specs.declared.knowledge.Spot.{Spot}
-use Rattle.rb_match.specs.Bounding.{Place, choosing_look, looks_with}
+use Rattle.rb_match.specs.Bounding.{TypedPosition, choosing_look, looks_with}
 use Rattle.rb_match.specs.inner.Knowing.{AreKnown, IsEdge, seen}
 use Rattle.rb_match.specs.inner.Places.{IsLookedAt, IsPlaceIn}
 use Rattle.rb_match.specs.inner.Asking.{AreSpots, holes_of, StandOpen}
@@ -65,11 +65,11 @@ abbrev pub HasWay : List Way → Way → Type 0
 HasWay ws way = (k : ℕ) × (slice_get ws k ≡ Some way)
 
 -- the position of a place
-abbrev pub path_of : Place → List ℕ
+abbrev pub path_of : TypedPosition → List ℕ
 path_of p = p.path
 
 -- the switches that one look at each of some places costs at most when a clause is chosen
-abbrev pub looks : Plan → List Place → ℕ
+abbrev pub looks : Plan → List TypedPosition → ℕ
 looks plan path = looks_with (choosing_look plan.layouts) path
 
 -- what is asked of the code of a graph, and the code `first` behind which it begins; the slots below the base are
@@ -87,14 +87,16 @@ pub record Job : Type 0 where
   pub first : Sheet
 
 -- at each of these places some clause of the job has a number or a constructor
-abbrev pub AllLookedAt : Job → List Place → Type 0
-AllLookedAt job path = (p : Place) → IsPlaceIn p path → IsLookedAt job.plan.program.types job.ty job.pats p.path p.ty
+abbrev pub AllLookedAt : Job → List TypedPosition → Type 0
+AllLookedAt job path = (p : TypedPosition) → IsPlaceIn p path
+    → IsLookedAt job.plan.program.types job.ty job.pats p.path p.ty
 
 -- a value that came from the root to node n, at which these places were looked at on the way: the graph takes the
 -- same clause of it from there as from the root, and each way from there to a clause, behind these places, is one
 -- from the root
-pub record IsOn (job : Job) (v : Value) (n : ℕ) (path : List Place) : Type 0 where
-  pub same : (k : ℕ) → taken (tree_at job.nodes job.root) v ≡ Some k → taken (tree_at job.nodes n) v ≡ Some k
+pub record IsOn (job : Job) (v : Value) (n : ℕ) (path : List TypedPosition) : Type 0 where
+  pub same : (k : ℕ) → clause_taken (tree_at job.nodes job.root) v ≡ Some k → clause_taken (tree_at job.nodes n) v
+      ≡ Some k
   pub onward : (tail : Way) → HasWay (ways (tree_at job.nodes n)) tail
       → HasWay (ways (tree_at job.nodes job.root)) (map path_of path ++ tail)
   pub looked : AllLookedAt job path
@@ -113,7 +115,7 @@ pub record Arrives (job : Job) (final : List Instr) (next : Next) (edges : List 
   pub world : World
   pub runs : next (length job.first.code) s w ≡ next target slots world
   pub keeps : Keeps job.base s slots
-  pub path : List Place
+  pub path : List TypedPosition
   pub later : IsLater (looks job.plan path) w world
   pub known : AreKnown (seen job.plan clean v job.spots slots w.memory) edge.known
   pub on : IsOn job v edge.hole.leaf path
@@ -125,7 +127,7 @@ pub record Lands (job : Job) (next : Next) (here : ℕ) (known : List Known) (n 
   pub world : World
   pub runs : next (length job.first.code) s w ≡ next here slots world
   pub keeps : Keeps job.base s slots
-  pub path : List Place
+  pub path : List TypedPosition
   pub later : IsLater (looks job.plan path) w world
   pub is_known : AreKnown (seen job.plan clean v job.spots slots w.memory) known
   pub on : IsOn job v n path
@@ -137,7 +139,7 @@ pub record IsGiven (job : Job) (s : List ℕ) (m : Memory) (clean : Bool) (v : V
   pub meant : AreMeant job.words s m ws
   pub represents : Rep job.plan m clean job.ty v ws
   pub clause : ℕ
-  pub takes : taken (tree_at job.nodes job.root) v ≡ Some clause
+  pub takes : clause_taken (tree_at job.nodes job.root) v ≡ Some clause
 
 -- what may be said of a run: of the finished code, of what goes on in it, and of the slots, the world and the value
 -- at its beginning
@@ -170,7 +172,7 @@ pub record IsFineJob (agreed : LaidOut) (job : Job) : Type 0 where
   pub of : IsPlanOf agreed job.plan
   pub spots : AreSpots job.plan job.base job.first.slots job.spots
   pub fit : (k : ℕ) → job.base ≤ k → AllFit k job.words
-  pub count : length job.words ≡ words_of job.plan job.ty
+  pub count : length job.words ≡ words_needed job.plan job.ty
   pub lower : LinksAreLower job.nodes
 
 -- Nodes -----------------------------------------------------------------------------------------
@@ -206,7 +208,7 @@ pub record StepsNode (agreed : LaidOut) (ty : Ty) (words : List Read) (pats : Li
       → Flows job new more
 
 -- the code of the root's node stands: it leads each value that is given to a fine job out by an edge
-pub record Begins (agreed : LaidOut) (ty : Ty) (words : List Read) (pats : List Pat) (spots : List Spot)
+pub record RootStands (agreed : LaidOut) (ty : Ty) (words : List Read) (pats : List Pat) (spots : List Spot)
     (nodes : List GraphNode) (root : ℕ) (old new : Sheet) (edges : List Edge) : Type 0 where
   pub stands : JobStands old new edges
   pub flows : (plan : Plan) (base : ℕ)
@@ -232,10 +234,11 @@ pub record AreClauseHoles (nodes : List GraphNode) (count : ℕ) (edges : List E
 -- below the job's base
 pub record LeavesOn (job : Job) (final : List Instr) (next : Next) (holes : List Hole) (s : List ℕ) (w : World)
     (k : ℕ) : Type 0 where
-  pub path : List Place
+  pub path : List TypedPosition
   pub is_way : HasWay (ways (tree_at job.nodes job.root)) (map path_of path)
   pub looked : AllLookedAt job path
-  pub leaves : Leaves final next holes job.base (looks job.plan path) (length job.first.code) s w k (λ s' m. Unit {0})
+  pub leaves : GoesOutBy final next holes job.base (looks job.plan path) (length job.first.code) s w k
+      (λ s' m. Unit {0})
 
 -- the code from the first on leads each value that is given to the job out by a hole of the clause that it takes
 pub record TakesClause (job : Job) (new : Sheet) (holes : List Hole) : Type 0 where

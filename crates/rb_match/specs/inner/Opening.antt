@@ -24,15 +24,15 @@ use Rattle.rb_target.specs.Growth.{Grows}
 use Rattle.rb_target.specs.Laws.{Law}
 use Rattle.rb_target.specs.Meaning.{World, Next, Callee}
 use Rattle.rb_target.specs.Sheet.{Sheet, IsHole}
-use Rattle.rb_target.specs.Targets.{Finishes, IsIn}
+use Rattle.rb_target.specs.Targets.{Finishes, IsHoleAmong}
 use Rattle.rb_layout.specs.declared.agreed.LaidOut.{LaidOut}
 use Rattle.rb_layout.specs.declared.layout.Layout.{Layout}
 use Rattle.rb_layout.specs.Positions.{layout_of, leaf_of}
 use Rattle.rb_rel.specs.Switches.{depth_of}
 use Rattle.rb_fragment.specs.Adding.{Adds}
 use Rattle.rb_fragment.specs.Arms.{AreOfOneWay}
-use Rattle.rb_fragment.specs.Plan.{Plan, words_of}
-use Rattle.rb_fragment.specs.Pieces.{Leaves}
+use Rattle.rb_fragment.specs.Plan.{Plan, words_needed}
+use Rattle.rb_fragment.specs.Pieces.{GoesOutBy}
 use Rattle.rb_fragment.specs.declared.reads.Read.{Read}
 use Rattle.rb_fragment.specs.Slots.{AllBelow}
 use Rattle.rb_fragment.specs.WordReads.{AllFit}
@@ -58,14 +58,15 @@ pending i (h ∷ hs) = if nat_le i h.leaf then h ∷ pending i hs else pending i
 
 -- those of the holes whose `leaf`, the number of a group of leaves, is i or higher are holes of the code
 abbrev pub CanOpen : List Instr → List Hole → ℕ → Type 0
-CanOpen code holes i = (h : Hole) → IsIn h (pending i holes) → IsHole code h
+CanOpen code holes i = (h : Hole) → IsHoleAmong h (pending i holes) → IsHole code h
 
 -- Behind code that finds a leaf, from the sheet `mid` up to instruction `top`, stand the ways of the groups below i,
 -- and leave by these edges; the holes of the other groups are open. Each target of the edges leads to one node.
 pub record WaysStand (mid : Sheet) (top : ℕ) (holes : List Hole) (i : ℕ) (b : Sheet) (edges : List Edge) : Type 0 where
   pub grows : Grows mid.code b.code
   pub high : top ≤ length b.code
-  pub are_holes : (h : Hole) → IsIn h (pending i holes) → (length mid.code ≤ h.pc) × (h.pc < top) × IsHole b.code h
+  pub are_holes : (h : Hole) → IsHoleAmong h (pending i holes) → (length mid.code ≤ h.pc) × (h.pc < top)
+      × IsHole b.code h
   pub are_open : AreOpen top b.code edges
   pub one : LeadOneWay edges
 
@@ -157,7 +158,7 @@ pub record WaysLead (To : ℕ → View → ℕ → Type 0) (plan : Plan) (n t : 
       (λ final next s w clean v leaf node. (group : ℕ) → group_at groups leaf ≡ Some group
       → (group < i → LeavesWhere (To node) plan final next edges n (choosing_look plan.layouts (Named t))
       (length mid.code) s w clean v spots)
-      × (i ≤ group → Leaves final next holes mid.slots (depth_of plan.layouts (Named t)) (length mid.code) s w group
+      × (i ≤ group → GoesOutBy final next holes mid.slots (depth_of plan.layouts (Named t)) (length mid.code) s w group
       (λ s' m. Unit {0})))
 
 -- only leaf i has the group i, and has fields to save; no leaf has it where leaf i goes nowhere
@@ -175,7 +176,7 @@ pub record StepsWay (agreed : LaidOut) (t : ℕ) (words : List ℕ) (spots : Lis
       (groups : List (Option ℕ)) (plan : Plan) (n : ℕ) (mid : Sheet) (top : ℕ)
       → LeadsLeaf agreed graph t known position arms other i found → IsAlone groups i found
       → IsPlanOf agreed plan → AreSpots plan n mid.slots spots → AllBelow mid.slots words
-      → length words ≡ words_of plan (Named t) → AreOfOneWay holes → WaysStand mid top holes i old edges
+      → length words ≡ words_needed plan (Named t) → AreOfOneWay holes → WaysStand mid top holes i old edges
       → WaysLead (IsOnward agreed graph) plan n t words spots known position.now arms other groups mid holes i old edges
       → WaysLead (IsOnward agreed graph) plan n t words spots known position.now arms other groups mid holes (i + 1)
       new more
@@ -185,7 +186,7 @@ abbrev pub LeadsAll : LaidOut → Whole → ℕ → List ℕ → List Spot → L
     → List (Option Onward) → List (Option ℕ) → ℕ → Sheet → List Hole → Sheet → List Edge → Type 0
 LeadsAll agreed graph t words spots known position arms other onward groups i old holes new edges =
     (plan : Plan) (n : ℕ) → LeadLeaves agreed graph t known position arms other onward → IsPlanOf agreed plan
-    → AreSpots plan n old.slots spots → AllBelow old.slots words → length words ≡ words_of plan (Named t)
+    → AreSpots plan n old.slots spots → AllBelow old.slots words → length words ≡ words_needed plan (Named t)
     → WaysLead (IsOnward agreed graph) plan n t words spots known position.now arms other groups old holes i new edges
 
 -- the ways of the groups below i lead on, for groups of the leaves that follow from where their values go on
@@ -218,7 +219,7 @@ LeadsWays agreed t words spots known position onward old new edges =
     (graph : Whole) (arms : List GraphArm) (other : Option ℕ) (plan : Plan) (n : ℕ)
     → LeadLeaves agreed graph t known position arms other onward
     → IsPlanOf agreed plan → AreSpots plan n old.slots spots → AllBelow old.slots words
-    → length words ≡ words_of plan (Named t)
+    → length words ≡ words_needed plan (Named t)
     → PartLeads (IsOnward agreed graph) plan n t words spots known position.now arms other old new edges
 
 -- Tests -----------------------------------------------------------------------------------------
@@ -229,7 +230,7 @@ abbrev pub AsksDeep : LaidOut → Whole → ℕ → List Spot → List Read → 
     → Sheet → Sheet → List Edge → Type 0
 AsksDeep agreed graph t spots reads known position arms other old new edges =
     (plan : Plan) (n : ℕ) → IsPlanOf agreed plan → AreSpots plan n old.slots spots → AllFit old.slots reads
-    → length reads ≡ words_of plan (Named t)
+    → length reads ≡ words_needed plan (Named t)
     → AskedThere (IsOnward agreed graph) plan (Named t) n spots reads known position arms other old new edges
 
 -- the code tests the part at a position over reads of the whole value that a graph is about: each run leaves by an
@@ -238,5 +239,5 @@ abbrev pub Asks : LaidOut → Whole → List Read → List Spot → List Known �
     → Sheet → List Edge → Type 0
 Asks agreed graph words spots known position arms other old new edges =
     (plan : Plan) (n : ℕ) → IsPlanOf agreed plan → AreSpots plan n old.slots spots → AllFit old.slots words
-    → length words ≡ words_of plan graph.ty
+    → length words ≡ words_needed plan graph.ty
     → Asked (IsOnward agreed graph) plan graph.ty n words graph.pats.now spots known position arms other old new edges

@@ -16,7 +16,7 @@ use Rattle.rb_core.specs.declared.pattern.Pat.{Pat}
 use Rattle.rb_bytes.specs.Memory.{Memory, IsGood}
 use Rattle.rb_layout.specs.declared.agreed.LaidOut.{LaidOut}
 use Rattle.rb_fragment.specs.declared.reads.Read.{Read}
-use Rattle.rb_fragment.specs.Plan.{Plan, Rep, words_of}
+use Rattle.rb_fragment.specs.Plan.{Plan, Rep, words_needed}
 use Rattle.rb_fragment.specs.WordReads.{AreMeant, AllFit}
 use Rattle.rb_fetch.specs.Fields.{FieldAt, IsPartMeant}
 use Rattle.rb_fetch.specs.Finding.{IsPlanOf}
@@ -35,14 +35,15 @@ IsFieldOf agreed t leaf path ty = (plan : Plan) → IsPlanOf agreed plan → Fie
 
 -- each of these spots has as many slots as its type has words
 abbrev pub HaveWords : Plan → List Spot → Type 0
-HaveWords plan spots = (k : ℕ) (spot : Spot) → slice_get spots k ≡ Some spot → length spot.slots ≡ words_of plan spot.ty
+HaveWords plan spots = (k : ℕ) (spot : Spot) → slice_get spots k ≡ Some spot → length spot.slots
+    ≡ words_needed plan spot.ty
 
 -- Where these facts are known of a value of type `ty`, over reads of its words and spots for its parts, the place has
 -- the reads of its part at the position, one for each word. They fit as many slots as the value's reads do, if the
 -- spots' slots are among these.
 pub record ReadsPlace (plan : Plan) (ty : Ty) (words : List Read) (spots : List Spot) (known : List Known)
     (position : List ℕ) (place : Place) : Type 0 where
-  pub count : length place.reads ≡ words_of plan place.ty
+  pub count : length place.reads ≡ words_needed plan place.ty
   pub fit : (k : ℕ) → AllFit k words → SpotsBelow k spots → AllFit k place.reads
   pub means : (clean : Bool) (v : Value) (ws s : List ℕ) (m : Memory) → IsGood m → AreMeant words s m ws
       → Rep plan m clean ty v ws → AreKnown (seen plan clean v spots s m) known
@@ -51,7 +52,7 @@ pub record ReadsPlace (plan : Plan) (ty : Ty) (words : List Read) (spots : List 
 -- in each plan of the layouts the place is where the part of the value at the position is, if these facts are known
 abbrev pub FindsPlace : LaidOut → Ty → List Read → List Spot → List Known → List ℕ → Place → Type 0
 FindsPlace agreed ty words spots known position place =
-    (plan : Plan) → IsPlanOf agreed plan → length words ≡ words_of plan ty → HaveWords plan spots
+    (plan : Plan) → IsPlanOf agreed plan → length words ≡ words_needed plan ty → HaveWords plan spots
     → ReadsPlace plan ty words spots known position place
 
 -- the way to the part at a position begins at the place of the part at the first `from` fields of the position; where
@@ -72,7 +73,7 @@ IsSpotOf agreed spots known position place =
     (ty : Ty) (words : List Read) → FindsPlace agreed ty words spots known position place
 
 -- the place is one of the list
-abbrev pub IsPlaceIn : bounding.Place → List bounding.Place → Type 0
+abbrev pub IsPlaceIn : bounding.TypedPosition → List bounding.TypedPosition → Type 0
 IsPlaceIn p ps = (k : ℕ) × (slice_get ps k ≡ Some p)
 
 -- a pattern, taken at type t, has a number or a constructor at the position, where the type is `at`

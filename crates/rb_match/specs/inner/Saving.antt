@@ -28,10 +28,10 @@ use Rattle.rb_layout.specs.declared.layout.Layout.{Layout}
 use Rattle.rb_layout.specs.declared.layout.Leaf.{Leaf}
 use Rattle.rb_layout.specs.Positions.{layout_of, leaf_of}
 use Rattle.rb_fetch.specs.Positions.{found_at}
-use Rattle.rb_rel.specs.Switches.{Head, choose_of, heads_of}
+use Rattle.rb_rel.specs.Switches.{HeadAt, choose_of, heads_of}
 use Rattle.rb_fragment.specs.Adding.{Adds}
-use Rattle.rb_fragment.specs.Plan.{Plan, Rep, words_of}
-use Rattle.rb_fragment.specs.Pieces.{AtEnd, Piece, Straight}
+use Rattle.rb_fragment.specs.Plan.{Plan, Rep, words_needed}
+use Rattle.rb_fragment.specs.Pieces.{AtEnd, CodePiece, Straight}
 use Rattle.rb_fragment.specs.Slots.{AllBelow, AllFrom, SlotsAreApart, IsDistinct, IsOneOf}
 use Rattle.rb_fetch.specs.Finding.{IsPlanOf}
 use Rattle.rb_match.specs.declared.knowledge.Known.{Known}
@@ -100,7 +100,7 @@ prov_at layouts t leaf path = pattern_at (provenance (leaf_in (layout_of layouts
 -- is no such part
 abbrev pub mend_pattern : List Layout → Option Pat → ℕ
 mend_pattern layouts None = 0
-mend_pattern layouts (Some p) = sum_by (λ (h : Head). choose_of layouts h.con.ty h.con.con) (heads_of p)
+mend_pattern layouts (Some p) = sum_by (λ (h : HeadAt). choose_of layouts h.con.ty h.con.con) (heads_of p)
 
 -- the switches that rebuild what leaf number `leaf` of data type t took apart at and below a path
 abbrev pub mend_at : List Layout → ℕ → ℕ → List ℕ → ℕ
@@ -110,7 +110,7 @@ mend_at layouts t leaf path = mend_pattern layouts (prov_at layouts t leaf path)
 -- stands right there; 0 where there is no such part
 abbrev pub mend_inside : List Layout → Option Pat → ℕ
 mend_inside layouts None = 0
-mend_inside layouts (Some p) = sum_by (λ (h : Head). choose_of layouts h.con.ty h.con.con) (drop 1 (heads_of p))
+mend_inside layouts (Some p) = sum_by (λ (h : HeadAt). choose_of layouts h.con.ty h.con.con) (drop 1 (heads_of p))
 
 -- the switches that rebuild what leaf number `leaf` of data type t took apart below a path, without what stands at
 -- the path itself
@@ -152,18 +152,18 @@ pub record PartIsFetched (plan : Plan) (t leaf : ℕ) (path : List ℕ) (at : Ty
   pub has : HasPart plan t leaf path
   pub adds : Adds plan old new
   pub given : AllBelow new.slots slots
-  pub count : length slots ≡ words_of plan at
+  pub count : length slots ≡ words_needed plan at
   pub origin : (x : ℕ) → IsOneOf x slots → (old.slots ≤ x) ⊎ IsOneOf x words
   pub runs : (clean : Bool) (v part : Value) (layout : Layout) → layout_of plan.layouts t ≡ Some layout
       → leaf_of layout v ≡ Some leaf → part_at v path ≡ Some part
-      → Piece plan old.slots old new Nowhere (mend_at plan.layouts t leaf path)
+      → CodePiece plan old.slots old new Nowhere (mend_at plan.layouts t leaf path)
       (λ s m. IsThere plan clean t v words s m) (AtEnd new (λ s m. Rep plan m clean at part (slots_at s slots)))
 
 -- in each plan of the layouts the appended code leaves the words of the part at a path of the leaf, which is of type
 -- `at`, in slots
 abbrev pub FetchesPart : LaidOut → ℕ → ℕ → List ℕ → Ty → List ℕ → Sheet → Sheet → List ℕ → Type 0
 FetchesPart agreed t leaf path at words old new slots =
-    (plan : Plan) → IsPlanOf agreed plan → AllBelow old.slots words → length words ≡ words_of plan (Named t)
+    (plan : Plan) → IsPlanOf agreed plan → AllBelow old.slots words → length words ≡ words_needed plan (Named t)
     → PartIsFetched plan t leaf path at words old new slots
 
 -- Saving ----------------------------------------------------------------------------------------
@@ -180,7 +180,7 @@ pub record PartIsSaved (plan : Plan) (n t leaf : ℕ) (path words : List ℕ) (s
   pub apart : SlotsAreApart spot.slots words
   pub runs : (clean : Bool) (v part : Value) (layout : Layout) (s0 : List ℕ) → layout_of plan.layouts t ≡ Some layout
       → leaf_of layout v ≡ Some leaf → part_at v path ≡ Some part
-      → Piece plan n old new Nowhere (mend_at plan.layouts t leaf path)
+      → CodePiece plan n old new Nowhere (mend_at plan.layouts t leaf path)
       (λ s m. (s ≡ s0) × IsThere plan clean t v words s m)
       (AtEnd new (λ s m. KeepsOthers old.slots spot.slots s0 s × Rep plan m clean spot.ty part (slots_at s spot.slots)))
 
@@ -189,8 +189,8 @@ pub record PartIsSaved (plan : Plan) (n t leaf : ℕ) (path words : List ℕ) (s
 abbrev pub SavesPart : LaidOut → ℕ → ℕ → List ℕ → List ℕ → Spot → Sheet → Sheet → Type 0
 SavesPart agreed t leaf path words spot old new =
     (plan : Plan) (n : ℕ) → IsPlanOf agreed plan → n ≤ old.slots → AllFrom n spot.slots → AllBelow old.slots spot.slots
-    → IsDistinct spot.slots → length spot.slots ≡ words_of plan spot.ty
-    → AllBelow old.slots words → length words ≡ words_of plan (Named t)
+    → IsDistinct spot.slots → length spot.slots ≡ words_needed plan spot.ty
+    → AllBelow old.slots words → length words ≡ words_needed plan (Named t)
     → PartIsSaved plan n t leaf path words spot old new
 
 -- the words of a part of data type t stand in slots, and these facts are so of the value v that it is part of
@@ -205,7 +205,7 @@ pub record Knows (plan : Plan) (n most t leaf : ℕ) (words : List ℕ) (spots :
   pub adds : Adds plan old new
   pub runs : (clean : Bool) (v part : Value) (layout : Layout) → layout_of plan.layouts t ≡ Some layout
       → leaf_of layout part ≡ Some leaf → part_at v position ≡ Some part
-      → Piece plan n old new Nowhere most (λ s m. IsThereWith plan clean t v part words spots known s m)
+      → CodePiece plan n old new Nowhere most (λ s m. IsThereWith plan clean t v part words spots known s m)
       (AtEnd new (λ s m. IsThereWith plan clean t v part words spots more s m))
 
 -- the switches that rebuild what a leaf took apart at and below its fields that have these patterns, the first of
@@ -220,7 +220,7 @@ abbrev pub Learns : LaidOut → (Plan → ℕ) → ℕ → ℕ → List ℕ → 
     → Type 0
 Learns agreed most t leaf words spots position known more old new =
     (plan : Plan) (n : ℕ) → IsPlanOf agreed plan → AreSpots plan n old.slots spots → AllBelow old.slots words
-    → length words ≡ words_of plan (Named t)
+    → length words ≡ words_needed plan (Named t)
     → Knows plan n (most plan) t leaf words spots position known more old new
 
 -- the appended code goes from some facts to more on the part that a source tells of, with at most as many switches as

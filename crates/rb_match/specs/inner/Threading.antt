@@ -17,7 +17,7 @@ use Rattle.rb_core.specs.Values.{part_at}
 use Rattle.rb_decide.specs.declared.decision_graph.GraphArm.{GraphArm}
 use Rattle.rb_decide.specs.declared.decision_graph.GraphNode.{GraphNode}
 use Rattle.rb_decide.specs.Graphs.{LinksAreLower}
-use Rattle.rb_decide.specs.Trees.{taken}
+use Rattle.rb_decide.specs.Trees.{clause_taken}
 use Rattle.rb_bytes.specs.Memory.{Memory}
 use Rattle.rb_target.specs.Sheet.{Sheet}
 use Rattle.rb_layout.specs.declared.agreed.LaidOut.{LaidOut}
@@ -30,7 +30,7 @@ use Rattle.rb_fetch.specs.Finding.{IsPlanOf}
 use Rattle.rb_match.specs.declared.knowledge.Known.{Known}
 use Rattle.rb_match.specs.declared.knowledge.Edge.{Edge}
 use Rattle.rb_match.specs.declared.knowledge.Spot.{Spot}
-use Rattle.rb_match.specs.Bounding.{Place}
+use Rattle.rb_match.specs.Bounding.{TypedPosition}
 use Rattle.rb_match.specs.inner.Knowing.{AreKnown, IsKnown, View, seen}
 use Rattle.rb_match.specs.inner.Places.{IsLookedAt}
 use Rattle.rb_match.specs.inner.Asking.{StandOpen, take_link}
@@ -115,9 +115,10 @@ LeadsOn agreed ty pats nodes known n m =
     (plan : Plan) (base : ℕ) (spots : List Spot) (words : List Read) (root : ℕ) (first : Sheet)
     → let job = job_of plan base spots ty words pats nodes root first in
     IsPlanOf agreed plan → LinksAreLower nodes
-    → (clean : Bool) (v : Value) (s : List ℕ) (w : Memory) (clause : ℕ) (path : List Place)
-    → AreKnown (seen plan clean v spots s w) known → taken (tree_at nodes root) v ≡ Some clause → IsOn job v n path
-    → (longer : List Place) × (looks plan path ≤ looks plan longer) × IsOn job v m longer
+    → (clean : Bool) (v : Value) (s : List ℕ) (w : Memory) (clause : ℕ) (path : List TypedPosition)
+    → AreKnown (seen plan clean v spots s w) known → clause_taken (tree_at nodes root) v ≡ Some clause
+    → IsOn job v n path
+    → (longer : List TypedPosition) × (looks plan path ≤ looks plan longer) × IsOn job v m longer
 
 -- the new edge is open where the old one was, to a node to which the old one's leads on, and carries only what
 -- follows from what the old one carried

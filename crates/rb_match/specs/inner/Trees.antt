@@ -14,7 +14,7 @@ use Rattle.rb_core.specs.declared.pattern.Pat.{Pat}
 use Rattle.rb_decide.specs.declared.decision_graph.Graph.{Graph}
 use Rattle.rb_decide.specs.declared.decision_tree.Tree.{Tree}
 use Rattle.rb_decide.specs.Graphs.{LinksAreLower, unfolding_of}
-use Rattle.rb_decide.specs.Trees.{taken, ways}
+use Rattle.rb_decide.specs.Trees.{clause_taken, ways}
 use Rattle.rb_bytes.specs.Memory.{IsGood}
 use Rattle.rb_target.specs.declared.instr.Instr.{Instr}
 use Rattle.rb_target.specs.declared.body.Hole.{Hole}
@@ -24,12 +24,12 @@ use Rattle.rb_target.specs.Sheet.{Sheet}
 use Rattle.rb_target.specs.Targets.{Finishes}
 use Rattle.rb_layout.specs.declared.agreed.LaidOut.{LaidOut}
 use Rattle.rb_fragment.specs.declared.reads.Read.{Read}
-use Rattle.rb_fragment.specs.Plan.{Plan, Rep, words_of}
+use Rattle.rb_fragment.specs.Plan.{Plan, Rep, words_needed}
 use Rattle.rb_fragment.specs.Adding.{Adds}
-use Rattle.rb_fragment.specs.Pieces.{Leaves}
+use Rattle.rb_fragment.specs.Pieces.{GoesOutBy}
 use Rattle.rb_fragment.specs.WordReads.{AreMeant, AllFit}
 use Rattle.rb_fetch.specs.Finding.{IsPlanOf}
-use Rattle.rb_match.specs.Bounding.{Place}
+use Rattle.rb_match.specs.Bounding.{TypedPosition}
 use Rattle.rb_match.specs.inner.Places.{IsLookedAt, IsPlaceIn}
 use Rattle.rb_match.specs.inner.Flowing.{HasWay, path_of, looks}
 
@@ -37,10 +37,10 @@ use Rattle.rb_match.specs.inner.Flowing.{HasWay, path_of, looks}
 -- the places of one way through the tree: with at most the switches of these, and the first n slots kept
 pub record LeavesTree (plan : Plan) (ty : Ty) (pats : List Pat) (tree : Tree) (final : List Instr) (next : Next)
     (holes : List Hole) (n start : ℕ) (s : List ℕ) (w : World) (k : ℕ) : Type 0 where
-  pub path : List Place
+  pub path : List TypedPosition
   pub is_way : HasWay (ways tree) (map path_of path)
-  pub looked : (p : Place) → IsPlaceIn p path → IsLookedAt plan.program.types ty pats p.path p.ty
-  pub leaves : Leaves final next holes n (looks plan path) start s w k (λ s' m. Unit {0})
+  pub looked : (p : TypedPosition) → IsPlaceIn p path → IsLookedAt plan.program.types ty pats p.path p.ty
+  pub leaves : GoesOutBy final next holes n (looks plan path) start s w k (λ s' m. Unit {0})
 
 -- what the code of a decision tree owes in one plan: the code from old to new, over reads of the words of a value of
 -- type ty, adds to the old code, and each run of it, in any finished code that closes its holes, leaves by a hole of
@@ -52,13 +52,14 @@ pub record TakesTreeIn (plan : Plan) (ty : Ty) (words : List Read) (pats : List 
       → Finishes final new.code holes (length old.code) (length new.code)
       → (s : List ℕ) (w : World) (v : Value) (clean : Bool) (ws : List ℕ) (k : ℕ) → new.slots ≤ length s
       → IsGood w.memory → AreMeant words s w.memory ws → Rep plan w.memory clean ty v ws
-      → taken tree v ≡ Some k → LeavesTree plan ty pats tree final next holes old.slots (length old.code) s w k
+      → clause_taken tree v ≡ Some k → LeavesTree plan ty pats tree final next holes old.slots (length old.code) s w k
 
 -- in each plan of the layouts the code from old to new, over reads of the value's words, leads each value out by a
 -- hole of the clause that the tree takes of it
 abbrev pub TakesTree : LaidOut → Ty → List Read → List Pat → Tree → Sheet → Sheet → List Hole → Type 0
 TakesTree agreed ty words pats tree old new holes =
-    (plan : Plan) → IsPlanOf agreed plan → ((k : ℕ) → old.slots ≤ k → AllFit k words) → length words ≡ words_of plan ty
+    (plan : Plan) → IsPlanOf agreed plan → ((k : ℕ) → old.slots ≤ k → AllFit k words) → length words
+    ≡ words_needed plan ty
     → TakesTreeIn plan ty words pats tree old new holes
 
 -- the code from old to new leads each value out by a hole of the clause that the tree takes to which the graph

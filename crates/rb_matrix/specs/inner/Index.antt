@@ -31,12 +31,12 @@ abbrev pub HasKey : Pat → List ℕ → ℕ → Type 0
 HasKey p path k = (v : Value) → matches_of p v ≡ true → key_of v path ≡ k
 
 -- number j stands in the group of key k; where there is no such group, no number does
-abbrev pub IsIn : Index → ℕ → ℕ → Type 0
-IsIn x k j = MatchOption (tree.get nat_cmp x.groups k) ⊥ (λ g. Contains g j)
+abbrev pub IsInGroup : Index → ℕ → ℕ → Type 0
+IsInGroup x k j = MatchOption (tree.get nat_cmp x.groups k) ⊥ (λ g. Contains g j)
 
 -- pattern p, with number j, stands among those without a key, or in the group of a key that it has
 abbrev pub IsIndexed : Index → ℕ → Pat → Type 0
-IsIndexed x j p = Contains x.keyless j ⊎ ((k : ℕ) × HasKey p x.path k × IsIn x k j)
+IsIndexed x j p = Contains x.keyless j ⊎ ((k : ℕ) × HasKey p x.path k × IsInGroup x k j)
 
 -- x is an index of these patterns: each has its place among the numbers in x, which may hold other numbers too
 abbrev pub IsIndex : List Pat → Index → Type 0
@@ -51,8 +51,8 @@ ExtendsIndex i p old new = (ps : List Pat) → length ps ≡ i → IsIndex ps ol
 pub record IsGrouped (k i : ℕ) (old new : Index) : Type 0 where
   pub path : new.path ≡ old.path
   pub keyless : new.keyless ≡ old.keyless
-  pub here : IsIn new k i
-  pub kept : (q j : ℕ) → IsIn old q j → IsIn new q j
+  pub here : IsInGroup new k i
+  pub kept : (q j : ℕ) → IsInGroup old q j → IsInGroup new q j
 
 -- wherever x is an index of n patterns, each of them has its number among js, or no value matches both it and p
 abbrev pub AreNear : Pat → ℕ → Index → List ℕ → Type 0

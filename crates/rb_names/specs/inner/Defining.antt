@@ -11,7 +11,7 @@ use Rattle.rb_names.specs.declared.fault.NameFault.{NameFault}
 use Rattle.rb_names.specs.declared.tables.Tables.{Tables}
 use Rattle.rb_names.specs.declared.tables.Defining.{Defining}
 use Rattle.rb_names.specs.Tables.{Name, Table, meaning}
-use Rattle.rb_names.specs.Definitions.{Kind, OfType, OfConstructor, OfFunction, OfLayout, Definition, same_kind, first_again, numbered_from, constructors_of, type_names, types_in, function_names}
+use Rattle.rb_names.specs.Definitions.{TableKind, OfType, OfConstructor, OfFunction, OfLayout, Definition, same_kind, first_again, numbered_from, constructors_of, type_names, types_in, function_names}
 use Rattle.rb_names.specs.Answers.{AnswersNumbering}
 use Rattle.rb_names.specs.Programs.{no_twice}
 
@@ -22,11 +22,11 @@ defined table name x (Some before) = table
 defined table name x None = table ++ (name, x) ∷ []
 
 -- whether this name is among these definitions as one of kind k, that is, in the table of that kind
-abbrev pub is_defined : Kind → Name → List Definition → Bool
+abbrev pub is_defined : TableKind → Name → List Definition → Bool
 is_defined k name before = list_any (λ (d : Definition). same_kind k d.kind && bytes_eq name d.name.text) before
 
 -- the table has exactly the names that are among these definitions as ones of kind k
-abbrev pub Knows : {A : Type 0} → Kind → List Definition → Table A → Type 0
+abbrev pub Knows : {A : Type 0} → TableKind → List Definition → Table A → Type 0
 Knows k before table = (name : Name) → is_some (meaning table name) ≡ is_defined k name before
 
 -- each table, and that of the types with a layout, has exactly the names that were defined in it before

@@ -6,8 +6,8 @@ use Rattle.rb_names.specs.declared.items.Items.{Items}
 use Rattle.rb_names.specs.Numbering.{Resolved, Numbered, and_then, numbered_as}
 
 -- the parts xs with those of the rest behind them; the rest's fault, if it has one
-abbrev pub behind : {A : Type 0} → List A → Resolved (List A) → Resolved (List A)
-behind xs rest = and_then rest (λ ys. Ok (xs ++ ys))
+abbrev pub parts_before : {A : Type 0} → List A → Resolved (List A) → Resolved (List A)
+parts_before xs rest = and_then rest (λ ys. Ok (xs ++ ys))
 
 -- the parts xs with those of the rest behind them, and the number of the next binder behind all of them; the
 -- rest's fault, if it has one

@@ -13,16 +13,16 @@ pub data Fault : Type 0 where
   deep : (left : ℕ) → Fault
 
 -- what reading gives: a part and the tokens behind it, or why none is read
-abbrev pub Reading : Type 0 → Type 0
-Reading A = Result (A × List Token) Fault
+abbrev pub ReadOutcome : Type 0 → Type 0
+ReadOutcome A = Result (A × List Token) Fault
 
 -- a reader of a part, which takes the part from the front of the tokens, or says why none is read there
 abbrev pub Reader : Type 0 → Type 0
-Reader A = List Token → Reading A
+Reader A = List Token → ReadOutcome A
 
 infixl 10 ◌>>=◌
 -- goes on with what was read and the tokens behind it; a fault stays
-abbrev pub ◌>>=◌ : {A B : Type 0} → Reading A → (A × List Token → Reading B) → Reading B
+abbrev pub ◌>>=◌ : {A B : Type 0} → ReadOutcome A → (A × List Token → ReadOutcome B) → ReadOutcome B
 (Ok x) >>= f = f x
 (Err e) >>= f = Err e
 
@@ -61,7 +61,7 @@ abbrev pub expect_word : Word → Reader (Unit {0})
 expect_word w = passing (λ t. is_word w t)
 
 -- what is read of a list, with the parts `xs` in front of it; a fault stays
-abbrev pub with_all : {A : Type 0} → List A → Reading (List A) → Reading (List A)
+abbrev pub with_all : {A : Type 0} → List A → ReadOutcome (List A) → ReadOutcome (List A)
 with_all xs r = r >>= λ y. Ok (xs ++ y.0, y.1)
 
 -- the parts of a list from part `x` on, over the tokens behind it: a separator and others, which `go` reads, or the

@@ -5,7 +5,7 @@ use Rattle.rb_syntax.specs.declared.token.Token.{Token}
 use Rattle.rb_syntax.specs.declared.tree.ItemTree.{ItemTree}
 use Rattle.rb_syntax.specs.declared.tree.FileTree.{FileTree}
 use Rattle.rb_read.specs.Exact.{IsSpelled}
-use Rattle.rb_read.specs.inner.Combining.{Fault, stuck, Reading}
+use Rattle.rb_read.specs.inner.Combining.{Fault, stuck, ReadOutcome}
 
 -- some file begins with these tokens, or is just these
 abbrev pub IsPrefix : List Token → Type 0
@@ -17,6 +17,6 @@ ended items [] = Ok (record { items = items })
 ended items (t ∷ ts) = Err (stuck (suc (length ts)))
 
 -- the file of what reading its items gives; it is stuck where a token is left behind them, and a fault stays
-unfoldable pub whole_file : Reading (List ItemTree) → Result FileTree Fault
+unfoldable pub whole_file : ReadOutcome (List ItemTree) → Result FileTree Fault
 whole_file (Ok x) = ended x.0 x.1
 whole_file (Err e) = Err e

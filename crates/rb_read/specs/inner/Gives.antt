@@ -28,13 +28,13 @@ Gives seen (Ok x) r = r ≡ Ok (seen x)
 Gives seen (Err e) r = Fails e r
 
 -- what code answers: what it read, an A, and the tokens behind it, or why reading stops
-abbrev pub Answer : Type 0 → Type 0
-Answer A = Result (A × Bor (List Placed)) stops.Stop
+abbrev pub ReadAnswer : Type 0 → Type 0
+ReadAnswer A = Result (A × Bor (List Placed)) stops.Stop
 
 -- each answer that code with the postcondition `may` can give to tokens is what the reader gives there, or want of
 -- memory; the places of the tokens do not matter
-abbrev pub Reads : {A : Type 0} → Reader A → (Bor (List Placed) → Answer A → Type 0) → Type 0
-Reads {A} reader may = (placed : Bor (List Placed)) (result : Answer A) → may placed result
+abbrev pub Reads : {A : Type 0} → Reader A → (Bor (List Placed) → ReadAnswer A → Type 0) → Type 0
+Reads {A} reader may = (placed : Bor (List Placed)) (result : ReadAnswer A) → may placed result
     → Gives (λ x. (x.0, tokens x.1.now)) result (reader (tokens placed.now))
 
 -- each answer that code with the postcondition `may` can give to tokens is whether there is a first token, and it

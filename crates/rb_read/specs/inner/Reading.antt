@@ -33,7 +33,7 @@ use Rattle.rb_syntax.specs.declared.tree.SplitTree.TheVariants as split
 use Rattle.rb_syntax.specs.declared.tree.ArmTree.{ArmTree}
 use Rattle.rb_syntax.specs.declared.tree.ItemTree.{ItemTree}
 use Rattle.rb_syntax.specs.declared.tree.ItemTree.TheVariants as top
-use Rattle.rb_syntax.specs.Spelling.{is_width}
+use Rattle.rb_syntax.specs.Spelling.{is_uint_width}
 use Rattle.rb_read.specs.declared.starting.Form.{Form}
 use Rattle.rb_read.specs.declared.starting.Form.TheVariants as form
 use Rattle.rb_read.specs.inner.Starting.{is_symbol, is_word, is_number, form_of}
@@ -53,7 +53,7 @@ refused ts = Err (stuck (suc (length ts)))
 -- a type, by its first token and over those behind it: of integers of 1 to 64 bits, or a name with a capital, with
 -- the number of its token; a width of 0 or over 64, and any other token, is refused
 unfoldable pub type_from : ℕ → Token → Reader TyTree
-type_from total (token.Uint bits) ts = if is_width bits then Ok (ty.Int bits, ts) else refused ts
+type_from total (token.Uint bits) ts = if is_uint_width bits then Ok (ty.Int bits, ts) else refused ts
 type_from total (token.Upper name) ts = Ok (ty.Named (named (total - suc (length ts)) name), ts)
 type_from total _ ts = refused ts
 

@@ -2,7 +2,7 @@
 use Rattle.std.specs.Prelude.{ℕ, suc, ◌-◌, ◌^◌, ◌∷◌, length, nat_lt, if◌then◌else◌, Ok, Err}
 use Rattle.rb_syntax.specs.declared.token.Token.TheVariants as token
 use Rattle.rb_syntax.specs.declared.tree.NameTree.{NameTree}
-use Rattle.rb_syntax.specs.Spelling.{is_width}
+use Rattle.rb_syntax.specs.Spelling.{is_uint_width}
 use Rattle.rb_read.specs.inner.Combining.{Reader, stuck}
 
 -- a name that begins with a small letter, with the number of its token, of `total` tokens in all
@@ -27,5 +27,5 @@ field ts = Err (stuck (length ts))
 
 -- the width in bits of a type of integers, 1 to 64; it is stuck at one of 0 or over 64
 unfoldable pub width : Reader ℕ
-width (token.Uint bits ∷ ts) = if is_width bits then Ok (bits, ts) else Err (stuck (suc (length ts)))
+width (token.Uint bits ∷ ts) = if is_uint_width bits then Ok (bits, ts) else Err (stuck (suc (length ts)))
 width ts = Err (stuck (length ts))

@@ -13,8 +13,8 @@ use Rattle.rb_target.specs.declared.instr.AluOp.TheVariants.{Add, Sub, Mul, And,
 use Rattle.rb_target.specs.declared.instr.SwitchArm.{SwitchArm}
 use Rattle.rb_target.specs.declared.instr.Instr.{Instr}
 use Rattle.rb_target.specs.declared.instr.Instr.TheVariants.{Const, Copy, Alu, Take, Put, Load, Store, Place, Jump, Switch, Call, Return}
-use Rattle.rb_target.specs.declared.word.Word.{Word}
-use Rattle.rb_target.specs.declared.word.Word.TheVariants.{Number, Op, Dash, Of}
+use Rattle.rb_target.specs.declared.word.LineWord.{LineWord}
+use Rattle.rb_target.specs.declared.word.LineWord.TheVariants.{Number, Op, Dash, Of}
 use Rattle.rb_target.specs.declared.word.Key.{Key}
 use Rattle.rb_target.specs.declared.word.Key.TheVariants as key
 use Rattle.rb_target.specs.declared.read.spot.Field.{Field}
@@ -65,12 +65,12 @@ abbrev pub is_op_front : List ℕ → Bool
 is_op_front w = list_any (λ o. starts_with nat_eq (op_text o) w) ops
 
 -- an operation as a word, where there is one
-abbrev pub op_word : Option AluOp → Option Word
+abbrev pub op_word : Option AluOp → Option LineWord
 op_word None = None
 op_word (Some op) = Some (Op op)
 
 -- the word that is written so and is no number, if it may stand in a field; else None
-abbrev pub named_word : Field → List ℕ → Option Word
+abbrev pub named_word : Field → List ℕ → Option LineWord
 named_word Operation w = op_word (op_of_word w)
 named_word OrDash w = if pointwise nat_eq w (codes "-") then Some Dash else None
 named_word OrOf w = if pointwise nat_eq w (codes "of") then Some Of else None
@@ -78,12 +78,12 @@ named_word f w = None
 
 -- the word that is written so, if it may stand in a field; else None. The number that the bytes spell, or None where
 -- they spell none, is given with them
-abbrev pub numbered_word : Field → List ℕ → Option ℕ → Option Word
+abbrev pub numbered_word : Field → List ℕ → Option ℕ → Option LineWord
 numbered_word f w (Some n) = if has f n then Some (Number n) else None
 numbered_word f w None = named_word f w
 
 -- the word that is written so, if it may stand in a field; else None, as for the empty word
-abbrev pub word_in : Field → List ℕ → Option Word
+abbrev pub word_in : Field → List ℕ → Option LineWord
 word_in f w = numbered_word f w (number_of_word w)
 
 -- whether some word that is no number and may stand in a field begins with these bytes, or is them
@@ -145,7 +145,7 @@ next_field (f ∷ fs) = f
 -- the fields to come behind a word in the field f, where the fields fs come behind that: behind the offset n of bits
 -- a length from 1 to 64 - n, behind an arm's number its target, behind that perhaps one arm more, behind a slot of a
 -- list perhaps one more, where only `of` ends the list of results of a call; else just fs
-abbrev pub behind_field : Field → List Field → Word → List Field
+abbrev pub behind_field : Field → List Field → LineWord → List Field
 behind_field Range fs (Number n) = FromOne (64 - n) ∷ fs
 behind_field Pairs fs w = Target ∷ fs
 behind_field Target fs w = Pairs ∷ fs
@@ -154,7 +154,7 @@ behind_field Slots fs w = Slots ∷ fs
 behind_field f fs w = fs
 
 -- the fields to come behind one word more, in the first of these; none where none are left
-abbrev pub fields_after : List Field → Word → List Field
+abbrev pub fields_after : List Field → LineWord → List Field
 fields_after [] w = []
 fields_after (f ∷ fs) w = behind_field f fs w
 
@@ -171,37 +171,37 @@ abbrev pub first_line : Key → Line
 first_line k = record { key = k; words = []; rest = fields k }
 
 -- the line with one word more, which may stand in the next field
-abbrev pub after_word : Line → Word → Line
+abbrev pub after_word : Line → LineWord → Line
 after_word l w = record { key = l.key; words = l.words ++ w ∷ []; rest = fields_after l.rest w }
 
 -- Instructions ---------------------------------------------------------------------------------
 
 -- the number that a word is, or 0 for a word that is no number
-abbrev pub value_of : Word → ℕ
+abbrev pub value_of : LineWord → ℕ
 value_of (Number n) = n
 value_of w = 0
 
 -- the number that a word is, or 0 if there is no word or it is no number
-abbrev pub value_in : Option Word → ℕ
+abbrev pub value_in : Option LineWord → ℕ
 value_in None = 0
 value_in (Some w) = value_of w
 
 -- the number at a place among the words, from 0 on
-abbrev pub number_at : List Word → ℕ → ℕ
+abbrev pub number_at : List LineWord → ℕ → ℕ
 number_at ws k = value_in (slice_get ws k)
 
 -- the number at a place as a byte: its last eight bits, which are the whole number in a whole line, as numbers of
 -- bits, offsets and lengths of bits and widths are at most 64 there
-abbrev pub byte_at : List Word → ℕ → ℕ
+abbrev pub byte_at : List LineWord → ℕ → ℕ
 byte_at ws k = number_at ws k % 256
 
 -- the operation that a word is, or Add if there is no word or it is none
-abbrev pub op_in : Option Word → AluOp
+abbrev pub op_in : Option LineWord → AluOp
 op_in (Some (Op op)) = op
 op_in o = Add
 
 -- the target that a word is, or None if there is no word or it is no number, as `-`
-abbrev pub target_in : Option Word → Option ℕ
+abbrev pub target_in : Option LineWord → Option ℕ
 target_in (Some (Number n)) = Some n
 target_in o = None
 
@@ -211,11 +211,11 @@ paired_by arms None n = record { arms = arms; number = Some n }
 paired_by arms (Some m) n = record { arms = arms ++ record { number = m; target = n } ∷ []; number = None }
 
 -- the arms read so far, with one word more: the number of an arm, or the target behind it
-abbrev pub paired : Arms → Word → Arms
+abbrev pub paired : Arms → LineWord → Arms
 paired a w = paired_by a.arms a.number (value_of w)
 
 -- the arms that words spell, each a number and its target; a last number without a target is left out
-abbrev pub arms_in : List Word → List SwitchArm
+abbrev pub arms_in : List LineWord → List SwitchArm
 arms_in ws = (fold paired (record { arms = []; number = None }) ws).arms
 
 -- the two lists of a call with one number more, at the end of the second where `of` was read, else of the first
@@ -224,17 +224,17 @@ listed_by true l n = record l { froms = l.froms ++ n ∷ [] }
 listed_by false l n = record l { dests = l.dests ++ n ∷ [] }
 
 -- the two lists of a call with one word more: `of` begins the second, and once more it changes nothing
-abbrev pub listed : Lists → Word → Lists
+abbrev pub listed : Lists → LineWord → Lists
 listed l Of = record l { behind = true }
 listed l w = listed_by l.behind l (value_of w)
 
 -- the two lists that words spell, the first before `of` and the second behind it; without `of` the second is empty
-abbrev pub lists_in : List Word → Lists
+abbrev pub lists_in : List LineWord → Lists
 lists_in ws = fold listed (record { dests = []; froms = []; behind = false }) ws
 
 -- the instruction that a key and the words of a whole line behind it spell; for words of no whole line, 0 stands for
 -- a number that is missing and Add for an operation
-abbrev pub instruction_of : Key → List Word → Instr
+abbrev pub instruction_of : Key → List LineWord → Instr
 instruction_of key.Const ws = Const (number_at ws 0) (number_at ws 1)
 instruction_of key.Copy ws = Copy (number_at ws 0) (number_at ws 1)
 instruction_of key.Alu ws =

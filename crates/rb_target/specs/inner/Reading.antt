@@ -8,7 +8,7 @@ use Rattle.rb_target.specs.Stopping.{IsTextOf, StopsAt}
 use Rattle.rb_target.specs.declared.fault.CodeFault.{CodeFault}
 use Rattle.rb_target.specs.declared.fault.CodeFault.TheVariants.{CodeSyntax, Memory}
 use Rattle.rb_target.specs.inner.Fields.{number_of_word, is_open, word_in, is_word_front, is_key_front, key_of_word, next_field, may_end, first_line, after_word, instruction_of}
-use Rattle.rb_target.specs.declared.word.Word.{Word}
+use Rattle.rb_target.specs.declared.word.LineWord.{LineWord}
 use Rattle.rb_target.specs.declared.code.CodeFun.{CodeFun}
 use Rattle.rb_target.specs.declared.word.Key.{Key}
 use Rattle.rb_target.specs.declared.read.spot.Turn.{Turn}
@@ -57,7 +57,7 @@ started f g (Some k) = line_next f (first_line k) g
 
 -- the move behind one word more of the line l in the function f, by the gap g; refused where no word was read
 -- that may stand there
-abbrev pub worded : CodeFun → Line → ℕ → Option Word → Move
+abbrev pub worded : CodeFun → Line → ℕ → Option LineWord → Move
 worded f l g None = Refused
 worded f l g (Some w) = line_next f (after_word l w) g
 

@@ -5,7 +5,7 @@ ghost use Rattle.rb_target.specs.inner.Fields as spec;
 
 use super::spot::Field;
 use crate::instr::{AluOp, OPS};
-use crate::word::{KEYS, Key, Word, key_name, op_name};
+use crate::word::{KEYS, Key, LineWord, key_name, op_name};
 use rb_core::decimal::number_in;
 
 /// The key that is written so, or none if none is; `end` is none.
@@ -109,16 +109,16 @@ impl Field {
     }
 
     // The word that is written so, which is no number, if it may stand there; else none.
-    fn name(self, text: &[u8]) -> Option<Word>
+    fn name(self, text: &[u8]) -> Option<LineWord>
         ensures { result ≡ spec.named_word self text.now }
     {
         match self {
             Field::Operation => match op_of_word(text) {
-                Some(op) => Some(Word::Op(op)),
+                Some(op) => Some(LineWord::Op(op)),
                 None => None,
             },
-            Field::OrDash if text == b"-".as_slice() => Some(Word::Dash),
-            Field::OrOf if text == b"of".as_slice() => Some(Word::Of),
+            Field::OrDash if text == b"-".as_slice() => Some(LineWord::Dash),
+            Field::OrOf if text == b"of".as_slice() => Some(LineWord::Of),
             Field::Any
             | Field::Upto(_)
             | Field::FromOne(_)
@@ -135,11 +135,11 @@ impl Field {
     }
 
     /// The word that is written so, if it may stand there; else none, as for the empty word.
-    pub fn word(self, text: &[u8]) -> Option<Word>
+    pub fn word(self, text: &[u8]) -> Option<LineWord>
         ensures { result ≡ spec.word_in self text.now }
     {
         match number_of_word(text) {
-            Some(number) if self.has(number) => Some(Word::Number(number)),
+            Some(number) if self.has(number) => Some(LineWord::Number(number)),
             Some(_) => None,
             None => self.name(text),
         }

@@ -6,7 +6,7 @@ ghost use Rattle.rb_target.specs.inner.Fields as spec;
 
 use super::spot::{Field, Line};
 use crate::instr::{AluOp, Instr, SwitchArm};
-use crate::word::{Key, Word};
+use crate::word::{Key, LineWord};
 use rb_core::seq::Seq;
 use std::alloc::{AllocError, Global};
 
@@ -42,7 +42,7 @@ impl Key {
 
 // The fields to come behind a word in the first of those given; none where none are left. Behind
 // an offset of bits comes the length that fits; a list leaves a field for its next item.
-fn fields_after(rest: Seq<Field>, word: Word) -> Seq<Field>
+fn fields_after(rest: Seq<Field>, word: LineWord) -> Seq<Field>
     ensures { result ≡ spec.fields_after rest word }
 {
     let mut fields = rest.into_vec();
@@ -50,12 +50,12 @@ fn fields_after(rest: Seq<Field>, word: Word) -> Seq<Field>
         return Seq::from_vec(fields);
     }
     match (fields[0], word) {
-        (Field::Range, Word::Number(offset)) => {
+        (Field::Range, LineWord::Number(offset)) => {
             fields[0] = Field::FromOne(64u64.saturating_sub(offset));
         }
         (Field::Pairs, _) => fields[0] = Field::Target,
         (Field::Target, _) => fields[0] = Field::Pairs,
-        (Field::OrOf, Word::Number(_)) | (Field::Slots, _) => {}
+        (Field::OrOf, LineWord::Number(_)) | (Field::Slots, _) => {}
         (
             Field::Any
             | Field::Upto(_)
@@ -130,7 +130,7 @@ impl Line {
     /// # Errors
     ///
     /// Want of memory.
-    pub fn with_word(self, word: Word) -> Result<Line, AllocError>
+    pub fn with_word(self, word: LineWord) -> Result<Line, AllocError>
         ensures { IfOk result (λ l. l ≡ spec.after_word self word) }
     {
         let Line {
@@ -161,17 +161,17 @@ impl Line {
 // Instructions ---------------------------------------------------------------------------------
 
 // The number that a word is, or 0 for a word that is no number.
-fn value_of(word: Word) -> u64
+fn value_of(word: LineWord) -> u64
     ensures { result ≡ spec.value_of word }
 {
     match word {
-        Word::Number(n) => n,
-        Word::Op(_) | Word::Dash | Word::Of => 0,
+        LineWord::Number(n) => n,
+        LineWord::Op(_) | LineWord::Dash | LineWord::Of => 0,
     }
 }
 
 // The number at a place among the words, or 0 if there is no word or it is no number.
-fn number_at(words: &[Word], at: usize) -> u64
+fn number_at(words: &[LineWord], at: usize) -> u64
     ensures { result ≡ spec.number_at words.now at }
 {
     match words.get(at).copied() {
@@ -181,7 +181,7 @@ fn number_at(words: &[Word], at: usize) -> u64
 }
 
 // The number at a place as a slot, a target or a function's number, or 0 as above.
-fn slot_at(words: &[Word], at: usize) -> usize
+fn slot_at(words: &[LineWord], at: usize) -> usize
     ensures { result ≡ spec.number_at words.now at }
 {
     number_at(words, at) as usize
@@ -189,41 +189,41 @@ fn slot_at(words: &[Word], at: usize) -> usize
 
 // The number at a place as a byte: its last eight bits, which are the whole number in a whole
 // line, as numbers of bits, offsets and lengths of bits and widths are at most 64 there.
-fn byte_at(words: &[Word], at: usize) -> u8
+fn byte_at(words: &[LineWord], at: usize) -> u8
     ensures { result ≡ spec.byte_at words.now at }
 {
     (number_at(words, at) % 256) as u8
 }
 
 // The operation at a place, or `Add` if there is no word or it is none.
-fn op_at(words: &[Word], at: usize) -> AluOp
+fn op_at(words: &[LineWord], at: usize) -> AluOp
     ensures { result ≡ spec.op_in (slice_get words.now at) }
 {
     match words.get(at).copied() {
-        Some(Word::Op(op)) => op,
-        Some(Word::Number(_) | Word::Dash | Word::Of) | None => AluOp::Add,
+        Some(LineWord::Op(op)) => op,
+        Some(LineWord::Number(_) | LineWord::Dash | LineWord::Of) | None => AluOp::Add,
     }
 }
 
 // The target at a place, or none if there is no word or it is no number, as `-`.
-fn target_at(words: &[Word], at: usize) -> Option<usize>
+fn target_at(words: &[LineWord], at: usize) -> Option<usize>
     ensures { result ≡ spec.target_in (slice_get words.now at) }
 {
     match words.get(at).copied() {
-        Some(Word::Number(n)) => Some(n as usize),
-        Some(Word::Op(_) | Word::Dash | Word::Of) | None => None,
+        Some(LineWord::Number(n)) => Some(n as usize),
+        Some(LineWord::Op(_) | LineWord::Dash | LineWord::Of) | None => None,
     }
 }
 
 // The words from a place on; none where there are not so many.
-fn words_from(words: &[Word], at: usize) -> &[Word]
+fn words_from(words: &[LineWord], at: usize) -> &[LineWord]
     ensures { result.now ≡ drop at words.now }
 {
     words.split_at(words.len().min(at)).1
 }
 
 // The slots that words spell, each word one.
-fn slots_in(alloc: Global, words: &[Word]) -> Result<Seq<usize>, AllocError>
+fn slots_in(alloc: Global, words: &[LineWord]) -> Result<Seq<usize>, AllocError>
     ensures { IfOk result (λ s. s ≡ map spec.value_of words.now) }
 {
     let mut slots = Seq::new(alloc);
@@ -241,7 +241,7 @@ pub struct Arms {
 }
 
 // The arms with one word more: the number of an arm, or the target behind it.
-fn paired(read: Arms, word: Word) -> Result<Arms, AllocError>
+fn paired(read: Arms, word: LineWord) -> Result<Arms, AllocError>
     ensures { IfOk result (λ a. a ≡ spec.paired read word) }
 {
     let Arms { mut arms, number } = read;
@@ -261,7 +261,7 @@ fn paired(read: Arms, word: Word) -> Result<Arms, AllocError>
 
 // The arms that words spell, each a number and its target; a last number without a target is left
 // out.
-fn arms_in(alloc: Global, words: &[Word]) -> Result<Seq<SwitchArm>, AllocError>
+fn arms_in(alloc: Global, words: &[LineWord]) -> Result<Seq<SwitchArm>, AllocError>
     ensures { IfOk result (λ arms. arms ≡ spec.arms_in words.now) }
 {
     let mut read = Arms {
@@ -285,7 +285,7 @@ pub struct Lists {
 }
 
 // The lists with one word more: `of` begins the second, and once more it changes nothing.
-fn listed(read: Lists, word: Word) -> Result<Lists, AllocError>
+fn listed(read: Lists, word: LineWord) -> Result<Lists, AllocError>
     ensures { IfOk result (λ l. l ≡ spec.listed read word) }
 {
     let Lists {
@@ -294,12 +294,12 @@ fn listed(read: Lists, word: Word) -> Result<Lists, AllocError>
         behind,
     } = read;
     match word {
-        Word::Of => Ok(Lists {
+        LineWord::Of => Ok(Lists {
             dests,
             froms,
             behind: true,
         }),
-        Word::Number(_) | Word::Op(_) | Word::Dash => {
+        LineWord::Number(_) | LineWord::Op(_) | LineWord::Dash => {
             let slot = value_of(word) as usize;
             if behind {
                 froms.push(slot)?;
@@ -317,7 +317,7 @@ fn listed(read: Lists, word: Word) -> Result<Lists, AllocError>
 
 // The two lists that words spell, the first before `of` and the second behind it; without `of` the
 // second is empty.
-fn lists_in(alloc: Global, words: &[Word]) -> Result<Lists, AllocError>
+fn lists_in(alloc: Global, words: &[LineWord]) -> Result<Lists, AllocError>
     ensures { IfOk result (λ l. l ≡ spec.lists_in words.now) }
 {
     let mut read = Lists {
@@ -333,7 +333,7 @@ fn lists_in(alloc: Global, words: &[Word]) -> Result<Lists, AllocError>
 
 // The instruction that a key and the words of a whole line behind it spell; for words of no whole
 // line, 0 stands for a number that is missing and `Add` for an operation.
-fn instruction_of(alloc: Global, key: Key, words: &[Word]) -> Result<Instr, AllocError>
+fn instruction_of(alloc: Global, key: Key, words: &[LineWord]) -> Result<Instr, AllocError>
     ensures { IfOk result (λ i. i ≡ spec.instruction_of key words.now) }
 {
     let (first, second) = (slot_at(words, 0), slot_at(words, 1));

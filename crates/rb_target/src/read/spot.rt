@@ -2,7 +2,7 @@
 //! and what the next word may be.
 
 use crate::code::CodeFun;
-use crate::word::{Key, Word};
+use crate::word::{Key, LineWord};
 use rb_core::seq::Seq;
 
 /// Which of the three counts behind a function's name comes next.
@@ -53,7 +53,7 @@ pub enum Field {
 #[derive(Drop)]
 pub struct Line {
     pub key: Key,
-    pub words: Seq<Word>,
+    pub words: Seq<LineWord>,
     pub rest: Seq<Field>,
 }
 

@@ -214,18 +214,18 @@ tells a number = Some (record { slot = a; content = Number number })
 
 -- what the hints say of instruction t holds behind instruction pc: which slots are read from t on, and which facts
 -- hold before t, where the way there tells `told`
-pub record GoesOn (h : Hints) (pc : ℕ) (i : Instr) (told : Option Fact) (t : ℕ) : Type 0 where
+pub record HintsHold (h : Hints) (pc : ℕ) (i : Instr) (told : Option Fact) (t : ℕ) : Type 0 where
   pub lives : LivesOn h pc i t
   pub follows : Follows (facts_at h pc) told i (facts_at h t)
 
 -- a run may go on from instruction pc to the next one, t: what the hints say of t holds there
 pub record FallsOn (h : Hints) (pc : ℕ) (i : Instr) (t : ℕ) : Type 0 where
-  pub on : GoesOn h pc i None t
+  pub on : HintsHold h pc i None t
   pub comes : IsPlain h pc → IsReached h pc → IsReached h t
 
 -- a run may jump from instruction pc to t by a way that tells `told`: what the hints say of t holds there
 pub record JumpsOn (h : Hints) (pc : ℕ) (i : Instr) (told : Option Fact) (t : ℕ) : Type 0 where
-  pub on : GoesOn h pc i told t
+  pub on : HintsHold h pc i told t
   pub comes : IsPlain h pc → IsReached h pc → IsReached h (end h t)
 
 -- F holds of the next instruction's number, where the run goes on there, and J of each target to which it may jump,
@@ -286,7 +286,7 @@ pub record IsFolded (h : Hints) (body : List Instr) (pc : ℕ) (i j : Instr) : T
   pub other_comes : IfSome other (λ t. IsReached h (end h t))
 
 -- a switch on a slot, with these arms and this other way, if any, finds one of its ways where the facts hold
-pub record IsWhole (facts : List Fact) (slot : ℕ) (other : Option ℕ) (arms : List SwitchArm) : Type 0 where
+pub record FindsWay (facts : List Fact) (slot : ℕ) (other : Option ℕ) (arms : List SwitchArm) : Type 0 where
   pub by : (s : List ℕ) (m : Memory) → Hold s m facts → target_of arms other (slice_index s slot) ≡ None → ⊥
 
 -- a run that jumps to instruction t returns at once, and `words` are the new numbers of the slots that it returns
@@ -305,7 +305,7 @@ pub record IsBack (h : Hints) (body : List Instr) (pc : ℕ) (i j : Instr) : Typ
   pub first : ℕ
   pub is : i ≡ Switch slot other arms
   pub stands : j ≡ Return words
-  pub whole : IsWhole (facts_at h pc) slot other arms
+  pub whole : FindsWay (facts_at h pc) slot other arms
   pub one : ComesBack h body words first
   pub arms_back : All (λ (arm : SwitchArm). ComesBack h body words arm.target) arms
   pub other_back : IfSome other (ComesBack h body words)

@@ -12,24 +12,24 @@ children vs links first zero = []
 children vs links first (suc n) = at vs (slice_index_or links first 0) ∷ children vs links (suc first) n
 
 -- the value of a node, given all links and the values `vs` of the nodes before it
-abbrev pub value_of : List ℕ → List Value → Node → Value
-value_of links vs (Number n) = Num n
-value_of links vs (Build k first count) = Con k (children vs links first count)
+abbrev pub node_value : List ℕ → List Value → Node → Value
+node_value links vs (Number n) = Num n
+node_value links vs (Build k first count) = Con k (children vs links first count)
 
 -- the values of nodes: `vs`, which are those of the first nodes, and behind them those of the nodes that follow
 abbrev pub values_from : List ℕ → List Node → List Value → List Value
 values_from links [] vs = vs
-values_from links (n ∷ ns) vs = values_from links ns (vs ++ value_of links vs n ∷ [])
+values_from links (n ∷ ns) vs = values_from links ns (vs ++ node_value links vs n ∷ [])
 
 -- the links of node i are there and lead to nodes before it; a number has none
-abbrev pub IsBelow : List ℕ → ℕ → Node → Type 0
-IsBelow links i (Number n) = Unit {0}
-IsBelow links i (Build k first count) = (first + count ≤ length links)
+abbrev pub IsLinkedBack : List ℕ → ℕ → Node → Type 0
+IsLinkedBack links i (Number n) = Unit {0}
+IsLinkedBack links i (Build k first count) = (first + count ≤ length links)
     × ((j : ℕ) → j < count → slice_index_or links (first + j) 0 < i)
 
 -- the links of each of these nodes, the first of which is node `low`, are there and lead to nodes before it
-abbrev pub AreBelow : List ℕ → ℕ → List Node → Type 0
-AreBelow links low ns = (i : ℕ) (d : Node) → i < length ns → IsBelow links (low + i) (slice_index_or ns i d)
+abbrev pub AreLinkedBack : List ℕ → ℕ → List Node → Type 0
+AreLinkedBack links low ns = (i : ℕ) (d : Node) → i < length ns → IsLinkedBack links (low + i) (slice_index_or ns i d)
 
 -- the nodes of a builder are the subterms of its finished values, value by value; `done` has
 -- the node of each such value

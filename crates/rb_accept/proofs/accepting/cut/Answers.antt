@@ -1,5 +1,5 @@
 use Rattle.std.proofs.Common.{subst}
-use Rattle.rb_syntax.specs.Cutting.{IsRight}
+use Rattle.rb_syntax.specs.Cutting.{LexesTo}
 use Rattle.rb_syntax.specs.Lexing.{Lexed, lexed}
 use Rattle.rb_accept.specs.Accepting.{uncut}
 use Rattle.rb_accept.proofs.Faults.{lex_fault}
@@ -13,4 +13,4 @@ returns-in_ok-refused-in-Err-clause-refused c =
 
 pub returns-in-Ok-clause-tokens : goal.returns-in-Ok-clause-tokens
 returns-in-Ok-clause-tokens c =
-    subst (λ (read : Lexed). IsRight c.args.bytes.now read) c.in-Ok.ensures.answer c.in-Ok.ensures.right
+    subst (λ (read : Lexed). LexesTo c.args.bytes.now read) c.in-Ok.ensures.answer c.in-Ok.ensures.right

@@ -4,7 +4,7 @@ use Rattle.rb_image_text.specs.Places.{AreInPlace}
 use Rattle.rb_image_text.specs.Stopping.{IsTextOf}
 use Rattle.rb_lines.specs.View.{IsRefusal}
 use Rattle.rb_lines.proofs.Meeting.{refusal_met}
-use Rattle.rb_accept.specs.Opening.{IsGarbled, IsReadAs, ReadsImage}
+use Rattle.rb_accept.specs.Opening.{IsGarbled, IsReadImage, ReadsImage}
 use Rattle.rb_accept.specs.Reading.{IsUnread, image_limit, unread}
 use Rattle.rb_accept.proofs.OpeningLaws.{both_ok, err_met, image_garbled}
 use Rattle.rb_accept.proofs.opening.read_image_file.Goals as goal
@@ -22,7 +22,7 @@ returns-clause-opened g c =
     let readings = drop (length (g.S.Source.readings c.args.src.now)) (g.S.Source.readings c.read_within.new.src) in
     let image = c.args.image.now in
     let text = c.in_ok-text.text in
-    both_ok c.read_text.result (λ i. IsTextOf text i) (λ i. AreInPlace i.blocks) (λ i. IsReadAs image readings i)
+    both_ok c.read_text.result (λ i. IsTextOf text i) (λ i. AreInPlace i.blocks) (λ i. IsReadImage image readings i)
     (subst (λ (bs : List ℕ). IfOk c.read_text.result (λ i. IsTextOf bs i)) c.as_slice.ensures c.read_text.ensures.spelled) c.read_text.ensures.placed
     (λ i spelled placed. record { text = text; is = c.in_ok-text.ensures.given; short = c.in_ok-text.ensures.within; spelled = spelled; placed = placed })
 

@@ -1,6 +1,6 @@
 use Rattle.std.proofs.Common.{◌≡◌, ◌+◌, ◌-◌, ◌*◌, ap, ◌∙◌, arith}
 use Rattle.rb_core.specs.declared.types.Ty.TheVariants.{Int}
-use Rattle.rb_image.specs.Integers.{field_bit, value_in}
+use Rattle.rb_image.specs.Integers.{field_bit, part_value}
 use Rattle.rb_image.specs.Orders.{order_of}
 use Rattle.rb_image.specs.inner.Viewing.{spots_of}
 use Rattle.rb_image.proofs.GatheredFields.{field_bit_small}
@@ -9,7 +9,7 @@ use Rattle.rb_image.proofs.integers.integer_at.Goals as goal
 
 pub overflow_mul-number : goal.overflow_mul-number
 overflow_mul-number c =
-    let value = value_in c.args.image.now.blocks c.args.words.now in
+    let value = part_value c.args.image.now.blocks c.args.words.now in
     let order = order_of c.args.leaf.now in
     let f = field_bit value (Int c.args.bits) order c.args.path.now in
     let small = field_bit_small value (Int c.args.bits) order c.args.path.now in
@@ -19,7 +19,7 @@ overflow_mul-number c =
 
 pub overflow_add-number : goal.overflow_add-number
 overflow_add-number c =
-    let value = value_in c.args.image.now.blocks c.args.words.now in
+    let value = part_value c.args.image.now.blocks c.args.words.now in
     let order = order_of c.args.leaf.now in
     let f = field_bit value (Int c.args.bits) order c.args.path.now in
     let small = field_bit_small value (Int c.args.bits) order c.args.path.now in
@@ -31,7 +31,7 @@ overflow_add-number c =
 
 pub loop-done-preserved : goal.loop-done-preserved
 loop-done-preserved c =
-    let value = value_in c.args.image.now.blocks c.args.words.now in
+    let value = part_value c.args.image.now.blocks c.args.words.now in
     let f = field_bit value (Int c.args.bits) (order_of c.args.leaf.now) c.args.path.now in
     let done = c.loop-done.done in
     let i = c.args.bits - 1 - done in
@@ -40,7 +40,7 @@ loop-done-preserved c =
 
 pub returns : goal.returns
 returns c =
-    let value = value_in c.args.image.now.blocks c.args.words.now in
+    let value = part_value c.args.image.now.blocks c.args.words.now in
     let f = field_bit value (Int c.args.bits) (order_of c.args.leaf.now) c.args.path.now in
     let high = c.loop-done-test.false in
     let low = c.loop-done.auto.done-end in

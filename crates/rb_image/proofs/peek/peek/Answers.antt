@@ -4,7 +4,7 @@ use Rattle.rb_core.specs.declared.types.Ty.TheVariants.{Int}
 use Rattle.rb_image_text.specs.declared.fault.ImageFault.TheVariants.{Memory}
 use Rattle.rb_image.specs.declared.peek.Peeked.{Peeked}
 use Rattle.rb_image.specs.Peeking.{IsFaultOf, IsPart, IsPartFault, IsPartOf}
-use Rattle.rb_image.specs.Roots.{AllFit}
+use Rattle.rb_image.specs.Roots.{WordsFit}
 use Rattle.rb_image.specs.Values.{IsDeclared}
 use Rattle.rb_image.proofs.CheckLemmas.{err_map, if_ok}
 use Rattle.rb_image.proofs.peek.peek.Goals as goal
@@ -16,7 +16,7 @@ returns-in-None-clause-part g c =
     let image = c.args.image.now in
     let path = c.args.path.now in
     let bits = c.in-Int.bits in
-    let fit : AllFit (bits ∷ []) image.root = subst (AllFit (bits ∷ [])) c.as_slice-words.ensures (subst (λ b. AllFit (b ∷ []) c.as_slice-words.result.now) c.from.ensures c.in-None.ensures) in
+    let fit : WordsFit (bits ∷ []) image.root = subst (WordsFit (bits ∷ [])) c.as_slice-words.ensures (subst (λ b. WordsFit (b ∷ []) c.as_slice-words.result.now) c.from.ensures c.in-None.ensures) in
     if_ok c.peek_integer.result (IsPartOf types layouts image (Int bits) path) (IsPart types layouts image c.args.ty path)
     (λ x h. subst (λ (ty : Ty). IsPart types layouts image ty path x) (sym c.in-Int.is) (fit, h)) (c.peek_integer.ensures.part types layouts)
 
@@ -35,7 +35,7 @@ returns-in-None-clause-fault g c =
     let image = c.args.image.now in
     let path = c.args.path.now in
     let bits = c.in-Int.bits in
-    let fit : AllFit (bits ∷ []) image.root = subst (AllFit (bits ∷ [])) c.as_slice-words.ensures (subst (λ b. AllFit (b ∷ []) c.as_slice-words.result.now) c.from.ensures c.in-None.ensures) in
+    let fit : WordsFit (bits ∷ []) image.root = subst (WordsFit (bits ∷ [])) c.as_slice-words.ensures (subst (λ b. WordsFit (b ∷ []) c.as_slice-words.result.now) c.from.ensures c.in-None.ensures) in
     err_map c.peek_integer.result (λ fault. IsFaultOf types layouts image (Int bits) path fault ⊎ (fault ≡ Memory)) (λ fault. IsPartFault types layouts image c.args.ty path fault ⊎ (fault ≡ Memory))
     (λ fault h. elim h [
       | inl is ↦ inl (subst (λ (ty : Ty). IsPartFault types layouts image ty path fault) (sym c.in-Int.is) (inr (fit, is)))

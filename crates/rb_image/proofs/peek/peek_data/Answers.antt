@@ -7,7 +7,7 @@ use Rattle.rb_image.proofs.PeekFaults.{some_root}
 use Rattle.rb_image.proofs.PeekLemmas.{words_fault, words_found}
 use Rattle.rb_image.proofs.WellLeaves.{AreWell, wells}
 use Rattle.rb_layout.specs.declared.layout.Layout.{Layout}
-use Rattle.rb_image.specs.Roots.{AllFit, widths_of}
+use Rattle.rb_image.specs.Roots.{WordsFit, widths_of}
 use Rattle.rb_image.specs.Walks.{where_of}
 use Rattle.rb_image.proofs.peek.peek_data.Goals as goal
 
@@ -20,7 +20,7 @@ returns-in_err-words-clause-fault g c =
     let flat = c.layouts.ensures.flat in
     let agree = c.layouts.ensures.agree in
     let well = subst AreWell (sym flat) (wells p c.tell_typed.ensures agree) in
-    let some = some_root p c.tell_typed.ensures agree c.args.ty c.requires.declared image.root (subst (λ (ls : List Layout). AllFit (widths_of ls (Named c.args.ty)) image.root) flat c.requires.fit) in
+    let some = some_root p c.tell_typed.ensures agree c.args.ty c.requires.declared image.root (subst (λ (ls : List Layout). WordsFit (widths_of ls (Named c.args.ty)) image.root) flat c.requires.fit) in
     if_err (λ fault. IsFaultOf types layouts image (Named c.args.ty) c.args.path.now fault ⊎ (fault ≡ Memory)) c.from_residual-in_err-words.result _
     c.from_residual-in_err-words.ensures.0 c.from_residual-in_err-words.ensures.1
     (words_fault types layouts image c.requires.placed well some c.args.ty c.args.path.now (where_of c.in_ok-walk.walk) c.in_ok-walk.ensures.walk _ c.in_err-words.ensures)

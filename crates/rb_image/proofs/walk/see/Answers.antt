@@ -2,7 +2,7 @@ use Rattle.std.proofs.Common.{◌≡◌, ◌+◌, ◌≤◌, length, map, Some, 
 use Rattle.std.specs.Prelude.{slice_get}
 use Rattle.std.proofs.lemmas.Option.{slice_get_read}
 use Rattle.rb_layout.specs.Positions.{layout_of}
-use Rattle.rb_image.specs.LeafWords.{reached}
+use Rattle.rb_image.specs.LeafWords.{block_addresses}
 use Rattle.rb_image.specs.Sites.{kept_of}
 use Rattle.rb_image.proofs.WayLemmas.{span_is}
 use Rattle.rb_image.proofs.walk.see.Goals as goal
@@ -23,7 +23,7 @@ returns-clause-passed g c =
       words = ap (map (kept_of image)) (sym c.as_slice.ensures.value) ∙ sym v.root;
       readable = tidy.readable v.number leaf v.is_leaf;
       parts = tidy.narrow v.number leaf v.is_leaf;
-      addresses = v.addresses ∙ ap (reached image.blocks leaf) (sym v.root);
+      addresses = v.addresses ∙ ap (block_addresses image.blocks leaf) (sym v.root);
       numbers = v.numbers;
     }
 

@@ -6,7 +6,7 @@ use Rattle.std.proofs.lemmas.List.{with_items_is}
 use Rattle.rb_target.specs.Meaning.{slots_at, put_slots, body_of, slots_in}
 use Rattle.rb_target.specs.Validity.{AreSlots}
 use Rattle.rb_machine.proofs.Turns.{return_turned, return_ended, results_fit, alone, frame_of, frame_fits, frame_place, cut_back, long_fits}
-use Rattle.rb_machine.specs.inner.Turns.{call_dests, width_of, waiting_slots, current_slots}
+use Rattle.rb_machine.specs.inner.Turns.{call_dests, slot_count, waiting_slots, current_slots}
 use Rattle.rb_machine.specs.declared.state.State.{State}
 use Rattle.rb_machine.proofs.calls.return_turn.Goals as goal
 
@@ -68,7 +68,7 @@ returns-in-Some c m =
     let waits = frame_of funs c.args.depth c.requires.valid s c.pop.new.self.items frame c.requires.sound c.in-Some.ensures.items in
     let known = slice_get_read funs (length funs) frame.fun f refl waits.known c.index-funs-frame.is in
     let fits = frame_fits funs c.args.depth c.requires.valid s c.pop.new.self.items frame f c.requires.sound c.in-Some.ensures.items known in
-    let width : width_of funs frame.fun ≡ f.slots = ap slots_in known in
+    let width : slot_count funs frame.fun ≡ f.slots = ap slots_in known in
     let ds = call_dests (slice_get (body_of funs frame.fun) frame.pc) in
     let ws = slots_at (current_slots s) c.args.froms.now in
     let given : c.give_back.new.stack ≡ (take (s.base - f.slots) s.stack.items ++ put_slots (drop (s.base - f.slots) (waiting_slots s)) ds ws) ++ drop s.base s.stack.items =
@@ -77,6 +77,6 @@ returns-in-Some c m =
     c.truncate.ensures.items ∙ ap (take s.base) (with_items_is s.stack c.give_back.new.stack (c.give_back.auto.stack ∙ c.as_mut_slice-in-Some.ensures.len))
     ∙ cut_back s.stack.items c.give_back.new.stack (s.base - f.slots) s.base ds ws (omega arith) c.requires.sound.fits given in
     let s' : State = record { fun = frame.fun; pc = frame.pc + 1; base = s.base - f.slots; stack = c.truncate.new.self; left = s.left; frames = c.pop.new.self; switches = s.switches; results = s.results } in
-    let base : s'.base + width_of funs frame.fun ≡ s.base = omega (arith, fits, width) in
+    let base : s'.base + slot_count funs frame.fun ≡ s.base = omega (arith, fits, width) in
     return_turned funs c.args.depth c.requires.valid c.requires.laws s s' c.pop.new.self.items frame c.args.froms.now c.requires.sound c.requires.instr
     c.in-Some.ensures.items refl refl refl refl refl refl base stack m

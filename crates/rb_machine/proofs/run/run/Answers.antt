@@ -1,5 +1,5 @@
 use Rattle.std.proofs.Common.{◌≡◌, ◌+◌, ◌-◌, ◌∙◌, refl, ap, arith, subst}
-use Rattle.rb_target.specs.Meaning.{Outcome, World, over, run_of}
+use Rattle.rb_target.specs.Meaning.{CallEnd, World, over, run_of}
 use Rattle.rb_target.specs.declared.outcome.End.TheVariants.{Spent}
 use Rattle.rb_machine.specs.Runs.{IsNotTrapped}
 use Rattle.rb_machine.specs.inner.Turns.{rest_of, world_of}
@@ -14,7 +14,7 @@ returns-then-calls-eq0 g c =
 
 pub stretch_turn-requires-clause-checks : goal.stretch_turn-requires-clause-checks
 stretch_turn-requires-clause-checks g c off =
-    (c.loop-leave.steps.taken - c.args.steps.now.taken, subst (λ (o : Outcome). IsNotTrapped o.ended) c.loop-leave.invariant.same (c.requires.checks off))
+    (c.loop-leave.steps.taken - c.args.steps.now.taken, subst (λ (o : CallEnd). IsNotTrapped o.ended) c.loop-leave.invariant.same (c.requires.checks off))
 
 pub returns-in-Some : goal.returns-in-Some
 returns-in-Some g c =

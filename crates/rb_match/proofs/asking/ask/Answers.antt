@@ -1,5 +1,5 @@
 use Rattle.std.proofs.Common.{arith, true, ◌≡◌, sym, subst}
-use Rattle.rb_fragment.specs.Plan.{words_of}
+use Rattle.rb_fragment.specs.Plan.{words_needed}
 use Rattle.rb_core.specs.declared.types.Ty.TheVariants.{Int, Named}
 use Rattle.rb_match.specs.inner.Asking.{AskedThere}
 use Rattle.rb_match.specs.inner.Opening.{IsOnward}
@@ -24,7 +24,7 @@ returns-then-has_spot_below-clause-asks c =
     asks_of c.args.agreed.now c.args.graph.now c.args.subject.now.words.now c.args.subject.now.spots.now c.args.test.now.known.now c.args.test.now.position.now c.args.test.now.arms.now c.args.test.now.other c.args.body.now c.ask_deep.new.body c.in_ok-edges-in-Named.edges place
     c.in_ok-place.ensures (rw (c.as_slice-types.ensures, c.program.ensures.same, c.covered.ensures.same) at (c.is_looked_at.ensures there))
     (λ plan n of are fit count. subst (λ u. AskedThere (IsOnward c.args.agreed.now c.args.graph.now) plan u n c.args.subject.now.spots.now place.reads c.args.test.now.known.now c.args.test.now.position.now c.args.test.now.arms.now c.args.test.now.other c.args.body.now c.ask_deep.new.body c.in_ok-edges-in-Named.edges) (sym c.in-Named.is)
-    ((rw c.as_slice-reads.ensures at c.in_ok-edges-in-Named.ensures.asks) plan n of are fit (subst (λ u. length place.reads ≡ words_of plan u) c.in-Named.is count)))
+    ((rw c.as_slice-reads.ensures at c.in_ok-edges-in-Named.ensures.asks) plan n of are fit (subst (λ u. length place.reads ≡ words_needed plan u) c.in-Named.is count)))
 
 pub returns-clause-asks : goal.returns-clause-asks
 returns-clause-asks c =
@@ -34,4 +34,4 @@ returns-clause-asks c =
     c.in_ok-place.ensures (rw (c.as_slice-types.ensures, c.program.ensures.same, c.covered.ensures.same) at (c.is_looked_at.ensures there))
     (λ plan n of are fit count. subst (λ u. AskedThere (IsOnward c.args.agreed.now c.args.graph.now) plan u n c.args.subject.now.spots.now place.reads c.args.test.now.known.now c.args.test.now.position.now c.args.test.now.arms.now c.args.test.now.other c.args.body.now c.ask_leaf.new.body c.in_ok-edges-in-Named-2.edges) (sym c.in-Named.is)
     (asked_on c.args.agreed.now c.args.graph.now plan (Named c.in-Named.t) n c.args.subject.now.spots.now place.reads c.args.test.now.known.now c.args.test.now.position.now c.args.test.now.arms.now c.args.test.now.other c.args.body.now c.ask_leaf.new.body c.in_ok-edges-in-Named-2.edges
-    ((rw c.as_slice-reads.ensures at c.in_ok-edges-in-Named-2.ensures.asks) plan n c.args.subject.now.spots.now of are fit (subst (λ u. length place.reads ≡ words_of plan u) c.in-Named.is count))))
+    ((rw c.as_slice-reads.ensures at c.in_ok-edges-in-Named-2.ensures.asks) plan n c.args.subject.now.spots.now of are fit (subst (λ u. length place.reads ≡ words_needed plan u) c.in-Named.is count))))

@@ -1,6 +1,6 @@
 use Rattle.std.proofs.Common.{subst, arith, List, Ok}
 use Rattle.rb_read.specs.Files.{IsFileAnswer}
-use Rattle.rb_syntax.specs.Cutting.{IsRight}
+use Rattle.rb_syntax.specs.Cutting.{LexesTo}
 use Rattle.rb_syntax.specs.Lexing.{Lexed}
 use Rattle.rb_syntax.specs.Tokens.{tokens}
 use Rattle.rb_syntax.specs.declared.token.Placed.{Placed}
@@ -10,6 +10,6 @@ use Rattle.rb_rows_meaning.proofs.meaning.typed.Goals as goal
 pub check-requires : goal.check-requires
 check-requires c =
     let text = c.args.text.now in
-    let right = subst (λ (read : Lexed). IsRight text read) c.in_ok-placed.ensures.answer c.in_ok-placed.ensures.right in
+    let right = subst (λ (read : Lexed). LexesTo text read) c.in_ok-placed.ensures.answer c.in_ok-placed.ensures.right in
     let read = rw c.as_slice.ensures.value at c.in_ok-file.ensures.answer in
     c.in_ok-program.ensures.well (tokens _) (is_written text _ _ (omega (arith, c.if-text-gt-MOST.false)) (record { cut = right; tree = read }))

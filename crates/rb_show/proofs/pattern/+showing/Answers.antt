@@ -1,6 +1,6 @@
 use Rattle.std.proofs.Common.{ap, sym, ◌∙◌, ◌++◌, map, take}
 use Rattle.rb_core.specs.declared.pattern.Pat.{Pat}
-use Rattle.rb_show.specs.Patterns.{opened, pattern_text}
+use Rattle.rb_show.specs.Patterns.{opening_text, pattern_text}
 use Rattle.rb_show.specs.inner.Patterns.{opening}
 use Rattle.rb_show.proofs.Texts.{appended, opened_next, two}
 use Rattle.rb_show.proofs.pattern.+showing.Goals as goal
@@ -12,4 +12,4 @@ push_fields-loop-i-preserved n c =
     appended _ _ _ _ _ _ c.loop-i.invariant
     (two _ (opening i) _ _ _ _ c.in_ok-push.ensures c.opening.ensures c.in_ok-push_pattern.ensures)
     (opened_next show c.args.pats.now i c.index-pats-i.result c.loop-i-test.true
-    ∙ ap (λ (p : Pat). opened (map show (take i c.args.pats.now)) ++ (opening i ++ show p)) (sym c.index-pats-i.is))
+    ∙ ap (λ (p : Pat). opening_text (map show (take i c.args.pats.now)) ++ (opening i ++ show p)) (sym c.index-pats-i.is))

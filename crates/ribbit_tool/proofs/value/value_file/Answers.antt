@@ -5,12 +5,12 @@ use Rattle.rb_command.specs.Command.{value}
 use Rattle.rb_core.specs.Typing.{result_type}
 use Rattle.rb_lines.proofs.Meeting.{unrun_met, refused_met}
 use Rattle.ribbit_tool.specs.Answers.{Owes}
-use Rattle.ribbit_tool.specs.Value.{ReadsBack}
+use Rattle.ribbit_tool.specs.Value.{IsDueToImage}
 use Rattle.ribbit_tool.proofs.Owing.{owes_opened, owes_stopped}
 use Rattle.ribbit_tool.proofs.value.value_file.Goals as goal
 
 abbrev Then : Following
-Then p i due = ReadsBack p (result_type p.funs p.main) i due
+Then p i due = IsDueToImage p (result_type p.funs p.main) i due
 
 pub returns-in_err-opened-clause-owed : goal.returns-in_err-opened-clause-owed
 returns-in_err-opened-clause-owed g c steps =

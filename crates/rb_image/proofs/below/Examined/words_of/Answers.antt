@@ -1,12 +1,12 @@
 use Rattle.std.proofs.Common.{◌+◌, ◌-◌, ◌∷◌, [], ◌++◌, sym, ap, ◌∙◌, append_assoc}
 use Rattle.rb_image.specs.Parts.{field_words}
-use Rattle.rb_image.specs.inner.Opening.{word_of}
+use Rattle.rb_image.specs.inner.Opening.{examined_word}
 use Rattle.rb_image.proofs.BelowLemmas.{words_more}
 use Rattle.rb_image.proofs.below.Examined.words_of.Goals as goal
 
 pub loop-number-preserved : goal.loop-number-preserved
 loop-number-preserved c =
-    let word = word_of c.args.self.now in
+    let word = examined_word c.args.self.now in
     let path = c.args.path.now in
     let j = c.loop-number.number in
     let before = c.loop-number.words.items in
