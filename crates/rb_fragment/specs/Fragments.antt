@@ -91,4 +91,4 @@ pub record EmitsAll (plan : Plan) (Such : List Value → Type 0) (ms : Calls →
 abbrev pub calling : Plan → Sheet → ℕ → Fun → List Held → Sheet
 calling plan b g f hs =
     pushed (with_slots b (words_needed plan f.result))
-        (Call g (slots_from b.slots (words_needed plan f.result)) (all_slots hs))
+    (Call g (slots_from b.slots (words_needed plan f.result)) (all_slots hs))

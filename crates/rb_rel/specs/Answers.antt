@@ -77,5 +77,5 @@ abbrev pub answer_of : Program → List Layout → List Value → ℕ → ℕ �
 answer_of p layouts args calls limit nodes =
     let o = call_of p p.main calls args in
     answer_at
-        (lay limit least_region (requests_of layouts (all_makings p.types args (param_types p.funs p.main) ++ o.log)))
+    (lay limit least_region (requests_of layouts (all_makings p.types args (param_types p.funs p.main) ++ o.log)))
     o.end nodes
