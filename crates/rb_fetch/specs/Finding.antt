@@ -1,8 +1,8 @@
 -- What code that finds a value's leaf owes. A leaf is one of the forms in which a layout stores the values of a data
--- type. It leaves by holes: a hole is a target of a jump or switch that is still open, and its `leaf` is the number
--- of the leaf, or of the group of leaves, to which it leads. A list of groups has at each leaf's number that of its
--- group, or None; past its end a leaf has no group either. The leaf is found by a tree of splits, each of which is a
--- switch on bits of the value's words; for groups the tree is pruned, so that no split is left that tells nothing
+-- type. The code leaves by holes: a hole is a target of a jump or switch that is still open, and its `leaf` is the
+-- number of the leaf, or of the group of leaves, to which it leads. A list of groups has at each leaf's number that
+-- of its group, or None; past its end a leaf has no group either. The leaf is found by a tree of splits, each of which
+-- is a switch on bits of the value's words; for groups the tree is pruned, so that no split is left that tells nothing
 -- apart. A read is a number that code can make from slots and loads; it means that number, over slots s and memory m.
 -- A plan has a program and its layouts, and a sheet is a function's code so far. `agreed` is a program with layouts
 -- that agree with its types. A representation is clean where all bits are 0 that stand in no part of a word.

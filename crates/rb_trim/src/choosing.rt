@@ -26,9 +26,9 @@ const MOST_WORDS: usize = 12;
 
 // What is wanted of a body, and what is read. An instruction that is wanted may not be left out,
 // unless it is a jump over nothing. For each instruction, `wanted` has 1 where it is wanted and
-// else 0, `dead` slots that are not read from there on though a later instruction reads them, and
-// `ends` where a jump to it goes on. For each slot, `reads` has one more than the number of the
-// last wanted instruction that reads it, or 0 where none does.
+// else 0, `dead` slots that no way from there on reads before it sets them anew, though a later
+// instruction reads them, and `ends` where a jump to it goes on. For each slot, `reads` has one
+// more than the number of the last wanted instruction that reads it, or 0 where none does.
 #[derive(Drop)]
 pub(crate) struct Rest {
     pub(crate) wanted: Seq<usize>,
@@ -45,8 +45,8 @@ pub(crate) fn put(numbers: &mut Seq<usize>, i: usize, number: usize) {
 }
 
 // Whether a slot is read from instruction `pc` on: it or a later one reads the slot, and it is not
-// known that no way from there comes to one that does. False past the last instruction, and for a
-// slot that is not in the list of reads.
+// known that no way from there comes to one that does before it sets the slot anew. False past the
+// last instruction, and for a slot that is not in the list of reads.
 fn is_read(rest: &Rest, pc: usize, slot: usize) -> bool {
     let is_dead = match rest.dead.get(pc) {
         None => false,

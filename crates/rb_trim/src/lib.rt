@@ -57,9 +57,9 @@
 //! same word under its new number. A function whose hints fail stays as it is.
 //!
 //! That a slot is read is said by the number of the last line that reads it, and by at most twelve
-//! slots at each place that no way from there on reads. So all walks are linear in the body, as at
-//! most twelve facts and twelve such slots are kept at a place: each instruction, and each arm of a
-//! switch, is held against these.
+//! slots at each place that no way from there on reads before it sets them anew. So all walks are
+//! linear in the body, as at most twelve facts and twelve such slots are kept at a place: each
+//! instruction, and each arm of a switch, is held against these.
 #![tactic(auto)]
 
 mod choosing;

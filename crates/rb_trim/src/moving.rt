@@ -72,7 +72,7 @@ pub(crate) fn known_at(hints: &Hints, pc: usize) -> &[Fact]
     }
 }
 
-// Some slots that no way from an instruction on reads, none past the end.
+// Some slots that no way from an instruction on reads before it sets them anew, none past the end.
 pub(crate) fn unread_at(hints: &Hints, pc: usize) -> &[usize]
     ensures { result.now ≡ dead_at hints.now pc }
 {
@@ -82,7 +82,7 @@ pub(crate) fn unread_at(hints: &Hints, pc: usize) -> &[usize]
     }
 }
 
-// Whether a slot is one of those that no way from an instruction on reads.
+// Whether a slot is one of those that no way from an instruction on reads before it sets them anew.
 fn is_dead(hints: &Hints, pc: usize, slot: usize) -> bool
     ensures { IsTrue result ↔ Contains (dead_at hints.now pc) slot }
 {
@@ -90,7 +90,7 @@ fn is_dead(hints: &Hints, pc: usize, slot: usize) -> bool
 }
 
 // Whether a slot is read from an instruction on: it or a later line reads the slot, and it is not
-// known that no way comes to one that does.
+// known that no way comes to one that does before it sets the slot anew.
 pub(crate) fn is_read(hints: &Hints, pc: usize, slot: usize) -> bool
     ensures { IsTrue result ↔ SlotIsRead hints.now pc slot }
 {

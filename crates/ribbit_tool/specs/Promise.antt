@@ -36,7 +36,7 @@ abbrev pub GivesAnswer : Parsed → Source → Change → Change → Counting �
 GivesAnswer parsed source out err steps status =
     (due : Due) × AnswersCommand parsed (handed_out source) due × GivesDue due out err steps status
 
--- What was due, and how it was delivered. For want of memory nothing is said of the steps.
+-- What was due, and how it was delivered. Where there is want of memory nothing is said of the steps.
 pub record Performs (words : List (List ℕ)) (source : Source) (out err : Change) (steps : Counting)
     (status : ℕ) : Type 0 where
   pub parsed : Parsed

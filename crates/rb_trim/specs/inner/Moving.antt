@@ -66,8 +66,8 @@ IsPlain h pc = slice_index h.given pc ≡ 0
 abbrev pub IsEverRead : Hints → ℕ → Type 0
 IsEverRead h k = 0 < slice_index h.reads k
 
--- a slot is read from an instruction on: a later line reads it, and it is not known that on each way from there on
--- the slot is set anew before it is read
+-- a slot is read from an instruction on: a later line reads it, and it is not known that no way from there on reads
+-- the slot before it sets it anew
 abbrev pub SlotIsRead : Hints → ℕ → ℕ → Type 0
 SlotIsRead h pc k = (pc < slice_index h.reads k) × (¬ Contains (dead_at h pc) k)
 
