@@ -18,7 +18,7 @@ use Rattle.rb_core.proofs.MatchingForms.{matches-Wild}
 use Rattle.rb_matrix.specs.declared.matrix.Head.{Head}
 use Rattle.rb_matrix.specs.declared.matrix.Head.TheVariants as H
 use Rattle.rb_matrix.specs.Heads.{layer_head, row_head}
-use Rattle.rb_matrix.specs.inner.FirstHead.{or_else}
+use Rattle.rb_matrix.specs.FirstHead.{or_else}
 use Rattle.rb_matrix.specs.Specialize.{wilds, special_image, default_image}
 use Rattle.rb_decide.specs.declared.clause_matrix.Column.{Column}
 use Rattle.rb_decide.specs.declared.clause_matrix.Row.{Row}

@@ -12,7 +12,7 @@ use Rattle.rb_core.specs.declared.pattern.Pat.TheOpen.{Pat-F}
 use Rattle.rb_matrix.specs.declared.matrix.Head.{Head}
 use Rattle.rb_matrix.specs.declared.matrix.Head.TheVariants as H
 use Rattle.rb_matrix.specs.Heads.{layer_head, row_head}
-use Rattle.rb_matrix.specs.inner.FirstHead.{or_else}
+use Rattle.rb_matrix.specs.FirstHead.{or_else}
 use Rattle.rb_matrix.specs.Specialize.{wilds, number_image, con_image, special_image, special_row, default_image, default_row}
 use Rattle.rb_decide.specs.declared.clause_matrix.Column.{Column}
 use Rattle.rb_decide.specs.declared.clause_matrix.Row.{Row}

@@ -11,7 +11,7 @@ use Rattle.rb_core.specs.declared.pattern.Pat.TheFolds.{fold_out-Pat}
 use Rattle.rb_matrix.specs.declared.matrix.Head.{Head}
 use Rattle.rb_matrix.specs.declared.matrix.Head.TheVariants as H
 use Rattle.rb_matrix.specs.Heads.{layer_head, row_head, some_head}
-use Rattle.rb_matrix.specs.inner.FirstHead.{first_head, or_else}
+use Rattle.rb_matrix.specs.FirstHead.{first_head, or_else}
 use Rattle.rb_matrix.specs.Specialize.{wilds, number_image, con_image, special_image, special_row, default_image, default_row}
 use Rattle.rb_matrix.specs.Counts.{heads_step, head_count, row_heads, rows_heads}
 use Rattle.rb_decide.specs.declared.clause_matrix.Row.{Row}

@@ -5,7 +5,7 @@
 //! nothing. Every error is want of memory.
 
 ghost use Rattle.std.specs.Prelude.{◌≡◌, ◌<◌, IfOk, is_some};
-ghost use Rattle.rb_matrix.specs.inner.FirstHead.{first_head};
+ghost use Rattle.rb_matrix.specs.FirstHead.{first_head};
 ghost use Rattle.rb_decide.specs.Trees.{row_pats};
 ghost use Rattle.rb_decide.specs.inner.Building.{IsTreeBuilt, IsTestBuilt, AreArmsBuilt};
 ghost use Rattle.std.specs.Prelude.{map, true};

@@ -1,7 +1,8 @@
 -- The open positions of provenances, their subpatterns, the leaf of a value, and the layout of a type. A provenance is
 -- the pattern that is written before a leaf; the leaf is for the values that it matches. An open position is a wildcard
 -- or a variable in it, and its path the list of field numbers that leads there from the root, outermost first. A layer
--- is a pattern without what is below its root. Types, leaves and fields are named by their numbers, from 0.
+-- is the outermost node of a pattern, with its subpatterns below it. Types, leaves and fields are named by their
+-- numbers, from 0.
 use Rattle.std.specs.Prelude.{◌≡◌, ℕ, ◌+◌, ◌<◌, ◌⊎◌, List, [], ◌∷◌, ◌++◌, map, Option, Some, None, slice_get, if◌then◌else◌}
 use Rattle.rb_core.specs.declared.value.Value.{Value}
 use Rattle.rb_core.specs.declared.types.Ty.{Ty}

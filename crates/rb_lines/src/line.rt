@@ -177,7 +177,7 @@ fn at_instruction(
     Ok(line.into_bytes())
 }
 
-/// The line of bytes that are no code; for want of memory, a copy of the line that says so.
+/// The line of bytes that are no code; for the fault `Memory`, the line of want of memory.
 ///
 /// # Errors
 ///

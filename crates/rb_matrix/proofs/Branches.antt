@@ -12,7 +12,7 @@ use Rattle.rb_matrix.specs.declared.problem.Problem.{Problem}
 use Rattle.rb_matrix.specs.declared.problem.Branches.{Branches}
 use Rattle.rb_matrix.specs.declared.problem.Left.TheVariants.{Whole, ByHead}
 use Rattle.rb_matrix.specs.Heads.{begins, any_begins, some_head}
-use Rattle.rb_matrix.specs.inner.FirstHead.{first_head}
+use Rattle.rb_matrix.specs.FirstHead.{first_head}
 use Rattle.rb_matrix.specs.Search.{AreTypesIn}
 use Rattle.rb_matrix.specs.inner.Problems.{with_column, NoneBy, IsPartAt, part_cost}
 use Rattle.rb_matrix.specs.Counts.{rows_heads}

@@ -11,7 +11,7 @@ use Rattle.rb_core.specs.Values.{is_of_type}
 use Rattle.rb_matrix.specs.declared.matrix.Head.{Head}
 use Rattle.rb_matrix.specs.Rows.{row_matches, any_row, all_rows, vector_of}
 use Rattle.rb_matrix.specs.Heads.{begins, any_begins, column_begins}
-use Rattle.rb_matrix.specs.inner.FirstHead.{first_head}
+use Rattle.rb_matrix.specs.FirstHead.{first_head}
 use Rattle.rb_matrix.specs.Specialize.{defaults}
 use Rattle.rb_matrix.specs.Search.{row_plain, useful_by, RowIsFound, AreUseless}
 use Rattle.rb_matrix.specs.Signature.{IsAbsent}

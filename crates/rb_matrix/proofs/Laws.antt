@@ -16,7 +16,7 @@ use Rattle.rb_matrix.specs.declared.matrix.Head.{Head}
 use Rattle.rb_matrix.specs.declared.matrix.Head.TheVariants as H
 use Rattle.rb_matrix.specs.Rows.{row_matches, any_row, all_rows, image_matches}
 use Rattle.rb_matrix.specs.Heads.{layer_begins, begins, layer_head, row_head, option_begins, column_begins}
-use Rattle.rb_matrix.specs.inner.FirstHead.{first_head, or_else}
+use Rattle.rb_matrix.specs.FirstHead.{first_head, or_else}
 use Rattle.rb_matrix.specs.Specialize.{wilds, special_image, special_row, special, default_image, default_row, defaults, keep}
 
 pub or-false-left : (a b : Bool) → (a || b) ≡ false → a ≡ false

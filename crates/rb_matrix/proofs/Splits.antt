@@ -13,7 +13,7 @@ use Rattle.rb_matrix.specs.declared.problem.Step.TheVariants.{Front}
 use Rattle.rb_matrix.specs.declared.problem.Problem.{Problem}
 use Rattle.rb_matrix.specs.declared.problem.Left.TheVariants.{Whole}
 use Rattle.rb_matrix.specs.Heads.{any_begins, column_begins, some_head, fields_at}
-use Rattle.rb_matrix.specs.inner.FirstHead.{first_head}
+use Rattle.rb_matrix.specs.FirstHead.{first_head}
 use Rattle.rb_matrix.specs.Specialize.{special, defaults}
 use Rattle.rb_matrix.specs.Search.{IsTypeIn, AreTypesIn, AreInhabited, RowIsFound, AreUseless}
 use Rattle.rb_matrix.specs.inner.Problems.{closed, step_of, FoundIn, NoneIn, NoneBy, IsPart, IsPartAt}

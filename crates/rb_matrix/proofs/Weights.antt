@@ -16,7 +16,7 @@ use Rattle.rb_matrix.specs.declared.matrix.Head.{Head}
 use Rattle.rb_matrix.specs.declared.matrix.Head.TheVariants as H
 use Rattle.rb_matrix.specs.declared.problem.Problem.{Problem}
 use Rattle.rb_matrix.specs.Heads.{layer_head, row_head, some_head}
-use Rattle.rb_matrix.specs.inner.FirstHead.{first_head, or_else}
+use Rattle.rb_matrix.specs.FirstHead.{first_head, or_else}
 use Rattle.rb_matrix.specs.Specialize.{wilds, keep, number_image, con_image, special_image, special_row, special, default_image, default_row, defaults}
 use Rattle.rb_matrix.specs.Counts.{heads_step, head_count, row_heads, rows_heads}
 use Rattle.rb_matrix.specs.inner.Problems.{con_fields, decl_fields, fields_bound, heads_of, weight, cost, part_cost}

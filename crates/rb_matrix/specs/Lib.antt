@@ -1,6 +1,7 @@
 pub mod Apart
 pub mod Counts
 pub mod Exhaust
+pub mod FirstHead
 pub mod Heads
 pub mod Known
 pub mod Rows

@@ -1,5 +1,4 @@
 pub mod Against
-pub mod FirstHead
 pub mod Index
 pub mod Indexes
 pub mod Left

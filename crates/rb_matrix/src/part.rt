@@ -6,7 +6,7 @@
 ghost use Rattle.std.specs.Prelude.{◌≡◌, ◌+◌, ◌≤◌, ◌∷◌, ◌++◌, [], IfOk, OnOk, None};
 ghost use Rattle.rb_matrix.specs.declared.problem.Left.TheVariants.{Whole, ByHead};
 ghost use Rattle.rb_matrix.specs.Heads.{column_begins, some_head};
-ghost use Rattle.rb_matrix.specs.inner.FirstHead.{first_head};
+ghost use Rattle.rb_matrix.specs.FirstHead.{first_head};
 ghost use Rattle.rb_matrix.specs.Search.{AreInhabited, IsTypeIn, AreTypesIn};
 ghost use Rattle.rb_matrix.specs.inner.Problems.{IsPartAt, step_of, with_column};
 ghost use Rattle.rb_matrix.specs.Signature.{IsAbsent};

@@ -5,7 +5,7 @@ ghost use Rattle.std.specs.Prelude.{◌≡◌, ◌≤◌, length, IfOk};
 ghost use Rattle.rb_core.specs.declared.value.Value as Values;
 ghost use Rattle.rb_core.specs.declared.value.Value.TheOpen as Layers;
 ghost use Rattle.rb_matrix.specs.Heads.{any_begins, column_begins};
-ghost use Rattle.rb_matrix.specs.inner.FirstHead.{first_head};
+ghost use Rattle.rb_matrix.specs.FirstHead.{first_head};
 ghost use Rattle.rb_matrix.specs.inner.Open.{any_open};
 ghost use Rattle.rb_matrix.specs.Counts.{rows_heads};
 ghost use Rattle.rb_matrix.specs.Specialize.{special_row, special, defaults};

@@ -24,7 +24,7 @@ use std::alloc::{AllocError, Global};
 ///
 /// # Errors
 ///
-/// Want of memory.
+/// Want of memory: the copies that were added until then stay.
 pub fn push_patterns(alloc: Global, row: &mut Seq<Pat>, more: &[Pat]) -> Result<(), AllocError>
     ensures { OnOk result (row.new ≡ row.old ++ more.now) }
 {

@@ -71,7 +71,7 @@ answer_at (Fits blocks next) (Done v left) nodes = if nat_le (node_count v) node
 
 -- What a call of `main` with these arguments answers, with so many calls, memory up to the address `limit`, and
 -- values of at most `nodes` nodes shown. The blocks of the arguments are placed first, argument by argument from
--- the least address on, and then those of the call. A block that does not fit is answered even where the call would be
+-- `least_region` on, and then those of the call. A block that does not fit is answered even where the call would be
 -- spent.
 abbrev pub answer_of : Program → List Layout → List Value → ℕ → ℕ → ℕ → Answer
 answer_of p layouts args calls limit nodes =

@@ -31,9 +31,9 @@ word_or_name None name = width_or_name (uint_width name) name
 unfoldable pub name_token : ℕ → List ℕ → Token
 name_token first name = if is_ascii_uppercase first then tok.Upper name else word_or_name (word_of name) name
 
--- the piece of a run that begins with a digit, by the number below 2^64 that the whole run spells: that number; where it
--- spells none, it is too wide if the whole run is digits without a leading zero, else the byte behind the longest such
--- number at its front is bad
+-- the piece of a run that begins with a digit, by the number below 2^64 that the whole run spells: that number; where
+-- it spells none, it is too wide if the whole run is digits without a leading zero, else the byte behind the longest
+-- such number at its front is bad
 unfoldable pub number_or_fault : Option ℕ → List ℕ → Piece
 number_or_fault (Some n) run = piece.Token (tok.Num n) (length run)
 number_or_fault None run = if numeral_len run == length run then piece.Wide else piece.Bad (numeral_len run)

@@ -2,7 +2,8 @@
 -- `end`. One blank stands between two words of a line.
 --
 -- Texts are lists of bytes. A line is its first word, the other words of the line, each after a blank, and the byte
--- 10. The first word of an instruction's line is its key, as `const`; the others of a line are of the type `LineWord`.
+-- 10. The first word of an instruction's line is its key, as `const`; the others of such a line are of the type
+-- `LineWord`.
 use Rattle.std.specs.Prelude.{ℕ, List, [], ◌∷◌, ◌++◌, map, codes, Option, Some, None}
 use Rattle.std.specs.Fmt.{decimal}
 use Rattle.rb_target.specs.declared.instr.AluOp.{AluOp}

@@ -1,6 +1,7 @@
 //! Code as text: a line for each instruction. A line is its first word, which says what it is, the
-//! other words, each after a blank, and the line's end. A [`LineWord`] is one of those after the first.
-//! Where a function that adds to a list wants memory, what it added until then stays.
+//! other words, each after a blank, and the line's end. A [`LineWord`] is one of an instruction's line
+//! after the first. A function that adds to a list and ends for want of memory leaves there what it
+//! added until then.
 
 ghost use Rattle.std.specs.Prelude.{◌≡◌, ◌++◌, ◌∷◌, [], IfOk, List};
 ghost use Rattle.rb_target.specs.Validity.{IsValid};

@@ -1,4 +1,4 @@
-//! The words of a line of code text: its key, which is the first, and the others.
+//! The words of an instruction's line in code text: its key, which is the first, and the others.
 
 ghost use Rattle.std.specs.Prelude.{◌≡◌};
 ghost use Rattle.rb_target.specs.Text.{op_text, key_of, key_text};

@@ -14,7 +14,7 @@ use Rattle.rb_matrix.specs.declared.problem.Left.TheVariants.{Whole, ByHead}
 use Rattle.rb_matrix.specs.declared.problem.Outcome.{Outcome}
 use Rattle.rb_matrix.specs.declared.problem.Outcome.TheVariants.{Solved, Split}
 use Rattle.rb_matrix.specs.Heads.{any_begins, some_head}
-use Rattle.rb_matrix.specs.inner.FirstHead.{first_head}
+use Rattle.rb_matrix.specs.FirstHead.{first_head}
 use Rattle.rb_matrix.specs.Search.{AreTypesIn, useful_by}
 use Rattle.rb_matrix.specs.inner.Problems.{closed_all, with_column, FoundIn, NoneIn, cost, part_cost}
 

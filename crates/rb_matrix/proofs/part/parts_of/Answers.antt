@@ -5,7 +5,7 @@ use Rattle.rb_matrix.specs.declared.matrix.Head.{Head}
 use Rattle.rb_matrix.specs.declared.problem.Left.{Left}
 use Rattle.rb_matrix.specs.declared.problem.Left.TheVariants.{Whole, ByHead}
 use Rattle.rb_matrix.specs.Heads.{any_begins, column_begins}
-use Rattle.rb_matrix.specs.inner.FirstHead.{first_head}
+use Rattle.rb_matrix.specs.FirstHead.{first_head}
 use Rattle.rb_matrix.specs.Signature.{IsAbsentAnswer}
 use Rattle.rb_matrix.specs.Counts.{rows_heads}
 use Rattle.rb_matrix.specs.inner.Problems.{with_column}

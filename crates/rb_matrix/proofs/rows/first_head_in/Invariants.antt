@@ -1,5 +1,5 @@
 use Rattle.std.proofs.Common.{◌≡◌, drop}
-use Rattle.rb_matrix.specs.inner.FirstHead.{first_head}
+use Rattle.rb_matrix.specs.FirstHead.{first_head}
 use Rattle.rb_matrix.proofs.rows.first_head_in.Given as goal
 
 abbrev pub invariant-loop-row : goal.invariant-loop-row
