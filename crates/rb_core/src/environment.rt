@@ -44,8 +44,8 @@ impl Frame {
         }
     }
 
-    // Adds one variable with its value, as the innermost. Without memory, the scope may have it
-    // alone.
+    // Adds one variable with its value, as the innermost. For want of memory, the scope may
+    // have it alone.
     pub(crate) fn push(&mut self, binder: Binder, value: Value) -> Result<(), AllocError>
         ensures fun { self.new.fun ≡ self.old.fun }
         ensures scope { OnOk result (self.new.scope ≡ with_binder self.old.scope binder.var binder.ty) }
@@ -60,7 +60,7 @@ impl Frame {
     }
 
     // Adds the variables of a pattern at a value of type `ty`, from left to right, as the
-    // innermost. Without memory, the scope or the values may have some of them.
+    // innermost. For want of memory, the scope or the values may have some of them.
     pub(crate) fn bind(
         &mut self,
         alloc: Global,

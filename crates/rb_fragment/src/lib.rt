@@ -7,8 +7,8 @@
 //! instruction (`Law`), and of any calls: so it stays true whatever is appended, patched or called
 //! later. Three records say it:
 //!
-//! - `Piece` for code that places nothing and calls nothing: from its first instruction, where a
-//!   condition holds, the run comes to a way out with another condition, with at most so many
+//! - `CodePiece` for code that places nothing and calls nothing: from its first instruction, where
+//!   a condition holds, the run comes to a way out with another condition, with at most so many
 //!   switches, and with the first n slots kept. `Branches` is the same with many ways out, whose
 //!   targets may still be open: jumps, or arms of the switches themselves.
 //! - `Fragment` for code that does what the source does, with calls and blocks: where the blocks of
@@ -16,7 +16,7 @@
 //!   more in memory; else it ends as `Full` with the first request that does not fit; and it ends as
 //!   `Spent` where the source does (`Does`). `Emits` and `Applies` are fragments over variables, and
 //!   over values that are held.
-//! - `Arm` for one arm of a match, which ends in an open jump.
+//! - `CodeArm` for one arm of a match, which ends in an open jump.
 //!
 //! The lemmas of `proofs/` compose them as the source composes. Take `let x = f(a); add(x, 1)`: the
 //! call is an `Applies`, whose result is in new slots, say 3; the sum is one instruction that writes

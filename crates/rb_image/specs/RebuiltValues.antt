@@ -67,8 +67,8 @@ module _ (p : Program) where
     AreRight ty v (Ok ws) = Represents p.types (flat_layouts p) m false ty v ws
     AreRight ty v (Err fault) = fault ≡ NoMemory
 
--- where a value stands at a position, the words that are given of what stands there represent it, or memory is
--- wanting
+-- where a value stands at a position, the words that are given of what stands there represent it, or there is
+-- want of memory
 abbrev pub RebuiltWordsRepresent : Type 0
 RebuiltWordsRepresent = (p : Program) → IsTyped p → Agrees p → (m : Memory) → IsGood m → (blocks : List ImageBlock)
     → (x : LeafPosition) (v : Value) (pat : Pat) (ty : Ty) → ValueStands p m blocks x v pat ty

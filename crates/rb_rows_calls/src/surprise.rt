@@ -11,7 +11,7 @@ pub enum Surprise {
     /// A line of a table is no row.
     #[error("no row: {0}")]
     Row(String),
-    /// Memory is wanting.
+    /// Want of memory.
     #[error("no memory")]
     Memory,
 }

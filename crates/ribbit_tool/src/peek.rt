@@ -1,8 +1,8 @@
 //! The command `peek`: the part to which a path leads in the value that an image holds. An image
 //! has words, its root, and blocks; with what is in these the words represent the value. A path is
 //! a list of numbers of fields, from the outermost value on. `agreed` is a program with its
-//! layouts. A refusal is the answer in place of the text: a status with its line, or that memory
-//! ran out.
+//! layouts. A refusal is the answer in place of the text: a status with its line, or want of
+//! memory.
 
 ghost use Rattle.std.specs.Prelude.{◌≡◌, ℕ, IfOk, IfErr, Ok};
 ghost use Rattle.rb_accept.specs.Reading.{ReadsInTurn, source_of};
