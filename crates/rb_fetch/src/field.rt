@@ -129,3 +129,18 @@ pub fn fetch_field(
     let slots = fetch_field_at(alloc, body, words, agreed, DEPTH, ty, leaf, path)?;
     Ok(slots)
 }
+
+/// A copy of a list of slots, which are numbers.
+///
+/// # Errors
+///
+/// Want of memory.
+pub fn copy_slots(alloc: Global, slots: &[usize]) -> Result<Seq<usize>, AllocError>
+    ensures { IfOk result (λ copy. copy ≡ slots.now) }
+{
+    let mut copy = Seq::new(alloc);
+    for slot in slots {
+        copy.push(*slot)?;
+    }
+    Ok(copy)
+}

@@ -11,7 +11,7 @@ ghost use Rattle.rb_fetch.specs.Fields.{FetchesField};
 ghost use Rattle.rb_fetch.specs.inner.Rebuilding.{FetchesOpen, pattern_at, sub_at};
 
 use crate::choosing::{Source, fetch_part};
-use crate::field::field_reads;
+use crate::field::{copy_slots, field_reads};
 use crate::heads::leaf_at;
 use rb_core::pattern::Pat;
 use rb_core::seq::Seq;
@@ -74,17 +74,6 @@ pub(crate) fn fetch_field_at(
             Ok(slots)
         }
     }
-}
-
-// A copy of a list of slots, which are numbers.
-fn copy_slots(alloc: Global, slots: &[usize]) -> Result<Seq<usize>, AllocError>
-    ensures { IfOk result (λ copy. copy ≡ slots.now) }
-{
-    let mut copy = Seq::new(alloc);
-    for slot in slots {
-        copy.push(*slot)?;
-    }
-    Ok(copy)
 }
 
 /// A copy of a position, that is, of a list of field numbers.

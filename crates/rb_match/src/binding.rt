@@ -31,6 +31,7 @@ use rb_core::seq::Seq;
 use rb_core::types::{ConRef, Ty};
 use rb_decide::clause_matrix::number_of;
 use rb_decide::decision_graph::GraphArm;
+use rb_fetch::field::copy_slots;
 use rb_fragment::held::Local;
 use rb_fragment::reads::slot_reads;
 use rb_layout::agreed::Agreed;
@@ -83,17 +84,6 @@ fn only_leaf(agreed: &Agreed, ty: u32, pat: &Pat) -> Option<usize>
         }
     }
     None
-}
-
-// An equal list of slots.
-fn copy_slots(alloc: Global, slots: &[usize]) -> Result<Seq<usize>, AllocError>
-    ensures { IfOk result (λ copies. copies ≡ slots.now) }
-{
-    let mut copies = Seq::new(alloc);
-    for slot in slots {
-        copies.push(*slot)?;
-    }
-    Ok(copies)
 }
 
 // Code that binds what a pattern binds at a value of this type, whose words stand in some slots:
