@@ -40,6 +40,7 @@ use Rattle.rb_fragment.proofs.Holds.{AllBelow-more, AreGiven-append, AreGiven-mo
 use Rattle.rb_fragment.proofs.Matches.{arms_more}
 use Rattle.rb_fragment.proofs.Moves.{one-below}
 use Rattle.rb_fragment.proofs.Pieces.{piece_frame, piece_weaken}
+use Rattle.rb_compose.specs.Subvalues.{held_slots}
 use Rattle.rb_fetch.specs.Finding.{IsPlanOf}
 use Rattle.rb_match.specs.Bounding.{binding_bound}
 use Rattle.rb_match.specs.Choosing.{Binds, BindsPattern}
@@ -47,7 +48,7 @@ use Rattle.rb_compile.specs.inner.Ready.{ExprIsReady, SitesAreReady}
 use Rattle.rb_compile.specs.inner.Forms.{EmitsExpr, meant}
 use Rattle.rb_compile.specs.inner.Used.{Serves}
 use Rattle.rb_compile.proofs.Agreeing.{same_meaning, same_sites, same_typing}
-use Rattle.rb_compile.specs.inner.Arms.{ArmIsDone, ClauseIsReady, DoesClause, DoesNumber, EmitsArm, EmitsArms, GroundIsReady, IsShared, Reaches, shared_slots, wanted_in}
+use Rattle.rb_compile.specs.inner.Arms.{ArmIsDone, ClauseIsReady, DoesClause, DoesNumber, EmitsArm, EmitsArms, GroundIsReady, IsShared, Reaches, wanted_in}
 
 -- One arm
 
@@ -181,7 +182,7 @@ module _ (plan : Plan) (f i : ℕ) (cs : List Clause) (wanted : Option Ty) (ls :
   wanted_same (suc k) (Some g) t n m h sh = ap Some sh.0
 
   -- the arms that stand left their values where the next one does
-  moved : (s t : Ty) (n k : ℕ) (o : Option Held) → Reaches k o → ((h : Held) → o ≡ Some h → r.into ≡ h) → ArmsIn k e q joins starts (DoesNumber plan f cs wanted ls s t held.slots n (shared_slots o))
+  moved : (s t : Ty) (n k : ℕ) (o : Option Held) → Reaches k o → ((h : Held) → o ≡ Some h → r.into ≡ h) → ArmsIn k e q joins starts (DoesNumber plan f cs wanted ls s t held.slots n (held_slots o))
       → ArmsIn k e q joins starts (DoesNumber plan f cs wanted ls s t held.slots n r.into.slots)
   moved s t n zero None h same x = λ k lt. absurd (omega (arith, lt))
   moved s t n zero (Some g) h same x = absurd h

@@ -40,7 +40,7 @@ use Rattle.rb_rel.proofs.Storing.{laid_more, with_block, with_blocks, written}
 use Rattle.rb_fragment.specs.Plan.{Plan, Rep}
 use Rattle.rb_fragment.proofs.Represented.{Rep-int}
 use Rattle.rb_compose.specs.Counts.{capped}
-use Rattle.rb_compose.specs.inner.Code.{blocks_code, field_slots, field_type, held_slots, is_int, is_low, is_ready, leaf_code, leaf_slots, low_bit, shift_of, whole_of}
+use Rattle.rb_compose.specs.inner.Code.{blocks_code, field_slots, field_type, is_int, is_low, is_ready, leaf_code, leaf_slots, low_bit, shift_of, whole_of}
 use Rattle.rb_compose.proofs.Fits.{leaf_adds, roots_below, roots_count, roots_distinct, roots_from}
 use Rattle.rb_compose.proofs.Leaves.{type_held, width_low, plan, is_sound, leaf_ok, bits_at, word_at, index_at}
 use Rattle.rb_compose.proofs.Longer.{blocks_longer}
@@ -53,7 +53,7 @@ use Rattle.rb_fragment.specs.Owing.{Ends}
 use Rattle.rb_fragment.specs.Fragments.{Comes}
 use Rattle.rb_compose.specs.declared.subvalue.Subvalue.{Subvalue}
 use Rattle.rb_compose.specs.Making.{LeafIsMade, MakesLeaf}
-use Rattle.rb_compose.specs.Subvalues.{AreGivenAt, ArePartsHeld}
+use Rattle.rb_compose.specs.Subvalues.{AreGivenAt, ArePartsHeld, held_slots}
 use Rattle.rb_compose.proofs.Shapes.{root_short}
 
 -- Numbers that are the same ----------------------------------------------------------------------

@@ -33,8 +33,8 @@ use Rattle.rb_fragment.specs.Plan.{Plan, words_needed}
 use Rattle.rb_fragment.specs.Slots.{AllBelow}
 use Rattle.rb_compose.proofs.Shapes.{root_short}
 use Rattle.rb_compose.specs.declared.subvalue.Subvalue.{Subvalue}
-use Rattle.rb_compose.specs.inner.Code.{field_slots, field_type, held_slots, held_type_in}
-use Rattle.rb_compose.specs.Subvalues.{AreGivenAt, subvalue_at}
+use Rattle.rb_compose.specs.inner.Code.{field_slots, field_type, held_type_in}
+use Rattle.rb_compose.specs.Subvalues.{AreGivenAt, held_slots, subvalue_at}
 use Rattle.rb_compose.proofs.Fits.{Uses, IsMade, PartsOk, BlockOk, LeafOk}
 
 index_below : (n : ℕ) (xs : List ℕ) (j : ℕ) → AllBelow n xs → j < length xs → slice_index xs j < n

@@ -14,6 +14,11 @@ use Rattle.rb_fragment.specs.Plan.{Plan, Rep, words_needed}
 use Rattle.rb_fragment.specs.Slots.{AllBelow}
 use Rattle.rb_compose.specs.declared.subvalue.Subvalue.{Subvalue}
 
+-- the slots of a held value, or none if there is none
+abbrev pub held_slots : Option Held → List ℕ
+held_slots None = []
+held_slots (Some h) = h.slots
+
 -- the type and the slots of the first subvalue with this path, or None if none has it
 abbrev pub subvalue_at : List Subvalue → List ℕ → Option Held
 subvalue_at [] path = None

@@ -5,7 +5,7 @@
 -- meet. The numbers `starts` are those of the arms' first instructions. A plan has a program with its layouts; f is
 -- the number of a function, ls are the variables before the match, s is the type of its scrutinee, the value that is
 -- matched, t that of its value. What is `wanted` of a match or a clause is a type, or nothing.
-use Rattle.std.specs.Prelude.{◌≡◌, ℕ, zero, suc, ◌≤◌, Bool, true, List, [], ◌++◌, length, Option, Some, None, Ok, slice_get}
+use Rattle.std.specs.Prelude.{◌≡◌, ℕ, zero, suc, ◌≤◌, Bool, true, List, ◌++◌, length, Option, Some, None, Ok, slice_get}
 use Rattle.rb_core.specs.declared.value.Value.{Value}
 use Rattle.rb_core.specs.declared.types.Ty.{Ty}
 use Rattle.rb_core.specs.declared.typing.Binder.{Binder}
@@ -29,6 +29,7 @@ use Rattle.rb_fragment.specs.Arms.{AreShared, CodeArm, ArmsIn}
 use Rattle.rb_fragment.specs.Holding.{AreGiven, Holds, scope_of}
 use Rattle.rb_fragment.specs.Plan.{Plan, Rep, words_needed}
 use Rattle.rb_fragment.specs.Slots.{AllBelow}
+use Rattle.rb_compose.specs.Subvalues.{held_slots}
 use Rattle.rb_fetch.specs.Fetching.{PlanIsSound}
 use Rattle.rb_match.specs.Bounding.{binding_bound}
 use Rattle.rb_compile.specs.inner.Ready.{SitesAreReady}
@@ -48,11 +49,6 @@ wanted_in wanted (Some h) = Some h.ty
 abbrev pub IsShared : Plan → ℕ → ℕ → Ty → Option Held → Type 0
 IsShared plan n m t None = Unit {0}
 IsShared plan n m t (Some h) = (h.ty ≡ t) × AreShared n m (words_needed plan t) h.slots
-
--- the slots in which arms leave their values; none before the first arm stands
-abbrev pub shared_slots : Option Held → List ℕ
-shared_slots None = []
-shared_slots (Some h) = h.slots
 
 -- the values of the arms of a match have slots just where the number of arms that stand is not 0
 abbrev pub Reaches : ℕ → Option Held → Type 0
@@ -129,7 +125,7 @@ pub record ArmsDone (plan : Plan) (f i : ℕ) (cs : List Clause) (wanted : Optio
     (xs : List ℕ) (n : ℕ) (e q : Sheet) (into : Option Held) (joins : List Hole) (starts : List ℕ) : Type 0 where
   pub adds : Adds plan e q
   pub shared : IsShared plan n q.slots t into
-  pub arms : ArmsIn i e q joins starts (DoesNumber plan f cs wanted ls s t xs n (shared_slots into))
+  pub arms : ArmsIn i e q joins starts (DoesNumber plan f cs wanted ls s t xs n (held_slots into))
 
 -- where the clauses and what stands before the match are ready, the arms of the first i of the clauses cs stand
 -- behind e in the code q

@@ -23,14 +23,9 @@ use Rattle.rb_fragment.specs.declared.held.Held.{Held}
 use Rattle.rb_fragment.specs.Reads.{is_range}
 use Rattle.rb_compose.specs.declared.subvalue.Subvalue.{Subvalue}
 use Rattle.rb_compose.specs.Counts.{capped}
-use Rattle.rb_compose.specs.Subvalues.{subvalue_at}
+use Rattle.rb_compose.specs.Subvalues.{held_slots, subvalue_at}
 
 -- Where bits come from -------------------------------------------------------------------------
-
--- the slots of a held value, or none if there is none
-abbrev pub held_slots : Option Held → List ℕ
-held_slots None = []
-held_slots (Some h) = h.slots
 
 -- the slots of the subvalue at a path, or none if none is there
 abbrev pub field_slots : List Subvalue → List ℕ → List ℕ
