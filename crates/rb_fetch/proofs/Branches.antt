@@ -32,7 +32,8 @@ use Rattle.rb_fetch.specs.declared.choice.Way.{Way}
 use Rattle.rb_fetch.specs.declared.heads.Place.{Place}
 use Rattle.rb_fetch.specs.declared.known.Seen.{Seen}
 use Rattle.rb_fetch.specs.inner.Choosing.{AreOpen, BranchIn, BranchesDone, BranchesStand, ChoosesBelow, ChoosesFrom, ChoosesUnder, FetchesFields, Follows, GivesFields, HasAll, HasCon, HasParts, HasRootCon, AreInnerWords, ChoiceIsReady, IsWayAt, IsWayOf, PartsGiven, PartsHold, TakesOneWay, left_of, root_con}
-use Rattle.rb_fetch.specs.inner.Fields.{leaf_at, leaf_within}
+use Rattle.rb_fetch.specs.Finding.{leaf_within}
+use Rattle.rb_fetch.specs.inner.Fields.{leaf_at}
 use Rattle.rb_fetch.specs.inner.Heads.{bare_paths, head_under, heads_in, is_among, leaves_beside, leaves_that_can_be, shown_head, shown_heads}
 use Rattle.rb_fetch.specs.inner.Seen.{seen_more}
 use Rattle.rb_fetch.proofs.Chosen.{inner_shows, matched_leaf, rooted}

@@ -36,9 +36,9 @@ use Rattle.rb_compose.specs.Subvalues.{AreGivenAt}
 use Rattle.rb_fetch.specs.declared.choice.Way.{Way}
 use Rattle.rb_fetch.specs.declared.heads.Place.{Place}
 use Rattle.rb_fetch.specs.declared.known.Seen.{Seen}
-use Rattle.rb_fetch.specs.Finding.{IsPlanOf}
+use Rattle.rb_fetch.specs.Finding.{IsPlanOf, leaf_within}
 use Rattle.rb_fetch.specs.inner.Choosing.{AreOpen, AreWaysOf, ChoosesBy, ChoosesFrom, ChoosesWays, Follows, HasAll, HasOpens, IsWayOf, HasCon, IsEndOf, ChoiceIsReady, root_con}
-use Rattle.rb_fetch.specs.inner.Fields.{leaf_at, leaf_within}
+use Rattle.rb_fetch.specs.inner.Fields.{leaf_at}
 use Rattle.rb_fetch.specs.inner.Heads.{are_looked_at, IsNext, is_among, shown_head, shown_heads}
 use Rattle.rb_fetch.proofs.Constructors.{heads-Con, is_matched, shows}
 use Rattle.rb_fetch.proofs.Finding.{of_plan}

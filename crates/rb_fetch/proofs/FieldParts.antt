@@ -40,10 +40,10 @@ use Rattle.rb_fragment.specs.Slots.{AllBelow}
 use Rattle.rb_fragment.proofs.Pieces.{piece_none, piece_weaken}
 use Rattle.rb_fragment.proofs.Adding.{Adds-refl}
 use Rattle.rb_compose.specs.declared.subvalue.Subvalue.{Subvalue}
-use Rattle.rb_fetch.specs.Finding.{IsPlanOf}
+use Rattle.rb_fetch.specs.Finding.{IsPlanOf, leaf_within}
 use Rattle.rb_fetch.specs.Positions.{PositionAt, mend_under}
 use Rattle.rb_fetch.specs.inner.Choosing.{FetchesFields, HasParts, AreInnerWords, PartsGiven, PartsHold, parts_under}
-use Rattle.rb_fetch.specs.inner.Fields.{leaf_at, leaf_within}
+use Rattle.rb_fetch.specs.inner.Fields.{leaf_at}
 use Rattle.rb_fetch.specs.inner.Rebuilding.{FetchesParts, PartsAreFetched}
 use Rattle.rb_fetch.proofs.Chosen.{matched_leaf}
 use Rattle.rb_fetch.proofs.Choices.{given_each, held_each, typed_each}

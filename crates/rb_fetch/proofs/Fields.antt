@@ -32,11 +32,11 @@ use Rattle.rb_fragment.specs.Slots.{IsOneOf}
 use Rattle.rb_fragment.specs.Reads.{mean, fits}
 use Rattle.rb_fragment.specs.WordReads.{AreMeant, AllFit, IsSlotOf, MakesAll, AreNewOr}
 use Rattle.rb_fragment.proofs.MakingAll.{slots_fit, slots_meant, slots_of}
-use Rattle.rb_fetch.specs.Finding.{IsPlanOf}
+use Rattle.rb_fetch.specs.Finding.{IsPlanOf, leaf_within}
 use Rattle.rb_fetch.specs.Fields.{FieldAt, AreFieldReads, ReadsField}
 use Rattle.rb_fetch.specs.inner.Placing.{IsAgreedLeaf}
 use Rattle.rb_fetch.specs.inner.Rebuilding.{FetchesOpen}
-use Rattle.rb_fetch.specs.inner.Fields.{HoldsInt, ReadsAs, ReadsInt, ReadsWord, ReadWords, leaf_within, leaf_at}
+use Rattle.rb_fetch.specs.inner.Fields.{HoldsInt, ReadsAs, ReadsInt, ReadsWord, ReadWords, leaf_at}
 use Rattle.rb_fetch.proofs.Finding.{of_plan}
 use Rattle.rb_fetch.proofs.Fitting.{root_widths}
 use Rattle.rb_fetch.proofs.Spans.{unit_there}

@@ -52,7 +52,8 @@ use Rattle.rb_fragment.proofs.Pieces.{piece_frame, piece_none, piece_seq, piece_
 use Rattle.rb_fetch.specs.Constructing.{AreAsShown, Constructs, IsConstructed}
 use Rattle.rb_fetch.specs.Fields.{FetchesField}
 use Rattle.rb_fetch.specs.Positions.{PositionAt, found_at, mend_under}
-use Rattle.rb_fetch.specs.inner.Fields.{leaf_at, leaf_within}
+use Rattle.rb_fetch.specs.Finding.{leaf_within}
+use Rattle.rb_fetch.specs.inner.Fields.{leaf_at}
 use Rattle.rb_fetch.specs.inner.Rebuilding.{FetchesOpen, FetchesPart, FetchesParts, pattern_at, sub_at}
 use Rattle.rb_fetch.proofs.Costs.{has-flat}
 use Rattle.rb_fetch.proofs.Finding.{of_plan}

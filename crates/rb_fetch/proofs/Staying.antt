@@ -12,7 +12,8 @@ use Rattle.rb_rel.specs.Switches.{HeadAt, inner_heads, is_leaf_for}
 use Rattle.rb_rel.proofs.Lists.{both, and_true}
 use Rattle.rb_rel.proofs.Reading.{same_nat}
 use Rattle.rb_fetch.specs.inner.Choosing.{HasAll, HasCon}
-use Rattle.rb_fetch.specs.inner.Fields.{leaf_at, leaf_within}
+use Rattle.rb_fetch.specs.Finding.{leaf_within}
+use Rattle.rb_fetch.specs.inner.Fields.{leaf_at}
 use Rattle.rb_fetch.specs.inner.Heads.{bare_paths, can_be, can_be_leaf, is_among, is_at, is_bare, leaves_beside, leaves_for, leaves_that_can_be}
 use Rattle.rb_fetch.proofs.Chosen.{con_same, inner_shows, matched_leaf}
 use Rattle.rb_fetch.proofs.Costs.{path_same, path_self}

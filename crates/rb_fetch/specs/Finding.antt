@@ -6,7 +6,7 @@
 -- apart. A read is a number that code can make from slots and loads; it means that number, over slots s and memory m.
 -- A plan has a program and its layouts, and a sheet is a function's code so far. `agreed` is a program with layouts
 -- that agree with its types. A representation is clean where all bits are 0 that stand in no part of a word.
-use Rattle.std.specs.Prelude.{◌≡◌, ℕ, List, Bool, Option, Some, None, length}
+use Rattle.std.specs.Prelude.{◌≡◌, ℕ, List, Bool, Option, Some, None, length, slice_get}
 use Rattle.rb_core.specs.declared.value.Value.{Value}
 use Rattle.rb_core.specs.declared.types.Ty.TheVariants.{Named}
 use Rattle.rb_bytes.specs.Memory.{Memory}
@@ -15,6 +15,7 @@ use Rattle.rb_target.specs.Meaning.{slots_at}
 use Rattle.rb_target.specs.Sheet.{Sheet}
 use Rattle.rb_layout.specs.declared.agreed.LaidOut.{LaidOut}
 use Rattle.rb_layout.specs.declared.layout.Layout.{Layout}
+use Rattle.rb_layout.specs.declared.layout.Leaf.{Leaf}
 use Rattle.rb_layout.specs.Positions.{leaf_of, layout_of}
 use Rattle.rb_rel.specs.Relation.{word_count}
 use Rattle.rb_rel.specs.Switches.{depth_of}
@@ -99,6 +100,11 @@ FindsGroupOf agreed t groups reads old new holes =
     (plan : Plan) → IsPlanOf agreed plan → AllFit old.slots reads → length reads ≡ word_count plan.layouts (Named t)
     → Branches plan old.slots old new holes (group_depth plan.layouts t groups)
     (λ g s m. HasGroupMeant plan t groups g reads s m) (λ g s m. Unit {0})
+
+-- leaf n of a layout; none without a layout, and past its leaves
+abbrev pub leaf_within : Option Layout → ℕ → Option Leaf
+leaf_within None n = None
+leaf_within (Some layout) n = slice_get layout.leaves n
 
 -- how many leaves a layout has; 0 without a layout
 abbrev pub leaves_within : Option Layout → ℕ

@@ -47,9 +47,8 @@ use Rattle.rb_fragment.specs.Slots.{AllBelow}
 use Rattle.rb_fragment.proofs.Adding.{Adds-refl, Adds-trans}
 use Rattle.rb_fragment.proofs.Holds.{AllBelow-more, AreGiven-more, AreGiven-append, Holds-append, IsOfLocal-append, slots_at-kept}
 use Rattle.rb_fragment.proofs.Pieces.{piece_none}
-use Rattle.rb_fetch.specs.Finding.{IsPlanOf, leaf_count, leaves_within}
+use Rattle.rb_fetch.specs.Finding.{IsPlanOf, leaf_count, leaf_within, leaves_within}
 use Rattle.rb_match.specs.Choosing.{Binds, BindsPattern}
-use Rattle.rb_match.specs.inner.Asking.{leaf_in}
 use Rattle.rb_match.specs.inner.Binding.{is_unbound, IsOnlyLeaf, BindsParts, FieldsMatch, BindsFields, FieldMatches, BindsField, fields_bound}
 use Rattle.rb_match.proofs.Unbound.{unbound_binds}
 use Rattle.rb_match.proofs.Edges.{same-nat}
@@ -306,7 +305,7 @@ con_binds agreed t at c subs leaf words old new bound mends named only fields = 
           let b = (opened plan.program.types plan.layouts w.memory clean rep).made in
           let start : 0 + b.number ≡ b.number = omega arith in
           let matched = leaf_matches b.layout.leaves v 0 b.number b.leaf b.is_leaf b.number start b.is_number in
-          let found : leaf_in (layout_of agreed.layouts c.ty) b.number ≡ Some b.leaf = ap (λ o. leaf_in o b.number) (sym (ap (λ ls. layout_of ls c.ty) of.layouts) ∙ b.is_layout) ∙ b.is_number in
+          let found : leaf_within (layout_of agreed.layouts c.ty) b.number ≡ Some b.leaf = ap (λ o. leaf_within o b.number) (sym (ap (λ ls. layout_of ls c.ty) of.layouts) ∙ b.is_layout) ∙ b.is_number in
           let lt = slice_get_within b.layout.leaves b.number b.leaf b.is_number in
           let n : leaf_count agreed c.ty ≡ length b.layout.leaves = ap leaves_within (sym (ap (λ ls. layout_of ls c.ty) of.layouts) ∙ b.is_layout) in
           let is_leaf : b.number ≡ leaf = elim (only b.number (omega (arith, lt, n))) [ inl same ↦ same | inr out ↦ absurd (out b.leaf found v matched matches) ] in

@@ -36,7 +36,7 @@ use Rattle.rb_rel.proofs.Represented.{opened}
 use Rattle.rb_fragment.specs.declared.reads.Read.{Read}
 use Rattle.rb_fragment.specs.Arms.{AreHoles, AreOfOneWay}
 use Rattle.rb_fragment.specs.Plan.{Plan}
-use Rattle.rb_fetch.specs.Finding.{FindsGroupOf, HasGroupMeant, leaf_count, leaves_within}
+use Rattle.rb_fetch.specs.Finding.{FindsGroupOf, HasGroupMeant, leaf_count, leaf_within, leaves_within}
 use Rattle.rb_fetch.specs.Pruning.{group_at, group_or_none}
 use Rattle.rb_fetch.proofs.Grouping.{found_by_depth}
 use Rattle.rb_match.specs.declared.knowledge.Known.{Known}
@@ -44,7 +44,7 @@ use Rattle.rb_match.specs.declared.knowledge.Edge.{Edge}
 use Rattle.rb_match.specs.declared.knowledge.Known.TheVariants as K
 use Rattle.rb_match.specs.Bounding.{choosing_look}
 use Rattle.rb_match.specs.inner.Knowing.{AreKnown, IsEdge, IsKnown, seen}
-use Rattle.rb_match.specs.inner.Asking.{take_link, con_in, leaf_in, leaf_con, link_at, group_for, node_for, facts_for, IsGrouped, AreGroups, edge_in, edge_to, edge_for, keep_edge, leaf_edges_of, LeavesBy, StandOpen, AsksLeaf, holes_of}
+use Rattle.rb_match.specs.inner.Asking.{take_link, con_in, leaf_con, link_at, group_for, node_for, facts_for, IsGrouped, AreGroups, edge_in, edge_to, edge_for, keep_edge, leaf_edges_of, LeavesBy, StandOpen, AsksLeaf, holes_of}
 use Rattle.rb_match.proofs.Edges.{same-nat, hole_at, in_tail, open_edge}
 use Rattle.rb_match.proofs.Following.{carried_known, known-kept, snoc-at}
 use Rattle.rb_match.proofs.NumberTests.{Keeps-less}
@@ -83,7 +83,7 @@ link_same (a ∷ arms) other c us =
 -- a value of a leaf begins with the leaf's constructor
 pub leaf_begins : (agreed : LaidOut) (t l c : ℕ) → leaf_con agreed t l ≡ Some c → (plan : Plan) → IsPlanOf agreed plan → (layout : Layout) (part : Value) → layout_of plan.layouts t ≡ Some layout → leaf_of layout part ≡ Some l → (us : List Value) × (out-Value part ≡ V.Con c us)
 leaf_begins agreed t l c con plan of layout part is is_leaf =
-    go (slice_get layout.leaves l) refl (ap (λ o. con_in (leaf_in o l)) (sym (sym (ap (λ ls. layout_of ls t) of.layouts) ∙ is)) ∙ con)
+    go (slice_get layout.leaves l) refl (ap (λ o. con_in (leaf_within o l)) (sym (sym (ap (λ ls. layout_of ls t) of.layouts) ∙ is)) ∙ con)
   where
     go : (o : Option Leaf) → slice_get layout.leaves l ≡ o → con_in (slice_get layout.leaves l) ≡ Some c → (us : List Value) × (out-Value part ≡ V.Con c us)
     go None at e = absurd (let z = sym (ap con_in at) ∙ e in cc)

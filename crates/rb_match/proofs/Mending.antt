@@ -23,7 +23,7 @@ use Rattle.rb_rel.specs.Switches.{HeadAt, choose_of, greatest, head_below, heads
 use Rattle.rb_rel.proofs.Leaves.{leaf_matches}
 use Rattle.rb_fragment.specs.Plan.{Plan}
 use Rattle.rb_match.specs.Bounding.{takes_none_apart, rebuilding}
-use Rattle.rb_match.specs.inner.Asking.{leaf_in}
+use Rattle.rb_fetch.specs.Finding.{leaf_within}
 use Rattle.rb_match.specs.inner.Saving.{HasPart, mend_at, mend_below, mend_inside, mend_pattern, mends_at, pattern_at, prov_at, provenance}
 use Rattle.rb_match.proofs.Edges.{same-nat}
 
@@ -94,14 +94,14 @@ module _ (layouts : List Layout) where
   mends-inside t number path None is zero = omega arith
   mends-inside t number path None is (suc i) =
       let r = mends-inside t number path None is i in
-      let e : mend_at layouts t number (path ++ i ∷ []) ≡ 0 = ap (mend_pattern layouts) (pattern-snoc (provenance (leaf_in (layout_of layouts t) number)) path i ∙ ap (λ o. sub_of o i) is) in omega (arith, r, e)
+      let e : mend_at layouts t number (path ++ i ∷ []) ≡ 0 = ap (mend_pattern layouts) (pattern-snoc (provenance (leaf_within (layout_of layouts t) number)) path i ∙ ap (λ o. sub_of o i) is) in omega (arith, r, e)
   mends-inside t number path (Some p) is i = (let a = same i in let b = some-all p i in omega (arith, a, b))
     where
       same : (i : ℕ) → mends_at layouts t number path i ≡ some (subpatterns (out-Pat p)) i
       same zero = refl
       same (suc i) =
           let r = same i in
-          let e : mend_at layouts t number (path ++ i ∷ []) ≡ mend_pattern layouts (slice_get (subpatterns (out-Pat p)) i) = ap (mend_pattern layouts) (pattern-snoc (provenance (leaf_in (layout_of layouts t) number)) path i ∙ ap (λ o. sub_of o i) is) in omega (arith, r, e)
+          let e : mend_at layouts t number (path ++ i ∷ []) ≡ mend_pattern layouts (slice_get (subpatterns (out-Pat p)) i) = ap (mend_pattern layouts) (pattern-snoc (provenance (leaf_within (layout_of layouts t) number)) path i ∙ ap (λ o. sub_of o i) is) in omega (arith, r, e)
 
   -- parts at and below fields, each once, are parts below what has the fields
   pub mends_below : (t number : ℕ) (path : List ℕ) (i : ℕ) → mends_at layouts t number path i ≤ mend_below layouts t number path
@@ -138,7 +138,7 @@ module _ (layouts : List Layout) where
   mend_within t recurs number = in_layout (layout_of layouts t) refl
     where
       here : (layout : Layout) → layout_of layouts t ≡ Some layout → (leaf : Leaf) → slice_get layout.leaves number ≡ Some leaf → mend_below layouts t number [] ≡ sum_by cost (inner_heads leaf)
-      here layout is leaf at = ap (λ o. mend_inside layouts (pattern_at (provenance o) [])) (ap (λ o. leaf_in o number) is ∙ at)
+      here layout is leaf at = ap (λ o. mend_inside layouts (pattern_at (provenance o) [])) (ap (λ o. leaf_within o number) is ∙ at)
 
       in_both : (layout : Layout) → layout_of layouts t ≡ Some layout → (leaf : Leaf) → slice_get layout.leaves number ≡ Some leaf → (u : Bool) → takes_none_apart layouts t ≡ u → mend_below layouts t number [] ≤ (if u then 0 else mend_of layouts t)
       in_both layout is leaf at true plain =
@@ -151,11 +151,11 @@ module _ (layouts : List Layout) where
           let e = ap (λ o. greatest (map (mend_leaf (choose_of layouts)) (leaves_of_layout o))) is in omega (arith, a, g, e, recurs)
 
       in_leaf : (layout : Layout) → layout_of layouts t ≡ Some layout → (o : Option Leaf) → slice_get layout.leaves number ≡ o → mend_below layouts t number [] ≤ rebuilding layouts (Named t)
-      in_leaf layout is None none = (let z = ap (λ o. mend_inside layouts (pattern_at (provenance o) [])) (ap (λ o. leaf_in o number) is ∙ none) in omega (arith, z))
+      in_leaf layout is None none = (let z = ap (λ o. mend_inside layouts (pattern_at (provenance o) [])) (ap (λ o. leaf_within o number) is ∙ none) in omega (arith, z))
       in_leaf layout is (Some leaf) at = in_both layout is leaf at (takes_none_apart layouts t) refl
 
       in_layout : (o : Option Layout) → layout_of layouts t ≡ o → mend_below layouts t number [] ≤ rebuilding layouts (Named t)
-      in_layout None is = (let z = ap (λ o. mend_inside layouts (pattern_at (provenance (leaf_in o number)) [])) is in omega (arith, z))
+      in_layout None is = (let z = ap (λ o. mend_inside layouts (pattern_at (provenance (leaf_within o number)) [])) is in omega (arith, z))
       in_layout (Some layout) is = in_leaf layout is (slice_get layout.leaves number) refl
 
   -- rebuilding fields of one leaf, each once

@@ -10,7 +10,7 @@ use Rattle.rb_core.specs.declared.types.ConRef.{ConRef}
 use Rattle.rb_core.specs.declared.types.DataDecl.{DataDecl}
 use Rattle.rb_core.specs.declared.pattern.Pat.{Pat, Wild, Var, Num, Con, out-Pat}
 use Rattle.rb_core.specs.declared.pattern.Pat.TheVariants.{outs-Wild, outs-Var, outs-Num, outs-Con}
-use Rattle.rb_match.specs.inner.Asking.{con_in, leaf_in, leaf_con}
+use Rattle.rb_match.specs.inner.Asking.{con_in, leaf_con}
 use Rattle.rb_core.specs.Typing.{field_types}
 use Rattle.rb_core.specs.Values.{part_from, sub_at}
 use Rattle.rb_core.proofs.PatternLaws.{fold-Con}
@@ -28,6 +28,7 @@ use Rattle.rb_fragment.specs.declared.reads.Read.{Read, Slot}
 use Rattle.rb_fragment.proofs.MakingAll.{slots_fit, slots_meant}
 use Rattle.rb_fragment.specs.Plan.{Rep, words_needed}
 use Rattle.rb_fetch.specs.Fields.{ReadsField}
+use Rattle.rb_fetch.specs.Finding.{leaf_within}
 use Rattle.rb_match.specs.declared.knowledge.Known.{Known}
 use Rattle.rb_match.specs.declared.place.Place.{Place}
 use Rattle.rb_match.specs.Bounding.{places_in, places_step, places_below, place_below}
@@ -153,16 +154,16 @@ in-flat f (z ∷ xs) (suc i) x y e k h = let r = in-flat f xs i x y e k h in get
 pub con-known : (agreed : LaidOut) (t l : ℕ) (layout : Layout) (leaf : Leaf) → layout_of agreed.layouts t ≡ Some layout → slice_get layout.leaves l ≡ Some leaf → (at : ℕ) (c : ConRef) (ps : List Pat) → leaf.prov ≡ Con at c ps
     → leaf_con agreed t l ≡ Some c.con
 con-known agreed t l layout leaf a b at c ps e =
-    ap (λ o. con_in (leaf_in o l)) a ∙ ap con_in b ∙ ap (λ p. con_of_layer (out-Pat p)) e ∙ ap con_of_layer (outs-Con at c ps)
+    ap (λ o. con_in (leaf_within o l)) a ∙ ap con_in b ∙ ap (λ p. con_of_layer (out-Pat p)) e ∙ ap con_of_layer (outs-Con at c ps)
 
 pub con-none-Wild : (agreed : LaidOut) (t l : ℕ) (layout : Layout) (leaf : Leaf) → layout_of agreed.layouts t ≡ Some layout → slice_get layout.leaves l ≡ Some leaf → (at : ℕ) → leaf.prov ≡ Wild at → leaf_con agreed t l ≡ None
 con-none-Wild agreed t l layout leaf a b at e =
-    ap (λ o. con_in (leaf_in o l)) a ∙ ap con_in b ∙ ap (λ p. con_of_layer (out-Pat p)) e ∙ ap con_of_layer (outs-Wild at)
+    ap (λ o. con_in (leaf_within o l)) a ∙ ap con_in b ∙ ap (λ p. con_of_layer (out-Pat p)) e ∙ ap con_of_layer (outs-Wild at)
 
 pub con-none-Var : (agreed : LaidOut) (t l : ℕ) (layout : Layout) (leaf : Leaf) → layout_of agreed.layouts t ≡ Some layout → slice_get layout.leaves l ≡ Some leaf → (at x : ℕ) → leaf.prov ≡ Var at x → leaf_con agreed t l ≡ None
 con-none-Var agreed t l layout leaf a b at x e =
-    ap (λ o. con_in (leaf_in o l)) a ∙ ap con_in b ∙ ap (λ p. con_of_layer (out-Pat p)) e ∙ ap con_of_layer (outs-Var at x)
+    ap (λ o. con_in (leaf_within o l)) a ∙ ap con_in b ∙ ap (λ p. con_of_layer (out-Pat p)) e ∙ ap con_of_layer (outs-Var at x)
 
 pub con-none-Num : (agreed : LaidOut) (t l : ℕ) (layout : Layout) (leaf : Leaf) → layout_of agreed.layouts t ≡ Some layout → slice_get layout.leaves l ≡ Some leaf → (at n : ℕ) → leaf.prov ≡ Num at n → leaf_con agreed t l ≡ None
 con-none-Num agreed t l layout leaf a b at n e =
-    ap (λ o. con_in (leaf_in o l)) a ∙ ap con_in b ∙ ap (λ p. con_of_layer (out-Pat p)) e ∙ ap con_of_layer (outs-Num at n)
+    ap (λ o. con_in (leaf_within o l)) a ∙ ap con_in b ∙ ap (λ p. con_of_layer (out-Pat p)) e ∙ ap con_of_layer (outs-Num at n)

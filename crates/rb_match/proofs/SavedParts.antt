@@ -34,7 +34,7 @@ use Rattle.rb_fragment.proofs.Adding.{Adds-refl, Adds-trans}
 use Rattle.rb_fragment.proofs.Moves.{copied-other, slots_at-copied}
 use Rattle.rb_fragment.proofs.Pieces.{piece_frame, straight_write}
 use Rattle.rb_fetch.specs.Fields.{FetchesField}
-use Rattle.rb_fetch.specs.Finding.{IsPlanOf}
+use Rattle.rb_fetch.specs.Finding.{IsPlanOf, leaf_within}
 use Rattle.rb_fetch.specs.Positions.{PositionAt, found_at, mend_under}
 use Rattle.rb_layout.specs.declared.layout.Layout.{Layout}
 use Rattle.std.proofs.Common.{take, get_or}
@@ -51,7 +51,6 @@ use Rattle.rb_core.specs.Values.{fields_of}
 use Rattle.rb_layout.specs.Positions.{pair_of, sub_in, sub_pattern, types_or_none}
 use Rattle.rb_fragment.proofs.MakingAll.{take_more}
 use Rattle.rb_match.proofs.Mending.{has_part}
-use Rattle.rb_match.specs.inner.Asking.{leaf_in}
 use Rattle.rb_match.specs.declared.knowledge.Known.{Known}
 use Rattle.rb_match.specs.declared.knowledge.Known.TheVariants.{Leaf, Saved}
 use Rattle.rb_match.specs.inner.Asking.{AreSpots}
@@ -221,7 +220,7 @@ fetches_part agreed t leaf path at words old new slots (layout, found, is, is_le
     let f = fetches plan of at position low count in
     let is_sub = found-pattern plan.program.types found.prov (Named t) path sub at at1 in
     let most : mend_at plan.layouts t leaf path ≡ mend_under plan.layouts sub =
-    ap (λ o. mend_pattern plan.layouts (pattern_at (provenance o) path)) (ap (λ o. leaf_in o leaf) layout1 ∙ is_leaf) ∙ ap (λ o. mend_pattern plan.layouts o) is_sub in
+    ap (λ o. mend_pattern plan.layouts (pattern_at (provenance o) path)) (ap (λ o. leaf_within o leaf) layout1 ∙ is_leaf) ∙ ap (λ o. mend_pattern plan.layouts o) is_sub in
     record {
       has = has_part plan t leaf path layout found sub layout1 is_leaf is_sub;
       adds = f.adds;

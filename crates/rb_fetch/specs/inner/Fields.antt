@@ -3,7 +3,7 @@
 -- read is a number that code can make from slots and loads; a range of it, a span, is some of its bits. A field
 -- stands at an open position of the leaf, a path of field numbers from the root: `subs` has the words of the value at
 -- each, and `ats` the address of each block.
-use Rattle.std.specs.Prelude.{◌≡◌, ℕ, ◌+◌, ◌<◌, ◌≤◌, ◌==◌, ◌&&◌, List, map, length, Bool, true, Option, Some, None, slice_get, slice_index}
+use Rattle.std.specs.Prelude.{◌≡◌, ℕ, ◌+◌, ◌<◌, ◌≤◌, ◌==◌, ◌&&◌, List, map, length, Bool, true, Option, Some, slice_get, slice_index}
 use Rattle.std.specs.List.{list_all}
 use Rattle.rb_core.specs.declared.types.Ty.TheVariants.{Int, Named}
 use Rattle.rb_bits.specs.Words.{IsRange, take_of}
@@ -22,6 +22,7 @@ use Rattle.rb_fragment.specs.WordReads.{AreMeant, AllFit, IsSlotOf}
 use Rattle.rb_fetch.specs.declared.span.Span.{Span}
 use Rattle.rb_fetch.specs.declared.place.Wanted.TheVariants.{UnitOf}
 use Rattle.rb_compose.specs.Counts.{capped}
+use Rattle.rb_fetch.specs.Finding.{leaf_within}
 use Rattle.rb_fetch.specs.inner.Reads.{Spans}
 use Rattle.rb_fetch.specs.inner.Placing.{NoSpot}
 
@@ -109,11 +110,6 @@ pub record ReadWords (leaf : Leaf) (words : List Read) (path : List ℕ) (ty cou
   pub each : (j : ℕ) (r : Read) → slice_get reads j ≡ Some r → ReadsWord leaf words path ty j r
 
 -- Leaves and types by number
-
--- leaf n of a layout; none without a layout, and past its leaves
-abbrev pub leaf_within : Option Layout → ℕ → Option Leaf
-leaf_within None n = None
-leaf_within (Some layout) n = slice_get layout.leaves n
 
 -- leaf n of the layout of type t; none where t has no layout, and past its leaves
 abbrev pub leaf_at : List Layout → ℕ → ℕ → Option Leaf

@@ -35,7 +35,6 @@ use Rattle.rb_target.specs.Meaning.{World, Next, Callee}
 use Rattle.rb_target.specs.Sheet.{Sheet, IsHole}
 use Rattle.rb_target.specs.Targets.{target_in, Finishes}
 use Rattle.rb_layout.specs.declared.agreed.LaidOut.{LaidOut}
-use Rattle.rb_layout.specs.declared.layout.Layout.{Layout}
 use Rattle.rb_layout.specs.declared.layout.Leaf.{Leaf}
 use Rattle.rb_layout.specs.Positions.{con_of_layer, layout_of}
 use Rattle.rb_fragment.specs.declared.reads.Read.{Read}
@@ -44,7 +43,7 @@ use Rattle.rb_fragment.specs.Adding.{Adds}
 use Rattle.rb_fragment.specs.Pieces.{IsLater}
 use Rattle.rb_fragment.specs.Slots.{AllFrom, SlotsAreApart, IsDistinct}
 use Rattle.rb_fragment.specs.WordReads.{AreMeant, AllFit}
-use Rattle.rb_fetch.specs.Finding.{IsPlanOf, leaf_count}
+use Rattle.rb_fetch.specs.Finding.{IsPlanOf, leaf_count, leaf_within}
 use Rattle.rb_match.specs.declared.knowledge.Known.{Known}
 use Rattle.rb_match.specs.declared.knowledge.Known.TheVariants as K
 use Rattle.rb_match.specs.declared.knowledge.Spot.{Spot}
@@ -127,15 +126,10 @@ abbrev pub con_in : Option Leaf → Option ℕ
 con_in None = None
 con_in (Some leaf) = con_of_layer (out-Pat leaf.prov)
 
--- leaf l of a layout, if there is a layout and it has such a leaf
-abbrev pub leaf_in : Option Layout → ℕ → Option Leaf
-leaf_in None l = None
-leaf_in (Some layout) l = slice_get layout.leaves l
-
 -- the number of the constructor with which the values of leaf l of data type t begin, if there is such a leaf and its
 -- provenance begins with one
 abbrev pub leaf_con : LaidOut → ℕ → ℕ → Option ℕ
-leaf_con agreed t l = con_in (leaf_in (layout_of agreed.layouts t) l)
+leaf_con agreed t l = con_in (leaf_within (layout_of agreed.layouts t) l)
 
 -- the node to which a test leads the values of the constructor with this number; none where the test has none for
 -- them, or where no constructor is given

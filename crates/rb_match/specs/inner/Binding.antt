@@ -37,7 +37,7 @@ use Rattle.rb_fragment.specs.Holding.{AreGiven, Holds, IsOfLocal, scope_of}
 use Rattle.rb_fragment.specs.Pieces.{AtEnd, CodePiece}
 use Rattle.rb_fragment.specs.Plan.{Plan, Rep, words_needed}
 use Rattle.rb_fragment.specs.Slots.{AllBelow, IsOneOf}
-use Rattle.rb_fetch.specs.Finding.{IsPlanOf, leaf_count}
+use Rattle.rb_fetch.specs.Finding.{IsPlanOf, leaf_count, leaf_within}
 use Rattle.rb_matrix.specs.Apart.{PatternsAreApart}
 use Rattle.rb_match.specs.Choosing.{BindsPattern}
 use Rattle.rb_bytes.specs.Memory.{Memory}
@@ -48,13 +48,13 @@ use Rattle.rb_match.specs.declared.knowledge.Known.{Known}
 use Rattle.rb_match.specs.declared.knowledge.Spot.{Spot}
 use Rattle.rb_match.specs.inner.Knowing.{AreKnown, seen}
 use Rattle.rb_match.specs.Bounding.{binding_bound, binding_look, choosing_look, looks_with, places_below, places_in}
-use Rattle.rb_match.specs.inner.Asking.{AreSpots, leaf_in}
+use Rattle.rb_match.specs.inner.Asking.{AreSpots}
 use Rattle.rb_match.specs.inner.Saving.{IsThere, mend_at, mends_from}
 
 -- no value of leaf n of data type t matches the pattern, or there is no such leaf
 abbrev pub IsLeftOut : LaidOut → ℕ → Pat → ℕ → Type 0
 IsLeftOut agreed t p n =
-    (leaf : Leaf) → leaf_in (layout_of agreed.layouts t) n ≡ Some leaf → PatternsAreApart leaf.prov p
+    (leaf : Leaf) → leaf_within (layout_of agreed.layouts t) n ≡ Some leaf → PatternsAreApart leaf.prov p
 
 -- of the first `count` leaves of data type t none but this one has values that the pattern matches
 abbrev pub IsOnly : LaidOut → ℕ → Pat → ℕ → ℕ → Type 0

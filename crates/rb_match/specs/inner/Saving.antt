@@ -33,13 +33,13 @@ use Rattle.rb_fragment.specs.Adding.{Adds}
 use Rattle.rb_fragment.specs.Plan.{Plan, Rep, words_needed}
 use Rattle.rb_fragment.specs.Pieces.{AtEnd, CodePiece, Straight}
 use Rattle.rb_fragment.specs.Slots.{AllBelow, AllFrom, SlotsAreApart, IsDistinct, IsOneOf}
-use Rattle.rb_fetch.specs.Finding.{IsPlanOf}
+use Rattle.rb_fetch.specs.Finding.{IsPlanOf, leaf_within}
 use Rattle.rb_match.specs.declared.knowledge.Known.{Known}
 use Rattle.rb_match.specs.declared.knowledge.Spot.{Spot}
 use Rattle.rb_match.specs.declared.saving.Source.{Source}
 use Rattle.rb_match.specs.Bounding.{rebuilding}
 use Rattle.rb_match.specs.inner.Knowing.{AreKnown, seen}
-use Rattle.rb_match.specs.inner.Asking.{AreSpots, leaf_in}
+use Rattle.rb_match.specs.inner.Asking.{AreSpots}
 
 -- Spots -----------------------------------------------------------------------------------------
 
@@ -94,7 +94,7 @@ provenance (Some leaf) = Some leaf.prov
 -- what stands at a path of the provenance of leaf number `leaf` of data type t; none where nothing does, or there is
 -- no such leaf
 abbrev pub prov_at : List Layout → ℕ → ℕ → List ℕ → Option Pat
-prov_at layouts t leaf path = pattern_at (provenance (leaf_in (layout_of layouts t) leaf)) path
+prov_at layouts t leaf path = pattern_at (provenance (leaf_within (layout_of layouts t) leaf)) path
 
 -- the switches that rebuild what a leaf took apart where this part of its provenance stands, and below; 0 where there
 -- is no such part
