@@ -21,7 +21,7 @@ use Rattle.rb_layout.specs.Spots.{IsRefusedBy}
 use Rattle.rb_layout.specs.declared.evidence.Refused.{Refused as Disagreed}
 use Rattle.rb_lines.specs.Places.{byte_of}
 use Rattle.rb_lines.specs.Answer.{Due, refusal}
-use Rattle.rb_lines.specs.Lines.{named_line, ended, no_memory_line}
+use Rattle.rb_lines.specs.Lines.{named_line, no_memory_line}
 use Rattle.rb_lines.specs.declared.status.Status.TheVariants as status
 use Rattle.rb_lines.specs.FileLines.{at_byte, limit_line, nesting_line, unknown_line, twice_line, no_main_line, empty_line, mismatch_line, arity_line, missing_line, recursive_line, wide_line}
 use Rattle.rb_names.specs.Completing.{IsCompleted}
@@ -32,6 +32,7 @@ use Rattle.rb_names.specs.declared.fault.NameFault.TheVariants as names
 use Rattle.rb_read.specs.Files.{IsFileAnswer}
 use Rattle.rb_read.specs.declared.fault.ReadFault.{ReadFault}
 use Rattle.rb_read.specs.declared.fault.ReadFault.TheVariants as reading
+use Rattle.rb_show.specs.Lines.{line}
 use Rattle.rb_show.specs.Refusals.{refusal_text}
 use Rattle.rb_syntax.specs.Cutting.{HasTokens, HasBadByte, HasWideNumber}
 use Rattle.rb_syntax.specs.Tokens.{tokens}
@@ -130,7 +131,7 @@ derived_due ts auto.Memory = refusal status.NoMemory no_memory_line
 
 -- what is due where a layout breaks a rule
 abbrev pub layout_due : Program → Disagreed → Due
-layout_due p fault = refusal status.Layout (ended (named_line (refusal_text p.types (flat_layouts p) fault)))
+layout_due p fault = refusal status.Layout (line (named_line (refusal_text p.types (flat_layouts p) fault)))
 
 -- What is due to a file by the first of these that refuses it: tokens, grammar and limits, names,
 -- types, exhaustiveness, layouts that are derived, layouts.

@@ -4,22 +4,23 @@ use Rattle.std.specs.Prelude.{ℕ, List, ◌++◌, codes}
 use Rattle.std.specs.Fmt.{decimal}
 use Rattle.rb_image_text.specs.declared.fault.ImageFault.{ImageFault}
 use Rattle.rb_image_text.specs.declared.fault.ImageFault.TheVariants.{ImageSyntax, ImageBlock, BadRoot, BadBits, BadPointer, ImageTooLarge, NoSuchPart, Memory}
+use Rattle.rb_show.specs.Lines.{line}
 use Rattle.rb_lines.specs.Answer.{Due, refusal}
 use Rattle.rb_lines.specs.ArgumentLines.{node_limit}
-use Rattle.rb_lines.specs.Lines.{named_line, ended, large_line, no_memory_line}
+use Rattle.rb_lines.specs.Lines.{named_line, large_line, no_memory_line}
 use Rattle.rb_lines.specs.Numbers.{image_syntax, image_block, bad_root, bad_bits, bad_pointer, no_such_part}
 use Rattle.rb_lines.specs.declared.status.Status.{Status}
 use Rattle.rb_lines.specs.declared.status.Status.TheVariants as status
 
 -- the line of an image fault of this number at a place, where `kind` says what the place counts
 abbrev pub fault_at : ℕ → List ℕ → ℕ → List ℕ
-fault_at number kind at = ended (named_line (codes "image ") ++ decimal number ++ kind ++ decimal at)
+fault_at number kind at = line (named_line (codes "image ") ++ decimal number ++ kind ++ decimal at)
 
 -- the line of an image fault of this number in the block that begins at `base`, which is 0 for the root words; `kind`
 -- says what the last number is: a place there, or the address to which a pointer there leads
 abbrev pub fault_in : ℕ → ℕ → List ℕ → ℕ → List ℕ
 fault_in number base kind at =
-    ended (named_line (codes "image ") ++ decimal number ++ codes ": base " ++ decimal base ++ kind ++ decimal at)
+    line (named_line (codes "image ") ++ decimal number ++ codes ": base " ++ decimal base ++ kind ++ decimal at)
 
 -- The status of an image fault. A value of too many nodes is no fault of an image, but a limit of what is shown.
 abbrev pub image_status : ImageFault → Status

@@ -8,19 +8,16 @@ use Rattle.rb_bytes.specs.declared.fault.Trap.{Trap}
 use Rattle.rb_bytes.specs.declared.fault.Trap.TheVariants.{Astray, Unwritten, Unmatched}
 use Rattle.rb_target.specs.declared.fault.CodeFault.{CodeFault}
 use Rattle.rb_target.specs.declared.fault.CodeFault.TheVariants.{CodeSyntax, BadSlot, BadJump, BadCall, Memory}
+use Rattle.rb_show.specs.Lines.{line}
 use Rattle.rb_lines.specs.Numbers.{code_syntax, bad_slot, bad_jump, bad_call, trap_number}
 
 -- a text behind the program's name, as each line for the error output begins
 abbrev pub named_line : List ℕ → List ℕ
 named_line text = codes "ribbit: " ++ text
 
--- a text with a newline behind it, as each line ends
-abbrev pub ended : List ℕ → List ℕ
-ended text = text ++ codes "\n"
-
 -- the line of the first word at fault in a command
 abbrev pub usage_line : ℕ → List ℕ
-usage_line word = ended (named_line (codes "usage at word ") ++ decimal word)
+usage_line word = line (named_line (codes "usage at word ") ++ decimal word)
 
 -- the line of a file whose opening or reading failed
 abbrev pub read_fault_line : List ℕ
@@ -37,47 +34,47 @@ no_memory_line = codes "ribbit: no memory\n"
 -- the line of a file with so many bytes, over their limit
 abbrev pub file_bytes_line : ℕ → ℕ → List ℕ
 file_bytes_line count limit =
-    ended (named_line (codes "limit file bytes: ") ++ decimal count ++ codes " over " ++ decimal limit)
+    line (named_line (codes "limit file bytes: ") ++ decimal count ++ codes " over " ++ decimal limit)
 
 -- the line of a run that would make more than so many calls
 abbrev pub spent_line : ℕ → List ℕ
-spent_line calls = ended (named_line (codes "calls spent: ") ++ decimal calls)
+spent_line calls = line (named_line (codes "calls spent: ") ++ decimal calls)
 
 -- the line of a number of arguments that is not the function's
 abbrev pub count_line : ℕ → ℕ → List ℕ
 count_line wanted found =
-    ended (named_line (codes "wanted ") ++ decimal wanted ++ codes " arguments, found " ++ decimal found)
+    line (named_line (codes "wanted ") ++ decimal wanted ++ codes " arguments, found " ++ decimal found)
 
 -- the line of code that has no function of this name
 abbrev pub no_function_line : List ℕ → List ℕ
-no_function_line name = ended (named_line (codes "no function ") ++ name)
+no_function_line name = line (named_line (codes "no function ") ++ name)
 
 -- the line of a block that doesn't fit into the region: the address from which on it would be placed, its size and
 -- alignment, and the address at which the region ends
 abbrev pub full_line : Full → List ℕ
-full_line f = ended (named_line (codes "region full: next ") ++ decimal f.next ++ codes ", size " ++ decimal f.size
+full_line f = line (named_line (codes "region full: next ") ++ decimal f.next ++ codes ", size " ++ decimal f.size
     ++ codes ", align " ++ decimal f.align ++ codes ", limit " ++ decimal f.limit)
 
 -- the line of a trap, with its number
 abbrev pub trap_line : Trap → List ℕ
 trap_line (Astray base offset) =
-    ended (named_line (codes "trap ") ++ decimal (trap_number (Astray base offset)) ++ codes ": base " ++ decimal base
+    line (named_line (codes "trap ") ++ decimal (trap_number (Astray base offset)) ++ codes ": base " ++ decimal base
     ++ codes ", offset " ++ decimal offset)
 trap_line (Unwritten address) =
-    ended (named_line (codes "trap ") ++ decimal (trap_number (Unwritten address)) ++ codes ": address "
+    line (named_line (codes "trap ") ++ decimal (trap_number (Unwritten address)) ++ codes ": address "
     ++ decimal address)
 trap_line (Unmatched word) =
-    ended (named_line (codes "trap ") ++ decimal (trap_number (Unmatched word)) ++ codes ": word " ++ decimal word)
+    line (named_line (codes "trap ") ++ decimal (trap_number (Unmatched word)) ++ codes ": word " ++ decimal word)
 
 -- the line of functions that are not valid together: the number of the fault's kind, and the instruction of a
 -- function where it stands
 abbrev pub at_instruction : ℕ → ℕ → ℕ → List ℕ
-at_instruction kind function instruction = ended (named_line (codes "code ") ++ decimal kind
+at_instruction kind function instruction = line (named_line (codes "code ") ++ decimal kind
     ++ codes ": function " ++ decimal function ++ codes ", instruction " ++ decimal instruction)
 
 -- the line of bytes that are no code
 abbrev pub code_line : CodeFault → List ℕ
-code_line (CodeSyntax at) = ended (named_line (codes "code ") ++ decimal code_syntax ++ codes " at byte " ++ decimal at)
+code_line (CodeSyntax at) = line (named_line (codes "code ") ++ decimal code_syntax ++ codes " at byte " ++ decimal at)
 code_line (BadSlot n pc) = at_instruction bad_slot n pc
 code_line (BadJump n pc) = at_instruction bad_jump n pc
 code_line (BadCall n pc) = at_instruction bad_call n pc
@@ -85,7 +82,7 @@ code_line Memory = no_memory_line
 
 -- the line of a value with more nodes than this limit
 abbrev pub large_line : ℕ → List ℕ
-large_line limit = ended (named_line (codes "value over ") ++ decimal limit ++ codes " nodes")
+large_line limit = line (named_line (codes "value over ") ++ decimal limit ++ codes " nodes")
 
 -- numbers in decimal digits, each after a blank
 abbrev pub spaced : List ℕ → List ℕ
@@ -99,4 +96,4 @@ listed (n ∷ ns) = decimal n ++ spaced ns
 
 -- the line of words in decimal digits, with one blank between
 abbrev pub words_line : List ℕ → List ℕ
-words_line words = ended (listed words)
+words_line words = line (listed words)

@@ -7,6 +7,7 @@
 
 ghost use Rattle.std.specs.Prelude.{◌≡◌, ◌∷◌, ◌++◌, OnOk, IfOk};
 ghost use Rattle.std.specs.Fmt.{decimal};
+ghost use Rattle.rb_show.specs.Lines as shown;
 ghost use Rattle.rb_lines.specs.Lines as line;
 
 use crate::numbers::{ASTRAY, BAD_CALL, BAD_JUMP, BAD_SLOT, CODE_SYNTAX, UNMATCHED, UNWRITTEN};
@@ -43,7 +44,7 @@ pub fn begin(alloc: Global, bytes: &[u8]) -> Result<Vec<u8>, AllocError>
 ///
 /// Want of memory.
 pub fn end(text: Vec<u8>) -> Result<Vec<u8>, AllocError>
-    ensures { IfOk result (λ ended. ended.items ≡ line.ended text.items) }
+    ensures { IfOk result (λ ended. ended.items ≡ shown.line text.items) }
 {
     let mut text = text;
     push(&mut text, b"\n")?;

@@ -12,7 +12,7 @@ use Rattle.rb_core.specs.declared.value.Value.{Value}
 use Rattle.rb_layout.specs.declared.agreed.LaidOut.{LaidOut}
 use Rattle.rb_layout.specs.declared.layout.Layout.{Layout}
 use Rattle.rb_lines.specs.Answer.{Due}
-use Rattle.rb_lines.specs.Lines.{ended}
+use Rattle.rb_show.specs.Lines.{line}
 use Rattle.rb_run.specs.Calling.{IsCounted}
 use Rattle.rb_run.specs.Counting.{IsTally}
 use Rattle.rb_run.specs.declared.count.Tally.{Tally}
@@ -23,7 +23,7 @@ use Rattle.ribbit_tool.specs.Run.{PreparesFile, answer_due, laid_all, source_ans
 
 -- a line with a count behind its name
 abbrev pub number_line : List ℕ → ℕ → List ℕ
-number_line name count = ended (name ++ codes " " ++ decimal count)
+number_line name count = line (name ++ codes " " ++ decimal count)
 
 -- a line with the value, and lines with how many calls were made, switches done, blocks placed and bytes taken
 abbrev pub count_text : Program → Tally → Value → List ℕ

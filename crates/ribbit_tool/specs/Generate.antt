@@ -5,7 +5,7 @@ use Rattle.std.specs.Prelude.{◌≡◌, ℕ, zero, suc, ◌+◌, ◌%◌, List,
 use Rattle.std.specs.Fmt.{decimal}
 use Rattle.rb_command.specs.Command.{Limits}
 use Rattle.rb_lines.specs.Answer.{Due, printed}
-use Rattle.rb_lines.specs.Lines.{ended}
+use Rattle.rb_show.specs.Lines.{line}
 use Rattle.ribbit_tool.specs.Count.{CountsFile}
 
 -- the line that declares lists of numbers
@@ -25,7 +25,7 @@ up_line = codes "fun up(n: u64, l: List): List = match n { 0 => l, _ => up(sub(n
 -- the empty list
 abbrev pub sum_line : ℕ → ℕ → List ℕ
 sum_line i j =
-    ended (codes "fun f" ++ decimal i ++ codes "(l: List): u64 = match l { Nil => 0, Cons(x, r) => add(x, f"
+    line (codes "fun f" ++ decimal i ++ codes "(l: List): u64 = match l { Nil => 0, Cons(x, r) => add(x, f"
     ++ decimal j ++ codes "(r)) };")
 
 -- the line of `main`, which gives the sum of the numbers from 1 to 3000, by function 0

@@ -18,9 +18,10 @@ use Rattle.rb_core.specs.declared.program.Program.{Program}
 use Rattle.rb_core.specs.declared.value.Value.{Value}
 use Rattle.rb_layout.specs.declared.agreed.LaidOut.{LaidOut}
 use Rattle.rb_layout.specs.declared.layout.Layout.{Layout}
+use Rattle.rb_show.specs.Lines.{line}
 use Rattle.rb_lines.specs.Answer.{Due, printed, refused}
 use Rattle.rb_lines.specs.ArgumentLines.{node_limit}
-use Rattle.rb_lines.specs.Lines.{ended, spent_line, full_line, large_line}
+use Rattle.rb_lines.specs.Lines.{spent_line, full_line, large_line}
 use Rattle.rb_lines.specs.declared.status.Status.TheVariants as status
 use Rattle.rb_rel.specs.Answers as answer
 use Rattle.rb_rel.specs.Answers.{all_makings, answer_of}
@@ -93,7 +94,7 @@ whole_answer p layouts limits args = unbounded (laid_all p layouts limits args) 
 
 -- the text of a value of the result type of `main`, on a line
 abbrev pub value_line : Program → Value → List ℕ
-value_line p v = ended (text_of p.types v (result_type p.funs p.main))
+value_line p v = line (text_of p.types v (result_type p.funs p.main))
 
 -- The source's answer is due, with the steps of the code's run on words that represent the values, over a
 -- fresh region.

@@ -15,10 +15,11 @@ use Rattle.rb_image.specs.Roots.{IsFirstImageFault}
 use Rattle.rb_image_text.specs.declared.fault.ImageFault.{ImageFault}
 use Rattle.rb_image_text.specs.declared.image.Image.{Image}
 use Rattle.rb_layout.specs.Flattening.{flat_layouts}
+use Rattle.rb_show.specs.Lines.{line}
 use Rattle.rb_lines.specs.Answer.{Due, printed, refusal}
 use Rattle.rb_lines.specs.ArgumentLines.{node_limit}
 use Rattle.rb_lines.specs.ImageLines.{image_due}
-use Rattle.rb_lines.specs.Lines.{ended, large_line}
+use Rattle.rb_lines.specs.Lines.{large_line}
 use Rattle.rb_lines.specs.declared.status.Status.TheVariants.{TooLarge}
 use Rattle.rb_values.specs.Texts.{text_of}
 
@@ -27,7 +28,7 @@ use Rattle.rb_values.specs.Texts.{text_of}
 -- too large. Or else the image's first fault is shown.
 pub data IsDueToImage (p : Program) (ty : Ty) (image : Image) (due : Due) : Type 0 where
   holds : (v : Value) → RootDescends p image ty v → node_count v ≤ node_limit
-      → due ≡ printed (ended (text_of p.types v ty)) 0 → IsDueToImage p ty image due
+      → due ≡ printed (line (text_of p.types v ty)) 0 → IsDueToImage p ty image due
   large : (v : Value) → RootDescends p image ty v → node_limit < node_count v
       → due ≡ refusal TooLarge (large_line node_limit) → IsDueToImage p ty image due
   unsound : (fault : ImageFault) → IsFirstImageFault p.types (flat_layouts p) image ty fault → due ≡ image_due fault

@@ -10,9 +10,9 @@ ghost use Rattle.rb_accept.specs.Reading.{ReadsInTurn, file_limit, source_of};
 ghost use Rattle.rb_accept.specs.View.{handed_between};
 ghost use Rattle.rb_command.specs.Command as spec;
 ghost use Rattle.rb_command.specs.View.{limits_view};
-ghost use Rattle.rb_lines.specs.Lines.{ended};
 ghost use Rattle.rb_lines.specs.View.{IsRefusal, Meets};
 ghost use Rattle.rb_run.specs.Answering.{meant_by};
+ghost use Rattle.rb_show.specs.Lines as shown;
 ghost use Rattle.rb_values.specs.Texts.{text_of};
 ghost use Rattle.ribbit_tool.specs.Answers.{Owes};
 ghost use Rattle.ribbit_tool.specs.Run.{IsPrepared, Runs, RunsFile, answer_due, value_line};
@@ -74,7 +74,7 @@ pub(crate) fn show_at(
     ty: Ty,
     value: &Forest,
 ) -> Result<Vec<u8>, AllocError>
-    ensures { IfOk result (λ text. text.items ≡ ended (text_of types.now value.now ty)) }
+    ensures { IfOk result (λ text. text.items ≡ shown.line (text_of types.now value.now ty)) }
 {
     let text = print_value(alloc, types, ty, value)?;
     line::end(text)

@@ -2,8 +2,9 @@ use Rattle.std.proofs.Common.{List, ℕ, ap, ◌∙◌}
 use Rattle.rb_core.specs.declared.types.DataDecl.{DataDecl}
 use Rattle.rb_layout.specs.declared.layout.Layout.{Layout}
 use Rattle.rb_lines.specs.Answer.{refusal}
-use Rattle.rb_lines.specs.Lines.{named_line, ended}
+use Rattle.rb_lines.specs.Lines.{named_line}
 use Rattle.rb_lines.specs.declared.status.Status.TheVariants as status
+use Rattle.rb_show.specs.Lines.{line}
 use Rattle.rb_show.specs.Refusals.{refusal_text}
 use Rattle.rb_accept.proofs.LayoutRefusals.{have_layouts, given_text}
 use Rattle.rb_accept.proofs.refusal.refuse_layouts.Goals as goal
@@ -20,4 +21,4 @@ returns c =
     ∙ ap (λ (ls : List Layout). refusal_text p.types ls r) c.as_slice.ensures
     ∙ given_text p r c.requires c.in_ok-layouts.layouts c.in_ok-layouts.ensures in
     ap (λ (t : List ℕ). refusal status.Layout t)
-    (c.in_ok-line-2.ensures ∙ ap (λ t. ended t) (c.in_ok-line.ensures ∙ ap (λ t. named_line t) (c.as_slice-2.ensures.value ∙ text)))
+    (c.in_ok-line-2.ensures ∙ ap (λ t. line t) (c.in_ok-line.ensures ∙ ap (λ t. named_line t) (c.as_slice-2.ensures.value ∙ text)))
