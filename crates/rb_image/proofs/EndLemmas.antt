@@ -9,7 +9,7 @@ use Rattle.rb_image.specs.Given.{IsGiven}
 use Rattle.rb_image.specs.Parts.{At, at_of, ats_of}
 use Rattle.rb_image.specs.Sound.{Looking}
 use Rattle.rb_image.specs.inner.Descending.{looks}
-use Rattle.rb_image.specs.inner.Ending.{EndBelow, DescentEnds, total, steps_below, steps, AllEnd, weight, weights}
+use Rattle.rb_image.specs.inner.Ending.{EndBelow, DescentEnds, total, steps_below, descent_steps, AllEnd, weight, weights}
 
 all_more : (P Q : At → Type 0) → ((p : At) → P p → Q p) → (ps : List At) → AllByRecursion P ps → AllByRecursion Q ps
 all_more P Q go [] h = tt
@@ -34,10 +34,10 @@ module _ (look : Looking) where
   ends_more (suc n) zero p h le = absurd (omega (arith, le))
   ends_more (suc n) (suc k) p h le = below_more (DescentEnds look n) (DescentEnds look k) (λ q x. ends_more n k q x (omega (arith, le))) (look p) h
 
-  same_steps : (n k : ℕ) (p : At) → DescentEnds look n p → n ≤ k → steps look k p ≡ steps look n p
+  same_steps : (n k : ℕ) (p : At) → DescentEnds look n p → n ≤ k → descent_steps look k p ≡ descent_steps look n p
   same_steps zero k p h le = absurd h
   same_steps (suc n) zero p h le = absurd (omega (arith, le))
-  same_steps (suc n) (suc k) p h le = ap (λ x. 1 + x) (steps_same (DescentEnds look n) (steps look k) (steps look n) (λ q x. same_steps n k q x (omega (arith, le))) (look p) h)
+  same_steps (suc n) (suc k) p h le = ap (λ x. 1 + x) (steps_same (DescentEnds look n) (descent_steps look k) (descent_steps look n) (λ q x. same_steps n k q x (omega (arith, le))) (look p) h)
 
   module _ (n : ℕ) where
     weights-append : (ss ts : List Step) → weights look n (ss ++ ts) ≡ weights look n ss + weights look n ts
@@ -60,7 +60,7 @@ module _ (look : Looking) where
     looks_end [] h = tt
     looks_end (p ∷ ps) h = end_both (looks ps) (Look p ∷ []) (looks_end ps h.1) (h.0, tt)
 
-    looks_weigh : (ps : List Place) → weights look n (looks ps) ≡ total (steps look n) (ats_of ps)
+    looks_weigh : (ps : List Place) → weights look n (looks ps) ≡ total (descent_steps look n) (ats_of ps)
     looks_weigh [] = refl
     looks_weigh (p ∷ ps) = let a = weights-append (looks ps) (Look p ∷ []) in let b = looks_weigh ps in omega (arith, a, b)
 
@@ -74,14 +74,14 @@ module _ (look : Looking) where
       pub note_less : (p : Place) → s ≡ Note p → weights look n rest < weights look n todo
       note_less p is = let e = heavy ∙ ap (λ x. weights look n rest + (weight look n x + 0)) is in omega (arith, e)
 
-  some_steps : (n : ℕ) (p : At) → DescentEnds look n p → 0 < steps look n p
+  some_steps : (n : ℕ) (p : At) → DescentEnds look n p → 0 < descent_steps look n p
   some_steps zero p h = absurd h
   some_steps (suc n) p h = omega arith
 
   -- a place that was looked at: those below it weigh less with the note
   record Lighter (n : ℕ) (p : Place) (ps : List Place) : Type 0 where
     ends : AllEnd look n (Note p ∷ looks ps)
-    less : weights look n (Note p ∷ looks ps) < steps look n (at_of p)
+    less : weights look n (Note p ∷ looks ps) < descent_steps look n (at_of p)
 
   lighter : (n : ℕ) (p : Place) (r : Result (List At) ImageFault) → look (at_of p) ≡ r → DescentEnds look n (at_of p) → (ps : List Place) → IsGiven ats_of r (Ok ps) → Lighter n p ps
   lighter zero p r at h ps given = absurd h
@@ -90,15 +90,15 @@ module _ (look : Looking) where
       let all : AllByRecursion (DescentEnds look n) (ats_of ps) = subst (AllByRecursion (DescentEnds look n)) (sym given) (subst (EndBelow (DescentEnds look n)) at h) in
       let more = all_more (DescentEnds look n) (DescentEnds look (suc n)) (λ q x. ends_more n (suc n) q x (omega arith)) (ats_of ps) all in
       let a = looks_weigh (suc n) ps in
-      let b = total_same (DescentEnds look n) (steps look (suc n)) (steps look n) (λ q x. same_steps n (suc n) q x (omega arith)) (ats_of ps) all in
-      let c : steps look (suc n) (at_of p) ≡ 1 + (1 + total (steps look n) (ats_of ps)) = ap (λ r. 1 + steps_below (steps look n) r) at ∙ ap (λ qs. 1 + (1 + total (steps look n) qs)) (sym given) in
+      let b = total_same (DescentEnds look n) (descent_steps look (suc n)) (descent_steps look n) (λ q x. same_steps n (suc n) q x (omega arith)) (ats_of ps) all in
+      let c : descent_steps look (suc n) (at_of p) ≡ 1 + (1 + total (descent_steps look n) (ats_of ps)) = ap (λ r. 1 + steps_below (descent_steps look n) r) at ∙ ap (λ qs. 1 + (1 + total (descent_steps look n) qs)) (sym given) in
       record { ends = (tt, looks_end (suc n) ps more); less = omega (arith, a, b, c) }
 
   module _ (n : ℕ) (todo rest : List Step) (s : Step) (pops : todo ≡ rest ++ s ∷ []) (p : Place) (is : s ≡ Look p) (h : AllEnd look n todo) where
     ends_here : DescentEnds look n (at_of p)
     ends_here = let x = end_right n rest (s ∷ []) (subst (AllEnd look n) pops h) in (subst (λ t. AllEnd look n (t ∷ [])) is x).0
 
-    weighs : weights look n todo ≡ weights look n rest + (steps look n (at_of p) + 0)
+    weighs : weights look n todo ≡ weights look n rest + (descent_steps look n (at_of p) + 0)
     weighs = heavy n todo rest s pops ∙ ap (λ x. weights look n rest + (weight look n x + 0)) is
 
     pub known_less : weights look n rest < weights look n todo

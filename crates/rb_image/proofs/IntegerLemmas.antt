@@ -12,7 +12,7 @@ use Rattle.rb_layout.specs.A6.{holds_unit}
 use Rattle.rb_image.specs.declared.order.Spot.{Spot}
 use Rattle.rb_image.specs.Integers.{bit_in, field_bit, number_of_bits}
 use Rattle.rb_image.specs.Orders.{LocatedPart}
-use Rattle.rb_image.specs.inner.Viewing.{at_of, spots_of}
+use Rattle.rb_image.specs.inner.Viewing.{spot_part, spots_of}
 use Rattle.rb_image.proofs.DropLemmas.{drop_item}
 
 small_mod : (n : ℕ) → n < 2 → n % 2 ≡ n
@@ -69,12 +69,12 @@ highest_narrow f small bits done b lt narrow one =
 -- One part -----------------------------------------------------------------------------------
 module _ (value : LocatedPart → ℕ) (ty : Ty) (items : List Spot) (k : ℕ) (spot : Spot) (is : slice_get items k ≡ Some spot) (path : List ℕ) (i : ℕ) where
   abbrev bit_on : Bool → ℕ
-  bit_on t = if t then bit_in (value (at_of spot)) i spot.part.now.kind else field_bit value ty (spots_of (drop (k + 1) items)) path i
+  bit_on t = if t then bit_in (value (spot_part spot)) i spot.part.now.kind else field_bit value ty (spots_of (drop (k + 1) items)) path i
 
   first : field_bit value ty (spots_of (drop k items)) path i ≡ bit_on (holds_unit ty path i spot.part.now.l spot.part.now.kind)
   first = ap (λ ss. field_bit value ty (spots_of ss) path i) (drop_item items k spot is)
 
-  pub bit_found : holds_unit ty path i spot.part.now.l spot.part.now.kind ≡ true → field_bit value ty (spots_of (drop k items)) path i ≡ bit_in (value (at_of spot)) i spot.part.now.kind
+  pub bit_found : holds_unit ty path i spot.part.now.l spot.part.now.kind ≡ true → field_bit value ty (spots_of (drop k items)) path i ≡ bit_in (value (spot_part spot)) i spot.part.now.kind
   bit_found holds = first ∙ ap bit_on holds
 
   pub bit_passed : holds_unit ty path i spot.part.now.l spot.part.now.kind ≡ false → field_bit value ty (spots_of (drop k items)) path i ≡ field_bit value ty (spots_of (drop (k + 1) items)) path i

@@ -27,8 +27,8 @@ use Rattle.rb_image.specs.LeafWords.{AreNumbers, HasNumbers, block_numbers, foll
 use Rattle.rb_image.specs.Orders.{LocatedPart, order_of}
 use Rattle.rb_image.specs.Parts.{bits_at, pointer_lead, kept_at}
 use Rattle.rb_image.specs.Splits.{range_of}
-use Rattle.rb_image.specs.inner.Reaching.{IsPartOf, unread, word_read}
-use Rattle.rb_image.specs.inner.Viewing.{at_of, spots_of}
+use Rattle.rb_image.specs.inner.Reaching.{IsLeafPart, unread, word_read}
+use Rattle.rb_image.specs.inner.Viewing.{spot_part, spots_of}
 use Rattle.rb_image.proofs.DropLemmas.{drop_item}
 use Rattle.rb_image.proofs.ExaminedParts.{followed_is}
 use Rattle.rb_image.proofs.PlacedSpots.{order_spots, spot_of}
@@ -83,19 +83,19 @@ module _ (m : List ImageBlock) (placed : AreInPlace m) (leaf : Leaf) (x : LeafWo
   spot_read (Some b) j f p is =
       ap (λ n. record { number = n; base = slice_index ats b; place = begins_at (words_in leaf (Some b)) j }) (word_is b j f is)
 
-  pub bits_are : (s : LocatedPart) → IsPartOf leaf s → range_of (word_read x s.block s) s.part.o s.part.l ≡ bits_at m x.root.items ats s
+  pub bits_are : (s : LocatedPart) → IsLeafPart leaf s → range_of (word_read x s.block s) s.part.o s.part.l ≡ bits_at m x.root.items ats s
   bits_are s part =
       let h = order_spots leaf s (get_in s (order_of leaf) part.0 part.1) in
       subst (λ (t : LocatedPart). range_of (word_read x t.block t) t.part.o t.part.l ≡ bits_at m x.root.items ats t) (sym h.is)
       (ap (λ w. range_of w s.part.o s.part.l) (spot_read h.ref.block h.ref.word h.word s.part h.is_word))
 
 -- a part that stands in the order is one of the leaf
-pub spot_is_part : (leaf : Leaf) (items : List Spot) (i : ℕ) (s : Spot) → spots_of items ≡ order_of leaf → slice_get items i ≡ Some s → IsPartOf leaf (at_of s)
+pub spot_is_part : (leaf : Leaf) (items : List Spot) (i : ℕ) (s : Spot) → spots_of items ≡ order_of leaf → slice_get items i ≡ Some s → IsLeafPart leaf (spot_part s)
 spot_is_part leaf items i s same is = (i, ap (λ ss. slice_get ss i) (sym same) ∙ there items i s is)
   where
-    there : (xs : List Spot) (k : ℕ) (x : Spot) → slice_get xs k ≡ Some x → slice_get (spots_of xs) k ≡ Some (at_of x)
+    there : (xs : List Spot) (k : ℕ) (x : Spot) → slice_get xs k ≡ Some x → slice_get (spots_of xs) k ≡ Some (spot_part x)
     there [] k x e = absurd cc
-    there (y ∷ ys) zero x e = ap (λ z. Some (at_of z)) (same_Some y x e)
+    there (y ∷ ys) zero x e = ap (λ z. Some (spot_part z)) (same_Some y x e)
     there (y ∷ ys) (suc k) x e = there ys k x e
 
 -- One block more -----------------------------------------------------------------------------

@@ -37,7 +37,7 @@ use Rattle.rb_image.specs.Parts.{addresses_of, bits_at, block_from, block_size, 
 use Rattle.rb_image.specs.Paths.{Names}
 use Rattle.rb_image.specs.Rebuilds.{Matching, Rebuilding, chosen, data_words, fields_at, match_con, match_field, match_fields, match_step, matches, or_later, packed, rebuilt_within, same_con, words_along, words_at}
 use Rattle.rb_image.specs.Splits.{and_then, kept_in, leaf_at, or_fault, pointed_from, range_at, range_from, range_of, step_over, word_at}
-use Rattle.rb_image.specs.Views.{LeafPosition, along, down, down_to, from_root, settled, settled_at, step_down, taken_apart, words_here}
+use Rattle.rb_image.specs.Views.{LeafPosition, along, down, down_to, from_root, settled_at, settled_here, step_down, taken_apart, words_here}
 use Rattle.rb_image.specs.Walks.{layout_at, leaf_or_none, open_data}
 use Rattle.rb_image.specs.Ways.{is_below}
 use Rattle.rb_image.proofs.FallLemmas.{same_Ok}
@@ -331,7 +331,7 @@ module _ (On : ℕ → ℕ → Type 0) (none_on : On 0 0) where
         leads (Err f) is = record { found = λ y e. absurd cc; fault = λ g e. subst IsTold (same_err {A = LeafPosition} f g e) (leaf_told ws on (layout_at layouts t).tree f is) }
         leads (Ok n) is = on_leaf n (addresses_of [] (the_leaf n) ws) refl
 
-    settled_seen : (x : LeafPosition) → AllOn x → Seen (settled layouts m x)
+    settled_seen : (x : LeafPosition) → AllOn x → Seen (settled_here layouts m x)
     settled_seen x on = go (open_data x.here)
       where
         go : (o : Option ℕ) → Seen (settled_at layouts m x o)
@@ -392,11 +392,11 @@ module _ (On : ℕ → ℕ → Type 0) (none_on : On 0 0) where
     con_case : (at : ℕ) (c : ConRef) (ps : List Pat) → Each Tells ps → Tells (Con at c ps)
     con_case at c ps each x on f e =
         let gos = map (matches types layouts m) ps in
-        let is : ◌≡◌ {A = Matched} (matches types layouts m (Con at c ps) x) (and_then (settled layouts m x) (λ y. match_con types c gos y (out-Pat y.here.pat))) =
+        let is : ◌≡◌ {A = Matched} (matches types layouts m (Con at c ps) x) (and_then (settled_here layouts m x) (λ y. match_con types c gos y (out-Pat y.here.pat))) =
         ap (λ (go : Matching). go x) (fold-Con Matching (match_step types layouts m) at c ps) in
-        turn (settled_seen x on) (settled layouts m x) refl (sym is ∙ e)
+        turn (settled_seen x on) (settled_here layouts m x) refl (sym is ∙ e)
       where
-        turn : Seen (settled layouts m x) → (r : Stood) → ◌≡◌ {A = Stood} (settled layouts m x) r
+        turn : Seen (settled_here layouts m x) → (r : Stood) → ◌≡◌ {A = Stood} (settled_here layouts m x) r
             → ◌≡◌ {A = Matched} (and_then r (λ y. match_con types c (map (matches types layouts m) ps) y (out-Pat y.here.pat))) (Err f) → IsTold f
         turn seen (Err g) is h = seen.fault f (is ∙ ap (λ z. Err z) (same_err {A = Bool} g f h))
         turn seen (Ok y) is h = con_tells c (map (matches types layouts m) ps) (each_tells ps each) y (seen.found y is) (out-Pat y.here.pat) f h
@@ -438,13 +438,13 @@ module _ (On : ℕ → ℕ → Type 0) (none_on : On 0 0) where
     RebuildTells go = (t : ℕ) (x : LeafPosition) → AllOn x → (f : ImageFault) → ◌≡◌ {A = Words} (go t x) (Err f) → IsTold f
 
     step_seen : (x : LeafPosition) → AllOn x → (i : ℕ) → Seen (step_down types layouts m x i)
-    step_seen x on i = turn (settled_seen x on) (settled layouts m x) refl
+    step_seen x on i = turn (settled_seen x on) (settled_here layouts m x) refl
       where
         field : (y : LeafPosition) → AllOn y → (o : Option LeafPosition) → down types y i ≡ o → Seen (or_fault o Memory)
         field y here None is = record { found = λ z e. absurd cc; fault = λ f e. inr (sym (same_err {A = LeafPosition} Memory f e)) }
         field y here (Some z) is = record { found = λ w e. subst AllOn (same_Ok z w e) (down_on y here i (field_of types y.here.pat i) z is); fault = λ f e. absurd cc }
 
-        turn : Seen (settled layouts m x) → (r : Stood) → ◌≡◌ {A = Stood} (settled layouts m x) r → Seen (and_then r (λ y. or_fault (down types y i) Memory))
+        turn : Seen (settled_here layouts m x) → (r : Stood) → ◌≡◌ {A = Stood} (settled_here layouts m x) r → Seen (and_then r (λ y. or_fault (down types y i) Memory))
         turn seen (Err g) is = record { found = λ z e. absurd cc; fault = λ f e. seen.fault f (is ∙ ap (λ z. Err z) (same_err {A = LeafPosition} g f e)) }
         turn seen (Ok y) is = field y (seen.found y is) (down types y i) refl
 

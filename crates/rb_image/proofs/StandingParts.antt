@@ -42,7 +42,7 @@ use Rattle.rb_image.specs.Fields.{field_in, field_of, with_type}
 use Rattle.rb_image.specs.Rebuilds.{numbers_of}
 use Rattle.rb_image.specs.RebuiltValues.{IsInner, ValueStands, is_numberless, plain_step}
 use Rattle.rb_image.specs.TakenApart.{open_words}
-use Rattle.rb_image.specs.Views.{LeafPosition, down, down_to, from_root, settled, settled_at, words_here}
+use Rattle.rb_image.specs.Views.{LeafPosition, down, down_to, from_root, settled_at, settled_here, words_here}
 use Rattle.rb_image.specs.Walks.{data_of, open_data, open_in}
 use Rattle.rb_image.proofs.SeenValues.{values_are_seen}
 use Rattle.rb_image.proofs.SpotLemmas.{In, get_in, in_get, in_right}
@@ -273,7 +273,7 @@ module _ (p : Program) (typed : IsTyped p) (agrees : Agrees p) (m : Memory) (goo
     pub at : ℕ
     pub con : ConRef
     pub ps : List Pat
-    pub is_settled : settled layouts blocks x ≡ Ok y
+    pub is_settled : settled_here layouts blocks x ≡ Ok y
     pub stands : ValueStands p m blocks y v (Con at con ps) (Named s)
 
   int_named : (s : ℕ) → Int 64 ≡ Named s → ⊥
@@ -341,7 +341,7 @@ module _ (p : Program) (typed : IsTyped p) (agrees : Agrees p) (m : Memory) (goo
       }) in
       by_form x v s ws leaf root (ap (settled_at layouts blocks x) is_open ∙ seen.is_seen) stands (forms leaf.prov)
     where
-      by_form : (x : LeafPosition) (v : Value) (s : ℕ) (ws : List Kept) (leaf : Leaf) → root_type (out-Pat leaf.prov) ≡ Named s → settled layouts blocks x ≡ Ok (from_root s ws leaf)
+      by_form : (x : LeafPosition) (v : Value) (s : ℕ) (ws : List Kept) (leaf : Leaf) → root_type (out-Pat leaf.prov) ≡ Named s → settled_here layouts blocks x ≡ Ok (from_root s ws leaf)
           → ((at : ℕ) (c : ConRef) (ps : List Pat) → leaf.prov ≡ Con at c ps → Stand (from_root s ws leaf) v leaf.prov (Named s)) → Form leaf.prov → Settled x v s
       by_form x v s ws leaf root is stands (wild at e) = absurd (int_named s (sym (ap root_type (ap out-Pat e ∙ outs-Wild at)) ∙ root))
       by_form x v s ws leaf root is stands (var at y e) = absurd (int_named s (sym (ap root_type (ap out-Pat e ∙ outs-Var at y)) ∙ root))

@@ -12,18 +12,18 @@ use Rattle.rb_image.specs.Parts.{addresses_of, bits_at, field_word, is_field_wor
 use Rattle.rb_image.specs.Splits.{and_then, leaf_at}
 use Rattle.rb_image.specs.Views.{LeafPosition, from_root, taken_apart}
 use Rattle.rb_image.specs.Walks.{layout_at, layout_or_none, leaf_or_none}
-use Rattle.rb_image.specs.inner.Viewing.{at_of, spots_of}
+use Rattle.rb_image.specs.inner.Viewing.{spot_part, spots_of}
 use Rattle.rb_image.proofs.DropLemmas.{drop_item}
 
 -- One part -----------------------------------------------------------------------------------
 module _ (m : List ImageBlock) (ws : List Kept) (ats : List ℕ) (items : List Spot) (k : ℕ) (spot : Spot) (is : slice_get items k ≡ Some spot) (path : List ℕ) (j : ℕ) where
   abbrev word_on : Bool → Kept
-  word_on t = if t then bits_at m ws ats (at_of spot) else field_word m ws ats (spots_of (drop (k + 1) items)) path j
+  word_on t = if t then bits_at m ws ats (spot_part spot) else field_word m ws ats (spots_of (drop (k + 1) items)) path j
 
   first : field_word m ws ats (spots_of (drop k items)) path j ≡ word_on (is_field_word spot.part.now.kind path j)
   first = ap (λ ss. field_word m ws ats (spots_of ss) path j) (drop_item items k spot is)
 
-  pub word_taken : is_field_word spot.part.now.kind path j ≡ true → field_word m ws ats (spots_of (drop k items)) path j ≡ bits_at m ws ats (at_of spot)
+  pub word_taken : is_field_word spot.part.now.kind path j ≡ true → field_word m ws ats (spots_of (drop k items)) path j ≡ bits_at m ws ats (spot_part spot)
   word_taken held = first ∙ ap word_on held
 
   pub word_passed : is_field_word spot.part.now.kind path j ≡ false → field_word m ws ats (spots_of (drop k items)) path j ≡ field_word m ws ats (spots_of (drop (k + 1) items)) path j

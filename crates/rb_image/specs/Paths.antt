@@ -143,7 +143,7 @@ module _ (types : List DataDecl) (layouts : List Layout) (image : Image) (t : �
 
   -- the word kept at `base` and `place` holds what a step of the path leads to, or what is below that, or its pointer
   -- leads to such a word
-  pub record IsPassed (base place : ℕ) : Type 0 where
+  pub record IsWordAhead (base place : ℕ) : Type 0 where
     pub before : Where
     pub field : ℕ
     pub here : Position
@@ -155,7 +155,7 @@ module _ (types : List DataDecl) (layouts : List Layout) (image : Image) (t : �
   abbrev pub IsPathWord : ℕ → ℕ → Type 0
   IsPathWord base place = IsKeptAt root base place
       ⊎ ((x : At) × IsOnPath x × IsKeptAt (words_asked layouts image.blocks x) base place)
-      ⊎ IsPassed base place
+      ⊎ IsWordAhead base place
 
   -- a word on the path has this fault in one of the subvalues that are examined
   pub record HasPathFault (Examined : At → Type 0) (fault : ImageFault) : Type 0 where

@@ -25,7 +25,7 @@ use Rattle.rb_image.specs.declared.pack.FieldWords.{FieldWords}
 use Rattle.rb_image.specs.LeafWords.{block_addresses}
 use Rattle.rb_image.specs.Orders.{order_of}
 use Rattle.rb_image.specs.Splits.{and_then}
-use Rattle.rb_image.specs.Views.{LeafPosition, along, down, integer_here, settled, words_here}
+use Rattle.rb_image.specs.Views.{LeafPosition, along, down, integer_here, settled_here, words_here}
 use Rattle.rb_image.specs.Walks.{Where, layout_at}
 use Rattle.rb_image.specs.Ways.{refused_below}
 
@@ -80,7 +80,8 @@ module _ (types : List DataDecl) (layouts : List Layout) (m : List ImageBlock) w
   match_step (P.Wild at) x = Ok true
   match_step (P.Var at v) x = Ok true
   match_step (P.Num at n) x = Ok false
-  match_step (P.Con at c gos) x = and_then (settled layouts m x) (λ y. match_con types c gos y (out-Pat y.here.pat))
+  match_step (P.Con at c gos) x =
+      and_then (settled_here layouts m x) (λ y. match_con types c gos y (out-Pat y.here.pat))
 
   -- whether a provenance matches what stands at a position, or the first fault that keeps this from being known
   abbrev pub matches : Pat → Matching

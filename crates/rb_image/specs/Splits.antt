@@ -82,31 +82,31 @@ range_at m ws loc = range_from m (range_of (word_at ws loc.word) loc.o loc.l) lo
 
 -- what gives, from an image's blocks and the words of a value, the number of the leaf to which splits lead, or the
 -- first fault on the way
-abbrev pub Walk : Type 0
-Walk = List ImageBlock → List Kept → Result ℕ ImageFault
+abbrev pub SplitWalk : Type 0
+SplitWalk = List ImageBlock → List Kept → Result ℕ ImageFault
 
 -- the leaf under the else arm of a split; where it has none, the fault of the word in which its bits stand, `range`
-abbrev pub walk_else : Kept → Option Walk → Walk
+abbrev pub walk_else : Kept → Option SplitWalk → SplitWalk
 walk_else range None m ws = Err (BadBits range.base range.place)
 walk_else range (Some go) m ws = go m ws
 
 -- the leaf under the first arm whose literal is the number in `range`, or else under the else arm, if there is one;
 -- else the fault of the word in which `range` stands
-abbrev pub walk_arms : Kept → List (Under Walk) → Option Walk → Walk
+abbrev pub walk_arms : Kept → List (Under SplitWalk) → Option SplitWalk → SplitWalk
 walk_arms range [] other m ws = walk_else range other m ws
 walk_arms range (arm ∷ arms) other m ws =
     if nat_eq arm.literal range.number then arm.of m ws else walk_arms range arms other m ws
 
 -- the leaf to which a tree of splits leads, given those to which its arms lead
-abbrev pub walk_step : FlatTree-F Walk (Under Walk) → Walk
+abbrev pub walk_step : FlatTree-F SplitWalk (Under SplitWalk) → SplitWalk
 walk_step (T.Split loc arms other) m ws = and_then (range_at m ws loc) (λ range. walk_arms range arms other m ws)
 walk_step (T.Leaf n) m ws = Ok n
 
 -- an arm of a split with its literal, and the leaf to which it leads
-abbrev pub walk_arm : FlatArm-F Walk (Under Walk) → Under Walk
+abbrev pub walk_arm : FlatArm-F SplitWalk (Under SplitWalk) → Under SplitWalk
 walk_arm arm = record { literal = arm.literal; of = arm.under }
 
 -- the number of the leaf to which the splits of a tree lead, or the first fault on the way; a split that no arm
 -- takes is the fault of the word in which its bits stand
-abbrev pub leaf_at : FlatTree → Walk
-leaf_at = fold-FlatTree Walk (Under Walk) walk_step walk_arm
+abbrev pub leaf_at : FlatTree → SplitWalk
+leaf_at = fold-FlatTree SplitWalk (Under SplitWalk) walk_step walk_arm

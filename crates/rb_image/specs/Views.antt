@@ -75,13 +75,13 @@ module _ (layouts : List Layout) (m : List ImageBlock) where
 
   -- where one goes on from position x: where any value of a data type may stand, from the root of that value's own
   -- leaf, or there is the first fault of that; else from x itself
-  abbrev pub settled : LeafPosition → Result LeafPosition ImageFault
-  settled x = settled_at x (open_data x.here)
+  abbrev pub settled_here : LeafPosition → Result LeafPosition ImageFault
+  settled_here x = settled_at x (open_data x.here)
 
 module _ (types : List DataDecl) (layouts : List Layout) (m : List ImageBlock) where
   -- the position of field i of the value at x, or the first fault; want of memory where there is no such field
   abbrev pub step_down : LeafPosition → ℕ → Result LeafPosition ImageFault
-  step_down x i = and_then (settled layouts m x) (λ y. or_fault (down types y i) Memory)
+  step_down x i = and_then (settled_here layouts m x) (λ y. or_fault (down types y i) Memory)
 
   -- the position to which a path of field numbers leads from x, or the first fault on the way
   abbrev pub along : LeafPosition → List ℕ → Result LeafPosition ImageFault

@@ -11,8 +11,8 @@ ghost use Rattle.rb_layout.specs.Readable.{IsReadable};
 ghost use Rattle.rb_image.specs.LeafWords.{HasNumbers};
 ghost use Rattle.rb_image.specs.Paths.{is_there, word_below, words_below};
 ghost use Rattle.rb_image.specs.inner.Checking.{leads_there};
-ghost use Rattle.rb_image.specs.inner.Reaching.{IsPartOf};
-ghost use Rattle.rb_image.specs.inner.Viewing.{at_of};
+ghost use Rattle.rb_image.specs.inner.Reaching.{IsLeafPart};
+ghost use Rattle.rb_image.specs.inner.Viewing.{spot_part};
 ghost use Rattle.rb_image_text.specs.Places.{AreInPlace};
 
 use crate::kept::Kept;
@@ -44,7 +44,8 @@ fn leads_there(
     spot: &Spot,
 ) -> Result<bool, AllocError>
     requires readable { IsReadable leaf.now }
-    ensures { IfOk result (λ leads. leads ≡ leads_there leaf.now words.now.addresses.items path.now (at_of spot.now)) }
+    ensures { IfOk result (λ leads.
+        leads ≡ leads_there leaf.now words.now.addresses.items path.now (spot_part spot.now)) }
 {
     if !is_there(words, spot) {
         return Ok(false);
@@ -66,9 +67,9 @@ fn add_word(
     requires placed { AreInPlace image.now.blocks }
     requires readable { IsReadable leaf.now }
     requires numbers { HasNumbers image.now.blocks leaf.now words.now }
-    requires part { IsPartOf leaf.now (at_of spot.now) }
+    requires part { IsLeafPart leaf.now (spot_part spot.now) }
     ensures { OnOk result (found.new.items ≡ found.old.items ++ word_below image.now.blocks leaf.now
-        words.now.root.items words.now.addresses.items path.now (at_of spot.now)) }
+        words.now.root.items words.now.addresses.items path.now (spot_part spot.now)) }
 {
     if !leads_there(alloc, leaf, words, path, spot)? {
         return Ok(());

@@ -11,7 +11,7 @@ ghost use Rattle.std.specs.Prelude.{◌≡◌, IfOk, List};
 ghost use Rattle.rb_layout.specs.Readable.{IsReadable};
 ghost use Rattle.rb_image.specs.Given.{IsGiven};
 ghost use Rattle.rb_image.specs.Views as spec;
-ghost use Rattle.rb_image.specs.inner.Standing.{IsCome, IsShown, come_to, shown, source_words};
+ghost use Rattle.rb_image.specs.inner.Standing.{IsArrival, IsShown, come_to, shown, source_words};
 ghost use Rattle.rb_image_text.specs.Places.{AreInPlace};
 ghost use Rattle.rb_image_text.specs.declared.image.ImageBlock.{ImageBlock};
 
@@ -62,7 +62,7 @@ impl<'a> Arrival<'a> {
     /// The position to which one came, as a view of it.
     pub(crate) fn view(&self) -> View
         ensures same { shown result ≡ come_to self.now }
-        ensures shown { (m : List ImageBlock) → IsCome m self.now → IsShown m result }
+        ensures shown { (m : List ImageBlock) → IsArrival m self.now → IsShown m result }
     {
         View {
             leaf: self.leaf,
@@ -82,7 +82,7 @@ fn at_root<'a>(
     root: Vec<Kept>,
 ) -> Result<Arrival<'a>, AllocError>
     ensures come { IfOk result (λ x. come_to x ≡ spec.from_root ty root.items leaf.now) }
-    ensures read { (m : List ImageBlock) → IsReadable leaf.now → IfOk result (IsCome m) }
+    ensures read { (m : List ImageBlock) → IsReadable leaf.now → IfOk result (IsArrival m) }
 {
     let words = LeafWords::of_root(alloc, leaf, root)?;
     Ok(Arrival {
@@ -106,7 +106,7 @@ pub(crate) fn take_apart<'a>(
     words: Vec<Kept>,
 ) -> Result<Arrival<'a>, ImageFault>
     ensures come { IsGiven come_to (spec.taken_apart agreed.now.layouts ty words.items) result }
-    ensures read { (m : List ImageBlock) → IfOk result (IsCome m) }
+    ensures read { (m : List ImageBlock) → IfOk result (IsArrival m) }
 {
     tell_orderly(agreed);
     let Some(layout) = agreed.layouts().get(ty as usize) else {
@@ -131,9 +131,10 @@ fn settle<'a>(
     arrival: Arrival<'a>,
 ) -> Result<Arrival<'a>, ImageFault>
     requires placed { AreInPlace image.now.blocks }
-    requires read { IsCome image.now.blocks arrival }
-    ensures come { IsGiven come_to (spec.settled agreed.now.layouts image.now.blocks (come_to arrival.entry)) result }
-    ensures read { IfOk result (IsCome image.now.blocks) }
+    requires read { IsArrival image.now.blocks arrival }
+    ensures come { IsGiven come_to
+        (spec.settled_here agreed.now.layouts image.now.blocks (come_to arrival.entry)) result }
+    ensures read { IfOk result (IsArrival image.now.blocks) }
 {
     match open_data(arrival.here) {
         None => Ok(arrival),
@@ -157,10 +158,10 @@ fn step_down<'a>(
     field: u32,
 ) -> Result<Arrival<'a>, ImageFault>
     requires placed { AreInPlace image.now.blocks }
-    requires read { IsCome image.now.blocks arrival }
+    requires read { IsArrival image.now.blocks arrival }
     ensures come { IsGiven come_to (spec.step_down agreed.now.covered.program.types agreed.now.layouts image.now.blocks
         (come_to arrival.entry) field) result }
-    ensures read { IfOk result (IsCome image.now.blocks) }
+    ensures read { IfOk result (IsArrival image.now.blocks) }
 {
     let types = agreed.covered().program().types.as_slice();
     let Arrival {
@@ -195,7 +196,7 @@ pub(crate) fn along<'a>(
     requires shown { IsShown image.now.blocks from.now }
     ensures come { IsGiven come_to (spec.along agreed.now.covered.program.types agreed.now.layouts image.now.blocks
         (shown from.now) path.now) result }
-    ensures read { IfOk result (IsCome image.now.blocks) }
+    ensures read { IfOk result (IsArrival image.now.blocks) }
 {
     let mut here = Arrival {
         leaf: from.leaf,

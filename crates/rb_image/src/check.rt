@@ -18,8 +18,8 @@ ghost use Rattle.rb_image.specs.Paths as spec;
 ghost use Rattle.rb_image.specs.Walks.{ArePassed, IsPassed, seen_of, where_of};
 ghost use Rattle.rb_image.specs.inner.Checking.{all_seen, fault_among, fault_at, fault_of_seen, fault_seen, has_word};
 ghost use Rattle.rb_image.specs.inner.Checking.{IsFoundOn, first_ahead, stand_of, words_seen};
-ghost use Rattle.rb_image.specs.inner.Reaching.{IsPartOf};
-ghost use Rattle.rb_image.specs.inner.Viewing.{at_of};
+ghost use Rattle.rb_image.specs.inner.Reaching.{IsLeafPart};
+ghost use Rattle.rb_image.specs.inner.Viewing.{spot_part};
 ghost use Rattle.rb_image_text.specs.Places.{AreInPlace};
 
 use crate::ahead::{add_below, is_there};
@@ -152,9 +152,9 @@ fn fault_at(
     requires placed { AreInPlace image.now.blocks }
     requires readable { IsReadable leaf.now }
     requires numbers { HasNumbers image.now.blocks leaf.now words.now }
-    requires part { IsPartOf leaf.now (at_of spot.now) }
+    requires part { IsLeafPart leaf.now (spot_part spot.now) }
     ensures { result ≡ fault_at (has_word path.now) image.now.blocks leaf.now words.now.root.items
-        words.now.addresses.items (at_of spot.now) }
+        words.now.addresses.items (spot_part spot.now) }
 {
     if !is_there(words, spot) {
         return None;

@@ -10,7 +10,7 @@ ghost use Rattle.std.specs.Prelude.{◌≡◌, IfOk, length, slice_get};
 ghost use Rattle.rb_layout.specs.Readable.{IsReadable};
 ghost use Rattle.rb_image.specs.FieldSites.{AreNarrow, AreRootSites, AreSitesOf, HasNarrowParts, IsNarrow};
 ghost use Rattle.rb_image.specs.inner.Siting as spec;
-ghost use Rattle.rb_image.specs.inner.Viewing.{at_of, spots_of};
+ghost use Rattle.rb_image.specs.inner.Viewing.{spot_part, spots_of};
 
 use crate::below::holds;
 use crate::order::{Spot, order_of};
@@ -68,7 +68,7 @@ fn root_site(sites: &[Site], number: u64, part: &Part) -> Site
 
 // Where a part of the block at an address stands. No block begins at 0, where root words would be read.
 fn block_site(address: u64, spot: &Spot) -> Site
-    ensures { result ≡ spec.block_site address (at_of spot.now) }
+    ensures { result ≡ spec.block_site address (spot_part spot.now) }
 {
     if address == 0 {
         return nowhere(spot.byte);
@@ -86,7 +86,7 @@ fn block_site(address: u64, spot: &Spot) -> Site
 // these.
 fn part_site(sites: &[Site], addresses: &[u64], spot: &Spot) -> Site
     requires narrow { AreNarrow sites.now }
-    ensures { result ≡ spec.part_site sites.now addresses.now spot.now.block (at_of spot.now) }
+    ensures { result ≡ spec.part_site sites.now addresses.now spot.now.block (spot_part spot.now) }
 {
     match spot.block {
         None => root_site(sites, spot.word, spot.part),

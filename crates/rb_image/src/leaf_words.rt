@@ -13,8 +13,8 @@ ghost use Rattle.rb_image.specs.LeafWords.{HasNumbers, block_span, follow_part, 
 ghost use Rattle.rb_image.specs.Orders.{order_of};
 ghost use Rattle.rb_image.specs.Parts.{bits_at};
 ghost use Rattle.rb_image.specs.Sites.{kept_of};
-ghost use Rattle.rb_image.specs.inner.Reaching.{IsPartOf, unread, word_read};
-ghost use Rattle.rb_image.specs.inner.Viewing.{at_of, spots_of};
+ghost use Rattle.rb_image.specs.inner.Reaching.{IsLeafPart, unread, word_read};
+ghost use Rattle.rb_image.specs.inner.Viewing.{spot_part, spots_of};
 ghost use Rattle.rb_image_text.specs.Places.{AreInPlace};
 ghost use Rattle.rb_image_text.specs.declared.image.ImageBlock.{ImageBlock};
 
@@ -109,7 +109,7 @@ impl LeafWords {
 
     // The word that a part is of, as it was read, with where it is kept.
     fn word_of(&self, spot: &Spot) -> Kept
-        ensures { result ≡ word_read self.now spot.now.block (at_of spot.now) }
+        ensures { result ≡ word_read self.now spot.now.block (spot_part spot.now) }
     {
         match spot.block {
             None => word_at(self.root.as_slice(), spot.word),
@@ -122,10 +122,10 @@ impl LeafWords {
     }
 
     /// The bits of a part of the leaf, none of which is read again.
-    pub fn bits(&self, spot: &Spot) -> Kept
+    pub(crate) fn bits(&self, spot: &Spot) -> Kept
         ensures { (m : List ImageBlock) (leaf : Leaf) → AreInPlace m → HasNumbers m leaf self.now
-            → IsPartOf leaf (at_of spot.now)
-            → result ≡ bits_at m self.now.root.items self.now.addresses.items (at_of spot.now) }
+            → IsLeafPart leaf (spot_part spot.now)
+            → result ≡ bits_at m self.now.root.items self.now.addresses.items (spot_part spot.now) }
     {
         range_of(self.word_of(spot), spot.part.o, spot.part.l)
     }
@@ -178,10 +178,10 @@ impl LeafWords {
         requires placed { AreInPlace image.now.blocks }
         requires readable { IsReadable leaf.now }
         requires numbers { HasNumbers image.now.blocks leaf.now self.old }
-        requires part { IsPartOf leaf.now (at_of spot.now) }
+        requires part { IsLeafPart leaf.now (spot_part spot.now) }
         ensures root { self.new.root.items ≡ self.old.root.items }
         ensures addresses { self.new.addresses.items
-            ≡ follow_part image.now.blocks leaf.now self.old.root.items self.old.addresses.items (at_of spot.now) }
+            ≡ follow_part image.now.blocks leaf.now self.old.root.items self.old.addresses.items (spot_part spot.now) }
         ensures numbers { OnOk result (HasNumbers image.now.blocks leaf.now self.new) }
         ensures least { steps.old.taken ≤ steps.new.taken }
         ensures once { steps.new.taken + unread leaf.now.blocks self.new.addresses.items

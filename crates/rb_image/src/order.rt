@@ -8,7 +8,7 @@
 ghost use Rattle.std.specs.Prelude.{◌≡◌, ◌++◌, ◌∷◌, length, IfOk, OnOk};
 ghost use Rattle.rb_layout.specs.Readable.{AreShort, IsReadable};
 ghost use Rattle.rb_image.specs.Orders.{beginning_at, pointed_parts, block_order, by_offset, order_of, word_order, words_order};
-ghost use Rattle.rb_image.specs.inner.Viewing.{at_of, parts_of, spots_of};
+ghost use Rattle.rb_image.specs.inner.Viewing.{parts_of, spot_part, spots_of};
 
 use rb_layout::layout::{FlatWord, Kind, Leaf, Part};
 use std::alloc::{AllocError, Global};
@@ -88,7 +88,7 @@ fn add_part<'a>(
 ) -> Result<(), AllocError>
     requires readable { IsReadable leaf.now }
     ensures { OnOk result (spots_of order.new.items
-        ≡ spots_of order.old.items ++ at_of spot.entry
+        ≡ spots_of order.old.items ++ spot_part spot.entry
         ∷ pointed_parts (block_order leaf.now depth) spot.entry.part.now.kind) }
 {
     order.push(spot)?;

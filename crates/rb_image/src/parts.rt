@@ -10,7 +10,7 @@ ghost use Rattle.rb_layout.specs.Readable.{IsReadable};
 ghost use Rattle.rb_image.specs.Given.{IsGiven};
 ghost use Rattle.rb_image.specs.Orders.{order_of};
 ghost use Rattle.rb_image.specs.Parts as spec;
-ghost use Rattle.rb_image.specs.inner.Viewing.{IsStep, at_of, spots_of};
+ghost use Rattle.rb_image.specs.inner.Viewing.{EndsAsDue, spot_part, spots_of};
 ghost use Rattle.rb_image_text.specs.Places.{AreInPlace};
 
 use crate::blocks::{size_at, word_in};
@@ -37,7 +37,7 @@ pub(crate) fn address_at(addresses: &[u64], block: u32) -> u64
 /// number is 0 where no such word is there.
 pub(crate) fn kept_at(memory: &[ImageBlock], words: &[Kept], addresses: &[u64], spot: &Spot) -> Kept
     requires placed { AreInPlace memory.now }
-    ensures { result ≡ spec.kept_at memory.now words.now addresses.now spot.now.block (at_of spot.now) }
+    ensures { result ≡ spec.kept_at memory.now words.now addresses.now spot.now.block (spot_part spot.now) }
 {
     match spot.block {
         None => word_at(words, spot.word),
@@ -105,7 +105,7 @@ fn examine_part(
 ) -> Result<(), ImageFault>
     requires placed { AreInPlace memory.now }
     requires readable { IsReadable leaf.now }
-    ensures { IsStep (spec.examine_part memory.now leaf.now words.now addresses.old.items (at_of spot.now))
+    ensures { EndsAsDue (spec.examine_part memory.now leaf.now words.now addresses.old.items (spot_part spot.now))
         addresses.new.items result }
 {
     let word = kept_at(memory, words, addresses.as_slice(), spot);

@@ -13,8 +13,8 @@ ghost use Rattle.rb_layout.specs.Readable.{IsReadable};
 ghost use Rattle.rb_image.specs.LeafWords.{HasNumbers};
 ghost use Rattle.rb_image.specs.Orders.{LocatedPart, order_of};
 ghost use Rattle.rb_image.specs.Ways as spec;
-ghost use Rattle.rb_image.specs.inner.Reaching.{IsPartOf};
-ghost use Rattle.rb_image.specs.inner.Viewing.{at_of, spots_of};
+ghost use Rattle.rb_image.specs.inner.Reaching.{IsLeafPart};
+ghost use Rattle.rb_image.specs.inner.Viewing.{spot_part, spots_of};
 ghost use Rattle.rb_image_text.specs.Places.{AreInPlace};
 
 use crate::kept::Kept;
@@ -108,9 +108,9 @@ fn refused_at(
     requires placed { AreInPlace image.now.blocks }
     requires readable { IsReadable leaf.now }
     requires numbers { HasNumbers image.now.blocks leaf.now words.now }
-    requires part { IsPartOf leaf.now (at_of spot.now) }
+    requires part { IsLeafPart leaf.now (spot_part spot.now) }
     ensures { IfOk result (λ fault. fault ≡ spec.refused_at image.now.blocks leaf.now words.now.root.items
-        words.now.addresses.items path.now (at_of spot.now)) }
+        words.now.addresses.items path.now (spot_part spot.now)) }
 {
     if leads_below(alloc, leaf, path, &spot.part.kind)? {
         let bits = words.bits(spot);

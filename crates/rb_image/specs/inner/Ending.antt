@@ -36,9 +36,9 @@ steps_below f (Err fault) = 0
 steps_below f (Ok ps) = 1 + total f ps
 
 -- the steps of a descent from place p that goes through at most so many places, one below the other
-abbrev pub steps : Looking → ℕ → At → ℕ
-steps look zero p = 0
-steps look (suc n) p = 1 + steps_below (steps look n) (look p)
+abbrev pub descent_steps : Looking → ℕ → At → ℕ
+descent_steps look zero p = 0
+descent_steps look (suc n) p = 1 + steps_below (descent_steps look n) (look p)
 
 -- every descent from the place that a step is to look at goes through at most n places, one below the other; a note
 -- says nothing
@@ -54,7 +54,7 @@ AllEnd look n (s ∷ ss) = StepEnds look n s × AllEnd look n ss
 
 -- how many steps a step comes to: those of the descent from the place that it is to look at, or 1 for a note
 abbrev pub weight : Looking → ℕ → Step → ℕ
-weight look n (Look p) = steps look n (at_of p)
+weight look n (Look p) = descent_steps look n (at_of p)
 weight look n (Note p) = 1
 
 -- how many steps all these steps come to

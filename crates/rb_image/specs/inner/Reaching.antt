@@ -16,8 +16,8 @@ unread (b ∷ bs) [] = length b.words + unread bs []
 unread (b ∷ bs) (at ∷ ats) = (if at == 0 then length b.words else 0) + unread bs ats
 
 -- s is one of the parts of a leaf, each with the word that it is of, as `order_of` lists them
-abbrev pub IsPartOf : Leaf → LocatedPart → Type 0
-IsPartOf leaf s = (k : ℕ) × (slice_get (order_of leaf) k ≡ Some s)
+abbrev pub IsLeafPart : Leaf → LocatedPart → Type 0
+IsLeafPart leaf s = (k : ℕ) × (slice_get (order_of leaf) k ≡ Some s)
 
 -- the word that part s is of, among the words of its leaf that were read: of the root, or of the block with this
 -- number

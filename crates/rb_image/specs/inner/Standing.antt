@@ -55,7 +55,7 @@ come_to x = record {
 }
 
 -- the leaf to which arrival x has come has few and short words, and the words of its blocks were read in m
-pub record IsCome (m : List ImageBlock) (x : Arrival) : Type 0 where
+pub record IsArrival (m : List ImageBlock) (x : Arrival) : Type 0 where
   pub readable : IsReadable x.leaf.now
   pub numbers : HasNumbers m x.leaf.now (source_words x.source)
 

@@ -3,7 +3,7 @@ use Rattle.rb_image_text.specs.Places.{AreInPlace}
 use Rattle.rb_image.specs.Parts.{bits_at}
 use Rattle.rb_image.specs.Paths.{is_there, part_fault}
 use Rattle.rb_image.specs.inner.Checking.{has_word}
-use Rattle.rb_image.specs.inner.Viewing.{at_of}
+use Rattle.rb_image.specs.inner.Viewing.{spot_part}
 use Rattle.rb_image.proofs.CheckLemmas.{fault_skipped, fault_taken}
 use Rattle.rb_image.proofs.check.fault_at.Goals as goal
 
@@ -11,7 +11,7 @@ pub returns-then-not-has : goal.returns-then-not-has
 returns-then-not-has c =
     let m = c.args.image.now.blocks in
     let leaf = c.args.leaf.now in
-    let s = at_of c.args.spot.now in
+    let s = spot_part c.args.spot.now in
     let ats = c.args.words.now.addresses.items in
     let bits = bits_at m c.args.words.now.root.items ats s in
     let is = c.bits-bits.ensures m leaf c.requires.placed c.requires.numbers c.requires.part in
@@ -26,7 +26,7 @@ pub returns : goal.returns
 returns c =
     let m = c.args.image.now.blocks in
     let leaf = c.args.leaf.now in
-    let s = at_of c.args.spot.now in
+    let s = spot_part c.args.spot.now in
     let ats = c.args.words.now.addresses.items in
     let bits = bits_at m c.args.words.now.root.items ats s in
     let is = c.bits-bits.ensures m leaf c.requires.placed c.requires.numbers c.requires.part in

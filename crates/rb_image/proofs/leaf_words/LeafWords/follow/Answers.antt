@@ -2,7 +2,7 @@ use Rattle.std.proofs.Common.{Ok, Err, sym, subst, ap, ◌∙◌}
 use Rattle.std.specs.Prelude.{slice_index}
 use Rattle.rb_image_text.specs.Places.{AreInPlace}
 use Rattle.rb_image.specs.Parts.{bits_at, pointer_lead}
-use Rattle.rb_image.specs.inner.Viewing.{at_of}
+use Rattle.rb_image.specs.inner.Viewing.{spot_part}
 use Rattle.rb_image.proofs.LeafWordLemmas.{follow_found, found_above}
 use Rattle.rb_image.proofs.leaf_words.LeafWords.follow.Goals as goal
 
@@ -20,7 +20,7 @@ pub returns-in-Err-clause-addresses : goal.returns-in-Err-clause-addresses
 returns-in-Err-clause-addresses g c =
     let m = c.args.image.now.blocks in
     let leaf = c.args.leaf.now in
-    let s = at_of c.args.spot.now in
+    let s = spot_part c.args.spot.now in
     let ats = c.args.self.now.addresses.items in
     let align = c.in-Pointer.align in
     let b = c.in-Pointer.block in
@@ -33,7 +33,7 @@ pub returns-in-Ok-clause-addresses : goal.returns-in-Ok-clause-addresses
 returns-in-Ok-clause-addresses g c =
     let m = c.args.image.now.blocks in
     let leaf = c.args.leaf.now in
-    let s = at_of c.args.spot.now in
+    let s = spot_part c.args.spot.now in
     let ats = c.args.self.now.addresses.items in
     let align = c.in-Pointer.align in
     let b = c.in-Pointer.block in
