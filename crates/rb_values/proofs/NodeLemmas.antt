@@ -6,7 +6,7 @@ use Rattle.rb_core.specs.declared.value.Value.{Value, Num, Con}
 use Rattle.rb_values.specs.declared.nodes.Node.{Node}
 use Rattle.rb_values.specs.declared.nodes.Node.TheVariants.{Number, Build}
 use Rattle.rb_values.specs.Nodes.{at}
-use Rattle.rb_values.specs.inner.Linking.{children, node_value, values_from, IsLinkedBack, AreLinkedBack}
+use Rattle.rb_values.specs.Linking.{children, node_value, values_from, IsLinkedBack, AreLinkedBack}
 
 zero-right : (n : ℕ) → n + 0 ≡ n
 zero-right n = omega arith

@@ -12,7 +12,7 @@ use Rattle.rb_core.specs.declared.value.Value.TheFolds.{para-roll-Value}
 use Rattle.rb_core.specs.Values.{node_count, nodes_step}
 use Rattle.rb_core.proofs.ValueLaws.{Each, induction, fold-Num, fold-Con}
 use Rattle.rb_values.specs.Nodes.{at, posts, posts_step}
-use Rattle.rb_values.specs.inner.Linking.{IsBuilt}
+use Rattle.rb_values.specs.Linking.{IsBuilt}
 use Rattle.rb_values.proofs.PrintLemmas.{nodes-cons}
 
 pub posts-Num : (n : ℕ) → posts (Num n) ≡ Num n ∷ []

@@ -1,5 +1,6 @@
 pub mod Fitting
 pub mod Laws
+pub mod Linking
 pub mod Nodes
 pub mod Reading
 pub mod Terms

@@ -32,7 +32,7 @@ impl Model for Builder {
     ghost coded = { coded_list value_row.the_row.coded };
 
     ghost use Rattle.rb_values.specs.Nodes.{at};
-    ghost use Rattle.rb_values.specs.inner.Linking.{IsBuilt};
+    ghost use Rattle.rb_values.specs.Linking.{IsBuilt};
 
     ghost view = { λ s. map (at s.nodes) s.done.items };
 

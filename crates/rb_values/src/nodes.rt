@@ -47,7 +47,7 @@ impl Model for Nodes {
 
     ghost coded = { coded_list value_row.the_row.coded };
 
-    ghost use Rattle.rb_values.specs.inner.Linking.{values_from, AreLinkedBack};
+    ghost use Rattle.rb_values.specs.Linking.{values_from, AreLinkedBack};
 
     ghost view = { λ s. values_from s.links.items s.nodes.items [] };
 

@@ -1,7 +1,7 @@
 use Rattle.std.proofs.Common.{◌≡◌, length, ◌∙◌, ap, arith}
 use Rattle.rb_core.specs.Values.{subs}
 use Rattle.rb_values.specs.Nodes.{at}
-use Rattle.rb_values.specs.inner.Linking.{children}
+use Rattle.rb_values.specs.Linking.{children}
 use Rattle.rb_core.proofs.ValueLaws as eqs
 use Rattle.rb_values.proofs.NodeLemmas as nodes
 use Rattle.rb_values.proofs.nodes.Nodes.layer.Goals as goal

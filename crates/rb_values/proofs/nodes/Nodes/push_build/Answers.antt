@@ -1,5 +1,5 @@
 use Rattle.std.proofs.Common.{◌≡◌, [], length, ◌∙◌, arith, rules}
-use Rattle.rb_values.specs.inner.Linking.{values_from}
+use Rattle.rb_values.specs.Linking.{values_from}
 use Rattle.rb_values.proofs.NodeLemmas as nodes
 use Rattle.rb_values.proofs.nodes.Nodes.push_build.Goals as goal
 
