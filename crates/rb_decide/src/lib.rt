@@ -23,7 +23,7 @@
 #![tactic(auto)]
 
 pub mod branches;
-pub mod build;
+mod build;
 pub mod clause_matrix;
 pub mod decide;
 pub mod decision_graph;
