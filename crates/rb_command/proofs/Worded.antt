@@ -14,7 +14,7 @@ use Rattle.rb_command.specs.View.{command_view, IsUsage}
 use Rattle.rb_command.specs.declared.command.Command as declared
 use Rattle.rb_command.specs.declared.command.CommandFault.{CommandFault}
 use Rattle.rb_command.specs.declared.command.CommandFault.TheVariants as fault
-use Rattle.rb_command.specs.inner.Parsing.{with_word, at_number, with_number, with_limits, alone, with_call, gen_words, genrun_words, first_number, numbers_from, exec_of, function_words, exec_words, value_words, path_in, at_path, with_path, peek_words, command_of, StopsAs}
+use Rattle.rb_command.specs.inner.Parsing.{with_word, at_number, with_number, with_calls_and_region, alone, with_call, gen_words, genrun_words, first_number, numbers_from, exec_of, function_words, exec_words, value_words, path_in, at_path, with_path, peek_words, command_of, StopsAs}
 use Rattle.rb_command.proofs.Numbered.{spelled, read, same}
 use Rattle.rb_command.proofs.Paths.{path_spelled, path_read, one_path}
 use Rattle.rb_command.proofs.Stopping.{Stops, stops-short, stops-first, stops-next}
@@ -135,7 +135,7 @@ some_limited Q some =
 
 reads_limits : (Q : Limits → List (List ℕ) → Command → Type 0) (n : ℕ) (ws : List (List ℕ)) (go : Limits → List (List ℕ) → Parsed)
     → ((limits : Limits) → Inhabited (Q limits)) → ((limits : Limits) → AreLimits limits → (us : List (List ℕ)) → Reads (Q limits) (n + 1 + 1) us (go limits us))
-    → Reads (Limited Q) n ws (with_limits n ws go)
+    → Reads (Limited Q) n ws (with_calls_and_region n ws go)
 reads_limits Q n ws go some h =
     reads_number 0 1000000000 (omega arith) (λ calls. Number 64 16777216 (λ region. Q (limits_of calls region)))
     (some_number 64 16777216 (omega arith) (λ region. Q (limits_of 0 region)) (some (limits_of 0 64))) (omega arith) n
@@ -240,7 +240,7 @@ some_values f = ([], f [], refl)
 
 reads_call : (f : List ℕ → Limits → List (List ℕ) → Command) (ws : List (List ℕ)) → Reads (CallForm f) 2 ws (with_call ws f)
 reads_call f ws =
-    reads_word (λ file. Limited (λ limits. Values (f file limits))) 2 ws (λ file us. with_limits 3 us (λ limits values. Ok (f file limits values)))
+    reads_word (λ file. Limited (λ limits. Values (f file limits))) 2 ws (λ file us. with_calls_and_region 3 us (λ limits values. Ok (f file limits values)))
     (some_limited (λ limits. Values (f [] limits)) (λ limits. some_values (f [] limits)))
     (λ file us. reads_limits (λ limits. Values (f file limits)) 3 us (λ limits values. Ok (f file limits values)) (λ limits. some_values (f file limits)) (λ limits fine vs. refl))
 
@@ -253,7 +253,7 @@ reads_genrun : (ws : List (List ℕ)) → Reads GenRunForm 2 ws (genrun_words ws
 reads_genrun ws =
     reads_number 1 2000 (omega arith) (λ functions. Limited (λ limits. End (genrun functions limits)))
     (some_limited (λ limits. End (genrun 1 limits)) (λ limits. some_end (genrun 1 limits))) (omega arith) 2
-    (λ functions us. with_limits 3 us (λ limits vs. alone 5 (genrun functions limits) vs))
+    (λ functions us. with_calls_and_region 3 us (λ limits vs. alone 5 (genrun functions limits) vs))
     (λ functions fine us. reads_limits (λ limits. End (genrun functions limits)) 3 us (λ limits vs. alone 5 (genrun functions limits) vs)
     (λ limits. some_end (genrun functions limits)) (λ limits few vs. reads_end (genrun functions limits) 5 vs)) ws
 
@@ -268,7 +268,7 @@ reads_exec ws =
     reads_word (λ code. Word (λ function. Limited (λ limits. Numbers (exec code function limits)))) 2 ws function_words
     (let s = some [] [] in ([] ∷ s.0, s.1, s.2))
     (λ code us. reads_word (λ function. Limited (λ limits. Numbers (exec code function limits))) 3 us
-    (λ function vs. with_limits 4 vs (λ limits rest. exec_of code function limits (numbers_from 6 rest))) (some code [])
+    (λ function vs. with_calls_and_region 4 vs (λ limits rest. exec_of code function limits (numbers_from 6 rest))) (some code [])
     (λ function vs. reads_limits (λ limits. Numbers (exec code function limits)) 4 vs (λ limits rest. exec_of code function limits (numbers_from 6 rest))
     (λ limits. some_numbers (exec code function limits))
     (λ limits fine rest. subst (λ (r : Parsed). Reads (Numbers (exec code function limits)) 6 rest r) (exec_made code function limits (numbers_from 6 rest))

@@ -4,7 +4,7 @@ ghost use Rattle.std.specs.Prelude.{◌≡◌, ◌≤◌, List, MatchResult, Ok,
 ghost use Rattle.rb_command.specs.declared.command.CommandFault.TheVariants.{Memory};
 ghost use Rattle.rb_command.specs.Command.{Command as CommandValue, IsWordsOf, Limits as LimitsValue, Parsed};
 ghost use Rattle.rb_command.specs.View.{command_view, limits_view, IsUsage};
-ghost use Rattle.rb_command.specs.inner.Parsing.{check_words, command_of, compile_words, count_words, exec_words, function_words, gen_words, genrun_words, image_words, layout_words, numbers_from, peek_words, run_words, value_words, with_call, with_functions, with_limits, StopsAs};
+ghost use Rattle.rb_command.specs.inner.Parsing.{check_words, command_of, compile_words, count_words, exec_words, function_words, gen_words, genrun_words, image_words, layout_words, numbers_from, peek_words, run_words, value_words, with_call, with_calls_and_region, with_functions, StopsAs};
 
 use crate::limits::{Functions, Limits};
 use crate::path::parse_path;
@@ -108,8 +108,8 @@ const FIRST_WORD: usize = 6;
 fn parse_limits<'a>(number: usize, words: &'a [Name]) -> Result<(Limits, &'a [Name]), CommandFault>
     requires { number ≤ 4 }
     ensures { (go : LimitsValue → List (List ℕ) → Parsed) → MatchResult result
-        (λ p. with_limits number words.now go ≡ go (limits_view p.0) p.1.now)
-        (StopsAs (with_limits number words.now go)) }
+        (λ p. with_calls_and_region number words.now go ≡ go (limits_view p.0) p.1.now)
+        (StopsAs (with_calls_and_region number words.now go)) }
 {
     let [word, words @ ..] = words else {
         return Err(CommandFault::Usage(number));

@@ -25,8 +25,8 @@ with_number n low high words go =
     with_word n words (λ w ws. at_number n (number_in low high w) (λ number. go number ws))
 
 -- goes on with CALLS and REGION, which are the words n and n + 1 of all, and with the words behind them
-abbrev pub with_limits : ℕ → List (List ℕ) → (Limits → List (List ℕ) → Parsed) → Parsed
-with_limits n words go =
+abbrev pub with_calls_and_region : ℕ → List (List ℕ) → (Limits → List (List ℕ) → Parsed) → Parsed
+with_calls_and_region n words go =
     with_number n 0 most_calls words (λ calls ws.
     with_number (n + 1) least_region most_region ws (λ region rest.
     go (record { calls = calls; region = region }) rest))
@@ -51,7 +51,7 @@ compile_words words = with_word 2 words (λ file ws. alone 3 (compile file) ws)
 -- the words behind `run`, `image` or `count`: FILE CALLS REGION and zero or more VALUE
 abbrev pub with_call : List (List ℕ) → (List ℕ → Limits → List (List ℕ) → Command) → Parsed
 with_call words command =
-    with_word 2 words (λ file ws. with_limits 3 ws (λ limits values. Ok (command file limits values)))
+    with_word 2 words (λ file ws. with_calls_and_region 3 ws (λ limits values. Ok (command file limits values)))
 
 -- the words behind `run`: FILE CALLS REGION and zero or more VALUE
 abbrev pub run_words : List (List ℕ) → Parsed
@@ -78,7 +78,7 @@ gen_words words = with_functions words (λ functions ws. alone 3 (gen functions)
 abbrev pub genrun_words : List (List ℕ) → Parsed
 genrun_words words =
     with_functions words (λ functions ws.
-    with_limits 3 ws (λ limits rest.
+    with_calls_and_region 3 ws (λ limits rest.
     alone 5 (genrun functions limits) rest))
 
 -- the number that word n spells, in front of those of the words behind it; or else the number of the first word that
@@ -102,7 +102,7 @@ exec_of code function limits (Err n) = Err n
 abbrev pub function_words : List ℕ → List (List ℕ) → Parsed
 function_words code words =
     with_word 3 words (λ function ws.
-    with_limits 4 ws (λ limits rest.
+    with_calls_and_region 4 ws (λ limits rest.
     exec_of code function limits (numbers_from 6 rest)))
 
 -- the words behind `exec`: CODE FUN CALLS REGION and zero or more WORD
