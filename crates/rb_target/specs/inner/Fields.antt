@@ -200,10 +200,10 @@ abbrev pub op_in : Option LineWord → AluOp
 op_in (Some (Op op)) = op
 op_in o = Add
 
--- the target that a word is, or None if there is no word or it is no number, as `-`
-abbrev pub target_in : Option LineWord → Option ℕ
-target_in (Some (Number n)) = Some n
-target_in o = None
+-- the other target of a switch that a word is, or None if there is no word or it is no number, as `-`
+abbrev pub other_in : Option LineWord → Option ℕ
+other_in (Some (Number n)) = Some n
+other_in o = None
 
 -- the arms with n behind them, where that is an arm's number, or its target if the arm's number was read before
 abbrev pub paired_by : List SwitchArm → Option ℕ → ℕ → Arms
@@ -245,7 +245,7 @@ instruction_of key.Load ws = Load (number_at ws 0) (number_at ws 1) (number_at w
 instruction_of key.Store ws = Store (number_at ws 0) (number_at ws 1) (byte_at ws 2) (number_at ws 3)
 instruction_of key.Place ws = Place (number_at ws 0) (number_at ws 1) (number_at ws 2)
 instruction_of key.Jump ws = Jump (number_at ws 0)
-instruction_of key.Switch ws = Switch (number_at ws 0) (target_in (slice_get ws 1)) (arms_in (drop 2 ws))
+instruction_of key.Switch ws = Switch (number_at ws 0) (other_in (slice_get ws 1)) (arms_in (drop 2 ws))
 instruction_of key.Call ws =
     Call (number_at ws 0) (lists_in (drop 1 ws)).dests (lists_in (drop 1 ws)).froms
 instruction_of key.Return ws = Return (map value_of ws)

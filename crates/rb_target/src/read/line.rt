@@ -205,9 +205,9 @@ fn op_at(words: &[LineWord], at: usize) -> AluOp
     }
 }
 
-// The target at a place, or none if there is no word or it is no number, as `-`.
+// The other target of a switch, at a place; none if there is no word or it is no number, as `-`.
 fn target_at(words: &[LineWord], at: usize) -> Option<usize>
-    ensures { result ≡ spec.target_in (slice_get words.now at) }
+    ensures { result ≡ spec.other_in (slice_get words.now at) }
 {
     match words.get(at).copied() {
         Some(LineWord::Number(n)) => Some(n as usize),
