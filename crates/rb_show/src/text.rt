@@ -1,6 +1,6 @@
 //! Texts that grow at their end. Every error is want of memory.
 
-ghost use Rattle.std.specs.Prelude.{◌≡◌, ◌++◌, OnOk};
+ghost use Rattle.std.specs.Prelude.{◌≡◌, ◌++◌, OnErr, OnOk};
 ghost use Rattle.std.specs.Fmt.{decimal};
 ghost use Rattle.rb_show.specs.Locations.{range_text};
 
@@ -11,9 +11,10 @@ use std::alloc::AllocError;
 ///
 /// # Errors
 ///
-/// Want of memory.
+/// Want of memory. Then the text is as it was.
 pub fn push(text: &mut Vec<u8>, bytes: &[u8]) -> Result<(), AllocError>
-    ensures { OnOk result (text.new.items ≡ text.old.items ++ bytes.now) }
+    ensures ok { OnOk result (text.new.items ≡ text.old.items ++ bytes.now) }
+    ensures err { OnErr result (text.new.items ≡ text.old.items) }
 {
     text.extend_from_slice(bytes)
 }
@@ -22,9 +23,10 @@ pub fn push(text: &mut Vec<u8>, bytes: &[u8]) -> Result<(), AllocError>
 ///
 /// # Errors
 ///
-/// Want of memory.
+/// Want of memory. Then the text is as it was.
 pub fn push_number(text: &mut Vec<u8>, number: u64) -> Result<(), AllocError>
-    ensures { OnOk result (text.new.items ≡ text.old.items ++ decimal number) }
+    ensures ok { OnOk result (text.new.items ≡ text.old.items ++ decimal number) }
+    ensures err { OnErr result (text.new.items ≡ text.old.items) }
 {
     text.extend_from_slice(digits(number).as_slice())
 }
