@@ -1,7 +1,7 @@
-//! Whether the literals of splits are distinct and fit, and each split has an arm. A split looks at
-//! the bits at a location; its arms are for the numbers that may stand there, their literals, and
-//! its `else` is for all others. A call that says how something fails answers None where nothing
-//! does; its `Err` is want of memory.
+//! Whether the literals of splits are distinct and fit, and each split has an arm or an `else`. A
+//! split looks at the bits at a location; its arms are for the numbers that may stand there, their
+//! literals, and its `else` is for all others. A call that says how something fails answers None
+//! where nothing does; its `Err` is want of memory.
 
 ghost use Rattle.std.specs.Prelude.{◌≡◌, ◌<◌, ◌^◌, IfOk, MatchOption};
 ghost use Rattle.rb_layout.specs.Splits.{splits_of};

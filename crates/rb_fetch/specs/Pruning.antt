@@ -74,15 +74,15 @@ shared_group (a ∷ arms) other = agreed_group (group_of a.under) arms other
 
 -- Pruning ---------------------------------------------------------------------------------------
 
--- a split of the bits at a location, with these arms and no else; of one arm alone what stands below it, and none
--- where there is no arm
+-- what pruning leaves of a split of the bits at a location, with these arms and no else: of two arms or more the
+-- split itself, of one arm the tree below it, and none where there is no arm
 abbrev pub few_of : Loc → List FlatArm → Option FlatTree
 few_of loc [] = None
 few_of loc (a ∷ []) = Some a.under
 few_of loc (a ∷ b ∷ arms) = Some (Flat.Split loc (a ∷ b ∷ arms) None)
 
--- a split of the bits at a location, with these arms and perhaps an else; where one way alone is left what stands
--- there, and none where none is
+-- what pruning leaves of a split of the bits at a location, with these arms and perhaps an else: the split itself;
+-- where one way alone is left, the tree to which it leads; none where no way is
 abbrev pub pruned_split : Loc → List FlatArm → Option FlatTree → Option FlatTree
 pruned_split loc arms None = few_of loc arms
 pruned_split loc [] (Some t) = Some t

@@ -49,9 +49,10 @@ pub(crate) fn descents_end(agreed: &Agreed)
     let _ = agreed.layouts();
 }
 
-/// Looks at a place and at all that one comes to from it: outer places before inner ones, from left
-/// to right. A place that was found sound is not looked at again. The last of the things to do is
-/// done first, so nothing recurs. An error is the first fault that a look finds, or want of memory.
+/// Checks that a place is sound: looks at it and at all that one comes to from it, outer places
+/// before inner ones, from left to right. A place that was found sound is not looked at again. What
+/// is to do stands on a stack, so nothing recurs. An error is the first fault that a look finds, or
+/// want of memory.
 pub(crate) fn descend(
     alloc: Global,
     agreed: &Agreed,

@@ -47,7 +47,8 @@ fn read_whole(alloc: Global, bytes: &[u8]) -> Result<Image, ImageFault>
     Ok(Image { root, blocks })
 }
 
-/// The image whose text the bytes are, its blocks ascending without overlap from 64 on.
+/// The image whose text the bytes are, its blocks in their places: ascending without overlap from 64
+/// on, within the greatest region.
 ///
 /// # Errors
 ///

@@ -108,8 +108,8 @@ pub fn edge<'a>(
     })
 }
 
-/// The edge by a target of an instruction, as [`edge`] takes it, to a node of a graph: one to a
-/// clause, of which there are many, carries no facts.
+/// The edge that [`edge`] makes to a node of a graph, but what is known goes with it only where the
+/// node is a test: edges to clauses are many, and carry no facts.
 ///
 /// # Errors
 ///

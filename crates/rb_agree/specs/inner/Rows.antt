@@ -1,7 +1,7 @@
 -- The rows of the graphs of types: what a graph lists for one type, each as often as it is found. A leaf is for the
 -- values of its provenance, a pattern. Its root words are those outside of blocks. A layout flattens the types of the
--- constructors that stand below the root of a provenance, and holds those of whose fields a word stands in a root
--- word.
+-- constructors that stand below the root of a provenance, and holds the data types of the fields of which a word
+-- stands in a root word.
 use Rattle.std.specs.Prelude.{ℕ, List, [], ◌∷◌, map, Option, Some, None}
 use Rattle.std.specs.List.{flat_map}
 use Rattle.rb_core.specs.declared.types.ConRef.{ConRef}

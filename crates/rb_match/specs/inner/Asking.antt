@@ -236,7 +236,7 @@ pub record LeavesWhere (To : View → ℕ → Type 0) (plan : Plan) (final : Lis
   pub known : AreKnown (seen plan clean v spots slots w.memory) edge.known
   pub is_node : To (seen plan clean v spots slots w.memory) edge.hole.leaf
 
--- the node with number k is this node, whatever is known of the value
+-- the node that is reached, number k, is the given one, whatever is known of the value
 abbrev pub IsNode : ℕ → View → ℕ → Type 0
 IsNode node view k = k ≡ node
 
