@@ -277,6 +277,19 @@ def unfolded(n):
     return types + f"fun f(p: P): u8 = match p {{{comma(clauses)}}};\n" + MAIN
 
 
+def all_numbers(n):
+    """A match of a clause for each number of the widest type of integers that has at most 1,024 n."""
+    width = (1024 * n).bit_length() - 1
+    return f"fun main(x: u{width}): u8 = match x {{{comma(f'{i}=>0' for i in range(1 << width))}}};\n"
+
+
+def crowded(n):
+    """A match on a value and a number: a clause for each of 256 constructors, and 1,000 n that look at the number alone."""
+    cons = names("C", 256)
+    clauses = [f"P({con},_)=>0" for con in cons] + [f"P(_,{k})=>0" for k in range(1000 * n)]
+    return f"type S={'|'.join(cons)};\ntype P=P(S,u64);\nfun f(p: P): u8 = match p {{{comma(clauses)}}};\n" + MAIN
+
+
 def balanced(levels, leaf):
     return leaf if levels == 0 else f"F({balanced(levels - 1, leaf)},{balanced(levels - 1, leaf)})"
 
@@ -288,8 +301,18 @@ def pattern(n):
     return types + f"fun f(s: S): u8 = match s {{{clause},_=>1}};\n" + MAIN
 
 
-def binders(n):
-    """A pattern of 1,024 n names."""
+def carried(n):
+    """A match on a value and a tree: a pattern of 1,024 n nodes for the tree, and a clause for each of 256 constructors."""
+    cons, tree = names("C", 256), "L"
+    for _ in range(n):
+        tree = f"F({balanced(9, 'L')},{tree})"
+    clauses = [f"P(_,{tree})=>0"] + [f"P({con},_)=>0" for con in cons]
+    types = f"type S={'|'.join(cons)};\ntype T=L|F(T,T);\ntype P=P(S,T);\n"
+    return types + f"fun f(p: P): u8 = match p {{{comma(clauses)}}};\n" + MAIN
+
+
+def bound(n, answer):
+    """A match with a pattern of 1,024 n names, and its answer."""
     types = f"type B=B({comma(['u8'] * 32)});\ntype C=C({comma(['B'] * 32)});\ntype D=D({comma(['C'] * 32)});\n"
     fresh = (f"x{i}" for i in itertools.count())
 
@@ -297,7 +320,20 @@ def binders(n):
         return f"{name}({comma(parts)})"
 
     groups = [con("C", [con("B", [next(fresh) for _ in range(32)]) for _ in range(32)]) for _ in range(n)]
-    return types + f"fun f(d: D): u8 = match d {{{con('D', groups + ['_'] * (32 - n))}=>0}};\n" + MAIN
+    return types + f"fun f(d: D): u8 = match d {{{con('D', groups + ['_'] * (32 - n))}=>{answer}}};\n" + MAIN
+
+
+def binders(n):
+    """A pattern of 1,024 n names."""
+    return bound(n, "0")
+
+
+def used(n):
+    """A pattern of 1,024 n names, and as many uses of the first of them."""
+    one = f"g({comma(['x0'] * 32)})"
+    many = f"g({comma([one] * 32)})"
+    params = comma(f"a{i}: u8" for i in range(32))
+    return bound(n, f"g({comma([many] * n + ['0'] * (32 - n))})") + f"fun g({params}): u8 = a0;\n"
 
 
 def unknown(n):
@@ -515,8 +551,8 @@ AGREEING = [
 ]
 REFUSED = [(closed, 300), (twice, 64), (ring, 900)]
 MATCHES = [
-    (literals, 16), (short_clauses, 28), (wrapped, 20), (crossed, 18), (wilds, 52), (columns, 32), (heads, 40), (unfolded, 4), (pattern, 32), (binders, 28),
-    (unknown, 36), (short_names, 65),
+    (literals, 16), (short_clauses, 28), (wrapped, 20), (crossed, 18), (wilds, 52), (columns, 32), (heads, 40), (unfolded, 4),
+    (crowded, 15), (all_numbers, 16), (pattern, 32), (carried, 96), (binders, 28), (used, 26), (unknown, 36), (short_names, 65),
 ]
 COMPILED = [(coloured, 8)]
 PLAIN = [(functions, 9998), (levels, 280), (text, 2000)]
