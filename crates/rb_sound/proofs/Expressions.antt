@@ -30,7 +30,7 @@ use Rattle.rb_core.specs.declared.expression.Expr.{Expr}
 use Rattle.rb_core.specs.declared.expression.Expr as X
 use Rattle.rb_core.specs.Values.{is_of_type, are_of, fields_of}
 use Rattle.rb_core.specs.Matching.{matches_of, bindings, chosen_clause, next_clause}
-use Rattle.rb_core.specs.Typing.{Typing, as_wanted, type_holds, number, integer, variable_type, distinct_binders, field_types, pattern_params, pattern_binders, each_argument, arguments, param_types, result_type, operand_wanted, operator_type, integer_operand, operands, clauses, clause_rule, rule_of, type_of}
+use Rattle.rb_core.specs.Typing.{as_wanted, type_holds, number, integer, variable_type, distinct_binders, field_types, pattern_params, pattern_binders, each_argument, arguments, param_types, result_type, operand_wanted, operator_type, integer_operand, operands, clauses, clause_rule, rule_of, type_of}
 use Rattle.rb_core.specs.Inference.{width_of, with_binder, binders, operands_type, match_type, inferred_type, clause_inferred}
 use Rattle.rb_core.specs.Coverage.{SitedBranch, part_sites, branch_sites, sites, AreExhaustive}
 use Rattle.rb_core.specs.Meaning.{Meaning, Calls, op_value, done, spent, after, at_end, then_do, PartsOutcome, at_part, parts_after, all_of, at_parts_end, then_with, built, first_of, meaning_of, clause_meaning, with_value}
@@ -39,11 +39,13 @@ use Rattle.rb_core.proofs.ExpressionLaws.{Each, EachBody, induction}
 use Rattle.rb_core.proofs.TypingLemmas.{type-Num, type-Var, type-Call, type-Build, type-Binary, type-To, type-Let, type-Match, type-Clause}
 use Rattle.rb_core.proofs.InferenceForms.{inferred-Match}
 use Rattle.rb_core.proofs.InferenceAgreement.{pattern_binders-are, wanted-is_found, inferred-is_found}
+use Rattle.rb_core.proofs.TypedForms.{ok-same, came, chosen, constructed, fits_found, integer_is}
+use Rattle.rb_core.proofs.NumberedForms.{both}
 use Rattle.rb_core.proofs.CoverageForms.{part, branch, sites-Clause, sites-Call, sites-Build, sites-Binary, sites-To, sites-Let, sites-Match}
 use Rattle.rb_core.proofs.MeaningForms.{clause_meaning-is, meaning-Num, meaning-Var, meaning-Call, meaning-Build, meaning-Binary, meaning-To, meaning-Let, meaning-Match}
 use Rattle.rb_sound.specs.Words.{all_true}
 use Rattle.rb_sound.specs.Soundness.{AreOfTypes, EndIsOfType, IsBuiltTyped, RunsAs}
-use Rattle.rb_sound.proofs.Forms.{ok-same, came, chosen, constructed, same_type-is, both, and_true, exhaustive-append}
+use Rattle.rb_sound.proofs.Forms.{and_true, exhaustive-append}
 use Rattle.rb_sound.proofs.Whole.{is_whole, clause_whole, clause_whole-is, whole-Num, whole-Call, whole-Build, whole-Binary, whole-To, whole-Let, whole-Match}
 use Rattle.rb_sound.proofs.Scopes.{IsOf, Agree, agree-append, variable_is, bound_agrees}
 
@@ -154,14 +156,6 @@ module _ (types : List DataDecl) where
   snoc_types [] (u ∷ ts) v t h k = cc
   snoc_types (w ∷ vs) [] v t h k = cc
   snoc_types (w ∷ vs) (u ∷ ts) v t h k = let hs = both (is_of_type types w u) _ h in and_true _ _ hs.0 (snoc_types vs ts v t hs.1 k)
-
-fits_found : (at : ℕ) (wanted : Option Ty) (found t : Ty) → as_wanted at wanted found ≡ Ok t → found ≡ t
-fits_found at None found t e = ok-same e
-fits_found at (Some w) found t e = let c = chosen (Rattle.rb_core.specs.Typing.same_type w found) w t _ e in sym (same_type-is w found c.0) ∙ c.1
-
-integer_is : (at : ℕ) (u t : Ty) → integer at u ≡ Ok t → (n : ℕ) × (t ≡ Int n) × (u ≡ t)
-integer_is at (Int n) t e = (n, sym (ok-same e), ok-same e)
-integer_is at (Named s) t e = cc
 
 module _ (types : List DataDecl) (funs : List Fun) where
   operands_int : (op : Op) (a b : Expr) (wanted : Option Ty) (scope : List Binder) (u : Ty) → operands op (rule_of types funs a) (rule_of types funs b) wanted scope ≡ Ok u

@@ -1,50 +1,23 @@
 -- Typed programs: each call ends with a value of the result type.
-use Rattle.std.proofs.Common.{◌≡◌, ℕ, zero, suc, List, [], ◌∷◌, ◌++◌, map, Option, Some, None, Ok, Err, refl, sym, ap, ◌∙◌, subst}
+use Rattle.std.proofs.Common.{◌≡◌, ℕ, zero, suc, List, [], ◌∷◌, map, Option, Some, None, refl, subst}
 use Rattle.std.specs.Prelude.{slice_get}
-use Rattle.std.specs.Result.{result_err}
 use Rattle.std.specs.List.{flat_map}
 use Rattle.rb_core.specs.declared.value.Value.{Value, Num}
 use Rattle.rb_core.specs.declared.types.Ty.TheVariants.{Int}
-use Rattle.rb_core.specs.declared.typing.Binder.{Binder}
-use Rattle.rb_core.specs.declared.typing.TypeFault.{TypeFault}
-use Rattle.rb_core.specs.declared.program.Param.{Param}
 use Rattle.rb_core.specs.declared.program.Fun.{Fun}
 use Rattle.rb_core.specs.declared.program.Program.{Program}
-use Rattle.rb_core.specs.Typing.{Typing, and_then, binder_of, twice_at, repeated, distinct_binders, params_of, param_types, result_of, result_type, type_of}
-use Rattle.rb_core.specs.TypedPrograms.{IsTyped, first_fault, layout_fault, function_fault}
+use Rattle.rb_core.specs.Typing.{binder_of, params_of, param_types, result_of, result_type}
+use Rattle.rb_core.specs.TypedPrograms.{IsTyped}
 use Rattle.rb_core.specs.Coverage.{AreExhaustive, function_sites, sites_of}
 use Rattle.rb_core.specs.Meaning.{Calls, body_outcome, call_within, call_of}
 use Rattle.rb_core.proofs.ValueLaws.{is_of_type-Num}
-use Rattle.rb_core.proofs.InferenceAgreement.{wanted-is_found}
+use Rattle.rb_core.proofs.NumberedForms.{body_typed}
 use Rattle.rb_sound.specs.Words.{HasWords}
 use Rattle.rb_sound.specs.Soundness.{AreOfTypes, RunsAs, CallsRunTyped, ExpressionsRunTyped, OfTypedPrograms}
-use Rattle.rb_sound.proofs.Forms.{ok-same, came, exhaustive-append}
+use Rattle.rb_sound.proofs.Forms.{exhaustive-append}
 use Rattle.rb_sound.proofs.Whole.{whole_of, whole_bodies}
 use Rattle.rb_sound.proofs.Scopes.{arguments_agree}
 use Rattle.rb_sound.proofs.Expressions.{done_runs, spent_runs, typed_sound}
-
-no_fault_behind : (a b : List (Option TypeFault)) → first_fault (a ++ b) ≡ None → first_fault b ≡ None
-no_fault_behind [] b e = e
-no_fault_behind (None ∷ a) b e = no_fault_behind a b e
-no_fault_behind (Some fault ∷ a) b e = cc
-
-no_fault_first : (fault : Fun → Option TypeFault) (h f : Fun) (fs : List Fun) (o : Option TypeFault) (g : ℕ) → fault h ≡ o → slice_get (h ∷ fs) g ≡ Some f → first_fault (o ∷ map fault fs) ≡ None
-    → (first_fault (map fault fs) ≡ None → (k : ℕ) → slice_get fs k ≡ Some f → fault f ≡ None) → fault f ≡ None
-no_fault_first fault h f fs (Some x) g same is e rest = cc
-no_fault_first fault h f fs None zero same is e rest = let here : h ≡ f = cc in subst (λ k. fault k ≡ None) here same
-no_fault_first fault h f fs None (suc g) same is e rest = rest e g is
-
-no_fault_at : (fault : Fun → Option TypeFault) (fs : List Fun) (f : Fun) → first_fault (map fault fs) ≡ None → (g : ℕ) → slice_get fs g ≡ Some f → fault f ≡ None
-no_fault_at fault [] f e g is = cc
-no_fault_at fault (h ∷ fs) f e g is = no_fault_first fault h f fs (fault h) g refl is e (no_fault_at fault fs f)
-
-no_err : {A : Type 0} (r : Typing A) → result_err r ≡ None → (a : A) × (r ≡ Ok a)
-no_err (Ok a) e = (a, refl)
-no_err (Err fault) e = cc
-
-twice_are : (o : Option ℕ) (ps : List Param) (bs : List Binder) → twice_at o ps ≡ Ok bs → map binder_of ps ≡ bs
-twice_are None ps bs e = ok-same e
-twice_are (Some at) ps bs e = cc
 
 covered_at : (p : Program) (fs : List Fun) (g : ℕ) (f : Fun) → AreExhaustive p.types (flat_map (function_sites p.types p.funs) fs) → slice_get fs g ≡ Some f → AreExhaustive p.types (function_sites p.types p.funs f)
 covered_at p [] g f h is = cc
@@ -55,18 +28,10 @@ module _ (p : Program) (typed : IsTyped p) (covered : AreExhaustive p.types (sit
   abbrev AreSound : Calls → Type 0
   AreSound calls = (g n : ℕ) (vs : List Value) → AreOfTypes p.types vs (param_types p.funs g) → RunsAs p.types (result_type p.funs g) (calls g n vs)
 
-  body_typed : (g : ℕ) (f : Fun) → slice_get p.funs g ≡ Some f → type_of p.types p.funs f.body (Some f.result) (map binder_of f.params) ≡ Ok f.result
-  body_typed g f is =
-      let none = no_fault_at (function_fault p.types p.funs) p.funs f (no_fault_behind (map (layout_fault p.types) p.layouts) _ typed.rules) g is in
-      let ok = no_err (and_then (distinct_binders f.params) (type_of p.types p.funs f.body (Some f.result))) none in
-      let h = came (distinct_binders f.params) (type_of p.types p.funs f.body (Some f.result)) ok.0 ok.1 in
-      let same = wanted-is_found p.types p.funs f.body f.result h.from ok.0 h.then_is in
-      ap (type_of p.types p.funs f.body (Some f.result)) (twice_are (repeated f.params) f.params h.from h.first_is) ∙ h.then_is ∙ ap (λ t. Ok t) (sym same)
-
   body_sound : (calls : Calls) → AreSound calls → (o : Option Fun) (g left : ℕ) (vs : List Value) → slice_get p.funs g ≡ o → AreOfTypes p.types vs (map (λ q. q.ty) (params_of o)) → RunsAs p.types (result_of o) (body_outcome p calls o g left vs)
   body_sound calls sound None g left vs is h = done_runs p.types (Int 64) (Num 0) left (is_of_type-Num p.types 0 (Int 64))
   body_sound calls sound (Some f) g left vs is h =
-      typed_sound p calls sound g f.body (Some f.result) (map binder_of f.params) left _ f.result (body_typed g f is) (whole_bodies p typed.numbered words g f is) (covered_at p p.funs g f covered is) (arguments_agree p.types f.params vs h)
+      typed_sound p calls sound g f.body (Some f.result) (map binder_of f.params) left _ f.result (body_typed p typed g f is) (whole_bodies p typed.numbered words g f is) (covered_at p p.funs g f covered is) (arguments_agree p.types f.params vs h)
 
   within_sound : (k : ℕ) → AreSound (call_within p k)
   within_sound k g zero vs h = spent_runs p.types (result_type p.funs g)

@@ -22,8 +22,9 @@ use Rattle.rb_core.proofs.PatternLaws as PL
 use Rattle.rb_core.proofs.MatchingForms.{matches-Con, bindings-Wild, bindings-Var, bindings-Num, bindings-Con}
 use Rattle.rb_core.proofs.TypingLemmas.{pattern-Con}
 use Rattle.rb_core.proofs.InferenceAgreement.{binders-Wild, binders-Var, binders-Num, binders-Con}
+use Rattle.rb_core.proofs.TypedForms.{came, constructed, same_type-is}
+use Rattle.rb_core.proofs.NumberedForms.{both}
 use Rattle.rb_sound.specs.Soundness.{AreOfTypes, AreInScope}
-use Rattle.rb_sound.proofs.Forms.{came, constructed, same_type-is, both}
 
 module _ (types : List DataDecl) where
   abbrev pub IsOf : Value → Ty → Type 0

@@ -18,9 +18,10 @@ use Rattle.rb_core.specs.declared.expression.Expr.TheFolds.{fold-Expr, fold-roll
 use Rattle.rb_core.specs.Values.{fields_of}
 use Rattle.rb_core.specs.WellNumbered.{Within, is_lower, is_type, param_is_numbered, expression_step, numbered_clause_step, expression_is_numbered, function_is_numbered, vars_of, IsWellNumbered}
 use Rattle.rb_core.proofs.ExpressionLaws.{Each, EachBody, induction}
+use Rattle.rb_core.proofs.NumberedForms.{both}
 use Rattle.rb_sound.specs.Words.{all_true, words_step, words_clause, has_words, body_has_words, HasWords}
 use Rattle.rb_sound.specs.inner.Words.{clause_has_words}
-use Rattle.rb_sound.proofs.Forms.{both, and_true}
+use Rattle.rb_sound.proofs.Forms.{and_true}
 
 abbrev pub whole_step : List DataDecl → Expr-F Bool Bool → Bool
 whole_step types (E.Num at n) = nat_lt n (2 ^ 64)
