@@ -7,7 +7,7 @@ use Rattle.rb_core.specs.declared.types.DataDecl.{DataDecl}
 use Rattle.rb_core.specs.declared.types.Ty.TheVariants.{Int, Named}
 use Rattle.rb_core.specs.TypedPrograms.{HasValue}
 use Rattle.rb_core.specs.Values.{is_of_type}
-use Rattle.rb_rows_patterns.specs.Examples.{example_types}
+use Rattle.rb_rows_patterns.specs.inner.Examples.{example_types}
 use Rattle.rb_matrix.specs.Search.{AreInhabited, IsTypeIn}
 use Rattle.rb_matrix.proofs.Vectors.{con-of, num-of_int}
 use Rattle.rb_matrix.proofs.Inhabited.{out-num}

@@ -7,13 +7,13 @@
 
 ghost use Rattle.std.specs.Prelude.{◌≡◌, ◌<◌, ◌≤◌, ◌∷◌, ◌++◌, [], IfOk, OnOk};
 ghost use Rattle.rb_core.specs.declared.types.Ty.TheVariants as Tys;
-ghost use Rattle.rb_rows_patterns.specs.Examples.{color_decl, tree_decl, pair_decl, six_decl, example_types};
+ghost use Rattle.rb_rows_patterns.specs.inner.Examples.{color_decl, tree_decl, pair_decl, six_decl, example_types};
 
 use rb_core::pattern::Pat;
 use rb_core::seq::Seq;
 use rb_core::types::{Con, ConRef, DataDecl, Ty};
 use rb_matrix::{
-    Head, Matrix, MatrixFault, common, default_of_row, default_rows, exhaust, specialize,
+    Head, Matrix, MatrixFault, common, default_of_row, default_rows, exhaust, find, specialize,
     specialize_row, unreached,
 };
 use std::alloc::{AllocError, Global};
@@ -174,6 +174,15 @@ fn text(alloc: Global, pat: &Pat) -> Result<Vec<u8>, AllocError> {
     Ok(out)
 }
 
+// The row of patterns that each text spells.
+fn rows(alloc: Global, texts: &[&[u8]]) -> Result<Vec<Seq<Pat>>, AllocError> {
+    let mut rows = Vec::new(alloc);
+    for text in texts {
+        rows.push(row(alloc, text)?)?;
+    }
+    Ok(rows)
+}
+
 // One pattern for each text.
 fn patterns(alloc: Global, texts: &[&[u8]]) -> Result<Vec<Pat>, AllocError> {
     let mut pats = Vec::new(alloc);
@@ -213,6 +222,18 @@ fn shared(alloc: Global, ty: u32, one: &Pat, other: &Pat) -> Result<Vec<u8>, All
         None => Ok(Vec::new(alloc)),
         Some(pat) => text(alloc, &pat),
     }
+}
+
+// The row that is found for a tree and a colour, as text: what it matches, all wanted rows match
+// and no unwanted one. Nothing where none is found.
+fn found(alloc: Global, wanted: &[Seq<Pat>], unwanted: &[Seq<Pat>]) -> Result<Vec<u8>, AllocError> {
+    let types = types(alloc)?;
+    let tys = [Ty::Named(1), Ty::Named(0)];
+    let mut out = Vec::new(alloc);
+    if let Some(row) = find(alloc, types.as_slice(), &tys, wanted, unwanted)? {
+        spell(&mut out, row.as_slice())?;
+    }
+    Ok(out)
 }
 
 // The least number that is missing among literals of an integer type; None where none is.
@@ -361,6 +382,29 @@ const SHARED: &[(u32, &[u8], &[u8], &[u8])] = &[
 fn what_two_patterns_share(rt: HostRuntime) -> Result<(), Fail> {
     for &(ty, one, other, want) in SHARED {
         let found = shared_of(rt.alloc(), ty, one, other)?;
+        assert!(rt; found.as_slice() == want, "at {want:?}");
+    }
+    Ok(())
+}
+
+// What is found where the rows of these texts are wanted and unwanted.
+fn found_of(alloc: Global, wanted: &[&[u8]], unwanted: &[&[u8]]) -> Result<Vec<u8>, AllocError> {
+    let wanted = rows(alloc, wanted)?;
+    let unwanted = rows(alloc, unwanted)?;
+    found(alloc, wanted.as_slice(), unwanted.as_slice())
+}
+
+// wanted rows, unwanted rows, the row that is found, each of a tree and a colour
+const FOUND: &[(&[&[u8]], &[&[u8]], &[u8])] = &[
+    (&[], &[b"LR", b"LB", b"N____"], b"LG"),
+    (&[b"N_R__", b"xG"], &[b"NL___"], b"NN___R_G"),
+    (&[b"xR"], &[b"L_", b"N___R"], b""),
+];
+
+#[test]
+fn what_is_found_in_two_columns(rt: HostRuntime) -> Result<(), Fail> {
+    for &(wanted, unwanted, want) in FOUND {
+        let found = found_of(rt.alloc(), wanted, unwanted)?;
         assert!(rt; found.as_slice() == want, "at {want:?}");
     }
     Ok(())
