@@ -16,6 +16,10 @@ least_region = 64
 abbrev pub most_region : ℕ
 most_region = 16777216
 
+-- the greatest size of a block in bytes
+abbrev pub most_block : ℕ
+most_block = 512
+
 -- a region of bytes and the blocks in it, as plain data
 pub record Memory : Type 0 where
   -- the address at which the region ends
@@ -59,9 +63,9 @@ pub record IsGood (m : Memory) : Type 0 where
 abbrev pub IsWidth : ℕ → Type 0
 IsWidth width = (width ≡ 8) ⊎ (width ≡ 16) ⊎ (width ≡ 32) ⊎ (width ≡ 64)
 
--- the size of a block in bytes: from 1 to 512
+-- the size of a block in bytes: from 1 to `most_block`
 abbrev pub IsSize : ℕ → Type 0
-IsSize size = (0 < size) × (size ≤ 512)
+IsSize size = (0 < size) × (size ≤ most_block)
 
 -- the alignment of a block in bytes: a power of two up to 64
 abbrev pub IsAlign : ℕ → Type 0

@@ -4,7 +4,7 @@
 //! that these laws hold of every call of any memory.
 
 ghost use Rattle.std.specs.Prelude.{◌≡◌, ℕ, ◌^◌, ◌≤◌, Ok};
-ghost use Rattle.rb_bytes.specs.Memory.{Memory, IsGood, IsWidth, IsSize, IsAlign, place_of, load_of, store_of};
+ghost use Rattle.rb_bytes.specs.Memory.{Memory, most_region, IsGood, IsWidth, IsSize, IsAlign, place_of, load_of, store_of};
 ghost use Rattle.rb_bytes.specs.Laws.{IsPlaced, IsStored, IsLoaded};
 ghost use Rattle.rb_bytes.specs.Growth.{IsGrowth};
 
@@ -40,9 +40,9 @@ pub fn growth_keeps_all()
     ensures { IsGrowth }
 {}
 
-/// The base of a load that succeeds in a good memory is at most 2^24, the greatest limit of a
-/// region.
+/// The base of a load that succeeds in a good memory is not above the address at which a region ends
+/// at the latest.
 pub fn bases_are_small()
     ensures { (m : Memory) (base offset width r : ℕ) → IsGood m → load_of m base offset width ≡ Ok r
-        → base ≤ 2 ^ 24 }
+        → base ≤ most_region }
 {}

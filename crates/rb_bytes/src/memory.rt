@@ -13,6 +13,9 @@ pub const LEAST_REGION: u64 = 64;
 /// `specs/Memory.antt`.
 pub const MOST_REGION: u64 = 16_777_216;
 
+/// The greatest size of a block in bytes; clauses cite it as `most_block` of `specs/Memory.antt`.
+pub const MOST_BLOCK: u64 = 512;
+
 /// A region of bytes from address 64 up to its limit, in which blocks are placed in ascending
 /// order. Addresses, sizes, alignments and offsets are bytes, widths are bits, words are
 /// little-endian.

@@ -12,13 +12,9 @@ ghost use Rattle.rb_image.specs.Memories.{Stand, BlockStands};
 ghost use Rattle.rb_image.specs.inner.Filling.{AreStored, EndBy, with_next};
 
 use rb_bytes::checked::CheckedMemory;
-use rb_bytes::memory::{ByteMemory, LEAST_REGION};
+use rb_bytes::memory::{ByteMemory, LEAST_REGION, MOST_BLOCK};
 use rb_image_text::image::ImageBlock;
 use std::alloc::{AllocError, Global};
-
-// The most bytes of a filler, which is a block of no image: it takes up the room before and between
-// those of one.
-const MOST_FILLER: u64 = 512;
 
 // The address behind the last block, or the least address of a block where there is none.
 fn end_of(blocks: &[ImageBlock]) -> u64
@@ -71,7 +67,7 @@ fn fill_to(memory: &mut CheckedMemory, at: u64)
 {
     let mut next = memory.next();
     while next < at {
-        let size = (at - next).min(MOST_FILLER);
+        let size = (at - next).min(MOST_BLOCK);
         place_next(memory, size);
         next += size;
     }

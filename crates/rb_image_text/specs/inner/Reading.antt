@@ -2,6 +2,7 @@
 -- there. A move is what one byte more does at a spot: it leads to a spot, makes a root word or a block whole, or is
 -- refused.
 use Rattle.std.specs.Prelude.{◌≡◌, ℕ, ◌+◌, ◌-◌, ◌*◌, ◌^◌, ◌<◌, List, [], ◌∷◌, ◌++◌, length, codes, Bool, true, false, ◌&&◌, ◌==◌, nat_le, nat_lt, slice_index, if◌then◌else◌, Option, Some, None, Result, Ok, Err}
+use Rattle.rb_bytes.specs.Memory.{most_block}
 use Rattle.rb_image_text.specs.Stopping.{IsTextOf, StopsAt}
 use Rattle.rb_image_text.specs.declared.image.ImageBlock.{ImageBlock}
 use Rattle.rb_image_text.specs.declared.image.Image.{Image}
@@ -96,10 +97,10 @@ abbrev pub sizing_step : ℕ → ℕ → Move
 sizing_step n b = first_size n (digit_of b)
 
 -- the move by one more digit of the size of a block at address n, behind digits of the number s; refused at None, a
--- byte that is no digit, and where the size would be over 512
+-- byte that is no digit, and where the size would be over `most_block`
 abbrev pub more_size : ℕ → ℕ → Option ℕ → Move
 more_size n s None = move.Refused
-more_size n s (Some d) = if nat_le (s * 10 + d) 512 then move.To (Size n (s * 10 + d)) else move.Refused
+more_size n s (Some d) = if nat_le (s * 10 + d) most_block then move.To (Size n (s * 10 + d)) else move.Refused
 
 -- a block at address n of which no byte is read yet
 abbrev pub empty_at : ℕ → ImageBlock

@@ -6,6 +6,7 @@
 use Rattle.std.specs.Prelude.{ℕ, ◌-◌, ◌%◌, ◌^◌, List, [], ◌∷◌, ◌++◌, map, codes, Bool, true, false, ◌&&◌, ◌||◌, ◌==◌, nat_eq, nat_le, if◌then◌else◌, Option, Some, None, find, slice_get, drop}
 use Rattle.std.specs.List.{starts_with, list_any, fold}
 use Rattle.std.specs.Cmp.Lexicographic.{pointwise}
+use Rattle.rb_bytes.specs.Memory.{most_block}
 use Rattle.rb_core.specs.Decimal.{number_in}
 use Rattle.rb_target.specs.Text.{op_text, key_text}
 use Rattle.rb_target.specs.declared.instr.AluOp.{AluOp}
@@ -131,7 +132,7 @@ fields key.Take = Any ∷ Any ∷ Range ∷ []
 fields key.Put = Any ∷ Any ∷ Range ∷ []
 fields key.Load = Any ∷ Any ∷ Upto 511 ∷ Width ∷ []
 fields key.Store = Any ∷ Upto 511 ∷ Width ∷ Any ∷ []
-fields key.Place = Any ∷ FromOne 512 ∷ Align ∷ []
+fields key.Place = Any ∷ FromOne most_block ∷ Align ∷ []
 fields key.Jump = Any ∷ []
 fields key.Switch = Any ∷ OrDash ∷ Pairs ∷ []
 fields key.Call = Any ∷ OrOf ∷ Slots ∷ []

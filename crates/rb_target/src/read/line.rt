@@ -7,6 +7,7 @@ ghost use Rattle.rb_target.specs.inner.Fields as spec;
 use super::spot::{Field, Line};
 use crate::instr::{AluOp, Instr, SwitchArm};
 use crate::word::{Key, LineWord};
+use rb_bytes::memory::MOST_BLOCK;
 use rb_core::seq::Seq;
 use std::alloc::{AllocError, Global};
 
@@ -31,7 +32,7 @@ impl Key {
             Key::Take | Key::Put => &[Field::Any, Field::Any, Field::Range],
             Key::Load => &[Field::Any, Field::Any, Field::Upto(511), Field::Width],
             Key::Store => &[Field::Any, Field::Upto(511), Field::Width, Field::Any],
-            Key::Place => &[Field::Any, Field::FromOne(512), Field::Align],
+            Key::Place => &[Field::Any, Field::FromOne(MOST_BLOCK), Field::Align],
             Key::Jump => &[Field::Any],
             Key::Switch => &[Field::Any, Field::OrDash, Field::Pairs],
             Key::Call => &[Field::Any, Field::OrOf, Field::Slots],
