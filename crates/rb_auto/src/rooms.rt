@@ -107,7 +107,7 @@ fn need(program: &Program, settled: &[Option<Room>], ty: u32) -> Option<u64>
     tag_bits(cons.len()).checked_add(most)
 }
 
-// Which layout is derived for a type, if any; None also where there is no such type.
+/// Which layout is derived for a type, if any; None also where there is no such type.
 pub(crate) fn kind_of(kinds: &[Option<Auto>], ty: u32) -> Option<Auto>
     ensures { result ≡ kind_of kinds.now ty }
 {

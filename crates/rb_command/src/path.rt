@@ -21,8 +21,8 @@ fn parse_steps(alloc: Global, text: &[u8]) -> Result<Option<Seq<u32>>, AllocErro
     Ok(Some(path))
 }
 
-// The path that a word spells, if it spells one: `.` is that to the whole, and any other has a point before
-// each step.
+/// The path that a word spells, if it spells one: `.` is that to the whole, and any other has a point before
+/// each step.
 pub(crate) fn parse_path(alloc: Global, word: &[u8]) -> Result<Option<Seq<u32>>, AllocError>
     ensures { IfOk result (λ path. path ≡ path_in word.now) }
 {

@@ -30,8 +30,8 @@ use rb_target::body::Body;
 use rb_target::instr::{AluOp, Instr};
 use std::alloc::{AllocError, Global};
 
-// The code of a number, at the wanted type, or as a u64 where none is wanted: its value stands in a
-// new slot.
+/// The code of a number, at the wanted type, or as a u64 where none is wanted: its value stands in
+/// a new slot.
 pub(crate) fn emit_number(
     alloc: Global,
     body: &mut Body,
@@ -49,8 +49,8 @@ pub(crate) fn emit_number(
     Ok(held)
 }
 
-// The slots of the variable with number `var`, without code. One that is not bound is 0, as it is
-// in the meaning, in a new slot.
+/// The slots of the variable with number `var`, without code. One that is not bound is 0, as it is
+/// in the meaning, in a new slot.
 pub(crate) fn emit_variable(
     alloc: Global,
     body: &mut Body,
@@ -87,8 +87,8 @@ fn find(alloc: Global, var: u32, locals: &[Local]) -> Result<Option<Held>, Alloc
     Ok(found)
 }
 
-// The code of an operator on two integers `x` and `y` of type `ty` that stand in slots: the result
-// is in a new one.
+/// The code of an operator on two integers `x` and `y` of type `ty` that stand in slots: the result
+/// is in a new one.
 pub(crate) fn emit_operator(
     alloc: Global,
     body: &mut Body,
@@ -108,7 +108,7 @@ pub(crate) fn emit_operator(
     Ok(held)
 }
 
-// The code that takes so many low bits of an integer that stands in a slot to a new one.
+/// The code that takes so many low bits of an integer that stands in a slot to a new one.
 pub(crate) fn emit_low_bits(
     alloc: Global,
     body: &mut Body,
@@ -124,8 +124,8 @@ pub(crate) fn emit_low_bits(
     Ok(held)
 }
 
-// The instruction of a call of `fun`, which has this number in the program, on arguments that are
-// held: its result goes to new slots.
+/// The instruction of a call of `fun`, which has this number in the program, on arguments that are
+/// held: its result goes to new slots.
 pub(crate) fn emit_calling(
     alloc: Global,
     body: &mut Body,
@@ -148,7 +148,8 @@ pub(crate) fn emit_calling(
     })
 }
 
-// The type that is wanted of argument number `i`, counted from 0; None where there is no such type.
+/// The type that is wanted of argument number `i`, counted from 0; None where there is no such
+/// type.
 pub(crate) fn wanted_at(tys: &[Ty], i: usize) -> Option<Ty>
     ensures { result ≡ slice_get tys.now i }
 {

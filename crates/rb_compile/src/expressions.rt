@@ -42,7 +42,7 @@ use rb_match::choosing::emit_match;
 use rb_target::body::Body;
 use std::alloc::{AllocError, Global};
 
-// The code of an expression, behind which its value stands in the slots that are answered.
+/// The code of an expression, behind which its value stands in the slots that are answered.
 #[cycle(emit)]
 pub(crate) fn emit_expr(
     alloc: Global,

@@ -19,10 +19,10 @@ use rb_target::body::Body;
 use rb_target::code::CodeFun;
 use std::alloc::{AllocError, Global};
 
-// The code of the program's function with this number: its parameters in the first slots, and its
-// body, which returns.
-//
-// An error is want of memory, also where the code would have more than 2^24 instructions.
+/// The code of the program's function with this number: its parameters in the first slots, and its
+/// body, which returns.
+///
+/// An error is want of memory, also where the code would have more than 2^24 instructions.
 pub(crate) fn compile_fun(
     alloc: Global,
     agreed: &Agreed,

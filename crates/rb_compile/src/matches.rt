@@ -14,8 +14,8 @@ use rb_fragment::held::{Held, Local};
 use rb_target::body::Hole;
 use std::alloc::{AllocError, Global};
 
-// Arms, one behind the other: where they leave their values, which is None before the first arm,
-// their open jumps, and the number of the first instruction of each.
+/// Arms, one behind the other: where they leave their values, which is None before the first arm,
+/// their open jumps, and the number of the first instruction of each.
 #[derive(Drop)]
 pub(crate) struct Arms {
     pub into: Option<Held>,
@@ -23,7 +23,7 @@ pub(crate) struct Arms {
     pub starts: Seq<usize>,
 }
 
-// The patterns of clauses, in their order.
+/// The patterns of clauses, in their order.
 pub(crate) fn patterns(alloc: Global, clauses: &[Clause]) -> Result<Seq<Pat>, AllocError>
     ensures { IfOk result (λ pats. pats ≡ map pat_of clauses.now) }
 {
@@ -34,8 +34,8 @@ pub(crate) fn patterns(alloc: Global, clauses: &[Clause]) -> Result<Seq<Pat>, Al
     Ok(pats)
 }
 
-// The type that is wanted of the next arm: where none stands yet, what is wanted of the match,
-// which may be None; then the type of what the arms before it left in `into`.
+/// The type that is wanted of the next arm: where none stands yet, what is wanted of the match,
+/// which may be None; then the type of what the arms before it left in `into`.
 pub(crate) fn next_wanted(wanted: Option<Ty>, into: &Option<Held>) -> Option<Ty>
     ensures { result ≡ wanted_in wanted into.now }
 {
@@ -45,7 +45,7 @@ pub(crate) fn next_wanted(wanted: Option<Ty>, into: &Option<Held>) -> Option<Ty>
     }
 }
 
-// Adds what a pattern binds to the variables that are bound before it. An error is want of memory.
+/// Adds what a pattern binds to the variables that are bound before it. An error is want of memory.
 pub(crate) fn extend(locals: &mut Seq<Local>, bound: Seq<Local>) -> Result<(), AllocError>
     ensures { OnOk result (locals.new ≡ locals.old ++ bound) }
 {

@@ -11,7 +11,7 @@ use rb_core::types::{ConRef, DataDecl, Ty};
 use rb_layout::agreed::Agreed;
 use std::alloc::{AllocError, Global};
 
-// The function of the program with a number; None where there is no such function.
+/// The function of the program with a number; None where there is no such function.
 pub(crate) fn function_at(agreed: &Agreed, number: u32) -> Option<&Fun>
     ensures { option_copied result ≡ slice_get agreed.now.covered.program.funs number }
 {
@@ -19,7 +19,7 @@ pub(crate) fn function_at(agreed: &Agreed, number: u32) -> Option<&Fun>
     program.funs.get(number as usize)
 }
 
-// The types of some parameters, in their order.
+/// The types of some parameters, in their order.
 pub(crate) fn param_types(alloc: Global, params: &[Param]) -> Result<Seq<Ty>, AllocError>
     ensures { IfOk result (λ ts. ts ≡ map (λ p. p.ty) params.now) }
 {
@@ -30,8 +30,8 @@ pub(crate) fn param_types(alloc: Global, params: &[Param]) -> Result<Seq<Ty>, Al
     Ok(tys)
 }
 
-// The types of a constructor's fields, in their order; None where the program does not have the
-// constructor.
+/// The types of a constructor's fields, in their order; None where the program does not have the
+/// constructor.
 pub(crate) fn field_types(
     alloc: Global,
     agreed: &Agreed,

@@ -32,7 +32,7 @@ use rb_target::body::Body;
 use rb_target::instr::Instr;
 use std::alloc::{AllocError, Global};
 
-// The code of an expression whose value is the function's result, and which returns it.
+/// The code of an expression whose value is the function's result, and which returns it.
 #[cycle(tail)]
 pub(crate) fn emit_tail(
     alloc: Global,

@@ -11,7 +11,7 @@ use rb_core::pattern::Pat;
 use rb_core::seq::Seq;
 use std::alloc::{AllocError, Global};
 
-// For so many variables in a row, from `first` on, whether each is used. Others are taken as used.
+/// For so many variables in a row, from `first` on, whether each is used. Others are taken as used.
 #[derive(Drop)]
 pub(crate) struct Marks {
     pub first: u32,

@@ -95,8 +95,8 @@ fn emit_word(
     Ok(slot)
 }
 
-// Appends code that adds parts to the word in slot `into`, one after the other: each set beside
-// what stands there, or put over it. Without parts there is no code.
+/// Appends code that adds parts to the word in slot `into`, one after the other: each set beside
+/// what stands there, or put over it. Without parts there is no code.
 pub(crate) fn emit_parts(
     body: &mut Body,
     into: usize,

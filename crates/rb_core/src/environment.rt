@@ -16,8 +16,8 @@ use crate::typing::Binder;
 use crate::value::Value;
 use std::alloc::{AllocError, Global};
 
-// A function that runs, by its number, with the types (`scope`) and the values of the variables in
-// scope, from the outermost binder to the innermost.
+/// A function that runs, by its number, with the types (`scope`) and the values of the variables in
+/// scope, from the outermost binder to the innermost.
 #[derive(Drop)]
 pub(crate) struct Frame {
     pub(crate) fun: u32,
@@ -25,7 +25,7 @@ pub(crate) struct Frame {
     pub(crate) values: Seq<Binding>,
 }
 
-// How many variables a frame has, counted in its scope and in its values.
+/// How many variables a frame has, counted in its scope and in its values.
 #[derive(Clone, Copy)]
 pub(crate) struct Depth {
     scope: usize,
@@ -33,7 +33,7 @@ pub(crate) struct Depth {
 }
 
 impl Frame {
-    // How many variables there are now, to go back to with `truncate`.
+    /// How many variables there are now, to go back to with `truncate`.
     pub(crate) fn depth(&self) -> Depth
         ensures scope { result.scope ≡ length self.now.scope }
         ensures values { result.values ≡ length self.now.values }
@@ -44,8 +44,8 @@ impl Frame {
         }
     }
 
-    // Adds one variable with its value, as the innermost. For want of memory, the scope may
-    // have it alone.
+    /// Adds one variable with its value, as the innermost. For want of memory, the scope may
+    /// have it alone.
     pub(crate) fn push(&mut self, binder: Binder, value: Value) -> Result<(), AllocError>
         ensures fun { self.new.fun ≡ self.old.fun }
         ensures scope { OnOk result (self.new.scope ≡ with_binder self.old.scope binder.var binder.ty) }
@@ -59,8 +59,8 @@ impl Frame {
         Ok(())
     }
 
-    // Adds the variables of a pattern at a value of type `ty`, from left to right, as the
-    // innermost. For want of memory, the scope or the values may have some of them.
+    /// Adds the variables of a pattern at a value of type `ty`, from left to right, as the
+    /// innermost. For want of memory, the scope or the values may have some of them.
     pub(crate) fn bind(
         &mut self,
         alloc: Global,
@@ -78,8 +78,8 @@ impl Frame {
         Ok(())
     }
 
-    // Drops the variables behind a depth, which are those that were added since it was taken; a
-    // frame with no more variables stays as it is.
+    /// Drops the variables behind a depth, which are those that were added since it was taken; a
+    /// frame with no more variables stays as it is.
     pub(crate) fn truncate(&mut self, depth: Depth)
         ensures { self.new ≡ record self.old {
           scope = take depth.scope self.old.scope;
@@ -91,7 +91,7 @@ impl Frame {
     }
 }
 
-// The scope of a function's body: its parameters with their types, in their order.
+/// The scope of a function's body: its parameters with their types, in their order.
 pub(crate) fn scope_of(alloc: Global, params: &[Param]) -> Result<Seq<Binder>, AllocError>
     ensures { IfOk result (λ scope. scope ≡ map binder_of params.now) }
 {
@@ -105,8 +105,8 @@ pub(crate) fn scope_of(alloc: Global, params: &[Param]) -> Result<Seq<Binder>, A
     Ok(scope)
 }
 
-// Parameters bound to copies of arguments, each to the one in its place, up to where either list
-// ends.
+/// Parameters bound to copies of arguments, each to the one in its place, up to where either list
+/// ends.
 #[tactic(auto, using(crate::proofs::BindingLemmas::argument_steps))]
 pub(crate) fn bind_arguments(
     alloc: Global,
@@ -129,7 +129,7 @@ pub(crate) fn bind_arguments(
     Ok(values)
 }
 
-// A copy of the value of a variable, that of its innermost binding; 0 where it has none.
+/// A copy of the value of a variable, that of its innermost binding; 0 where it has none.
 pub(crate) fn value_of(alloc: Global, var: u32, values: &[Binding]) -> Result<Value, AllocError>
     ensures { IfOk result (λ v. v ≡ value_in values.now var) }
 {
@@ -142,9 +142,9 @@ pub(crate) fn value_of(alloc: Global, var: u32, values: &[Binding]) -> Result<Va
     Ok(found)
 }
 
-// Puts what a pattern binds at a value behind what is bound: copies of the value's parts, from left
-// to right. A constructor's pattern binds nothing at a number. The call nests as deep as the
-// pattern.
+/// Puts what a pattern binds at a value behind what is bound: copies of the value's parts, from
+/// left to right. A constructor's pattern binds nothing at a number. The call nests as deep as the
+/// pattern.
 #[cycle(binding)]
 pub(crate) fn bind(
     alloc: Global,

@@ -8,7 +8,7 @@ use crate::expression::Op;
 use crate::types::Ty;
 use crate::value::Value;
 
-// The number that a value is; of a construction, 0, which a typed program never meets.
+/// The number that a value is; of a construction, 0, which a typed program never meets.
 pub(crate) fn number(value: &Value) -> u64
     ensures { result ≡ number_of value.now }
 {
@@ -30,8 +30,8 @@ pub fn width(ty: Ty) -> u8
     }
 }
 
-// What an operator gives at operands `a` and `b` of `width` bits: 1 or 0 for `eq` and `lt`, else
-// its result modulo two to the width.
+/// What an operator gives at operands `a` and `b` of `width` bits: 1 or 0 for `eq` and `lt`, else
+/// its result modulo two to the width.
 pub(crate) fn apply(op: Op, width: u8, a: u64, b: u64) -> u64
     requires { width ≤ 64 }
     ensures { result ≡ op_value op width a b }
@@ -50,7 +50,7 @@ pub(crate) fn apply(op: Op, width: u8, a: u64, b: u64) -> u64
     }
 }
 
-// The number that the `bits` low bits of `n` hold; `n` itself for 64 bits and more.
+/// The number that the `bits` low bits of `n` hold; `n` itself for 64 bits and more.
 pub(crate) fn low_bits(n: u64, bits: u8) -> u64
     ensures { result ≡ n % 2 ^ bits }
 {

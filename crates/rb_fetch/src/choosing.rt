@@ -420,9 +420,9 @@ fn fetch_fields(
     }
 }
 
-// Code that leaves the part of `source` at a path below its root in slots, a word each. The
-// provenance of its leaf has the pattern `pat` there: a wildcard or a constructor, and of another
-// pattern want of memory is the answer, as it is at a `depth` of 0.
+/// Code that leaves the part of `source` at a path below its root in slots, a word each. The
+/// provenance of its leaf has the pattern `pat` there: a wildcard or a constructor, and of another
+/// pattern want of memory is the answer, as it is at a `depth` of 0.
 #[cycle(fetching)]
 pub(crate) fn fetch_part(
     alloc: Global,

@@ -56,9 +56,9 @@ pub fn construct(
     Ok(held)
 }
 
-// The first of `leaves` for the values of a constructor, by number, where its provenance has no
-// constructor below its root: it is the leaf of all its values then. None where it has one there,
-// and where no leaf is for the constructor.
+/// The first of `leaves` for the values of a constructor, by number, where its provenance has no
+/// constructor below its root: it is the leaf of all its values then. None where it has one there,
+/// and where no leaf is for the constructor.
 pub(crate) fn alone(alloc: Global, leaves: &[Leaf], con: u32) -> Result<Option<&Leaf>, AllocError>
     ensures { IfOk result (λ found. (leaf : LeafValue) → option_copied found ≡ Some leaf
         → IsAlone con leaves.now leaf) }
@@ -75,8 +75,8 @@ pub(crate) fn alone(alloc: Global, leaves: &[Leaf], con: u32) -> Result<Option<&
     Ok(None)
 }
 
-// Code that makes a value in the one leaf for its constructor, from the values of its fields, in
-// new slots.
+/// Code that makes a value in the one leaf for its constructor, from the values of its fields, in
+/// new slots.
 pub(crate) fn emit_alone(
     alloc: Global,
     body: &mut Body,
@@ -112,9 +112,9 @@ struct Arms {
     starts: Seq<usize>,
 }
 
-// Code behind the choice of a leaf: one arm a way, which makes the value in the leaf of its way;
-// `leaves` are all those of the type's layout. All meet behind the last one, with the value in the
-// same slots. Want of memory is the answer where there are no ways.
+/// Code behind the choice of a leaf: one arm a way, which makes the value in the leaf of its way;
+/// `leaves` are all those of the type's layout. All meet behind the last one, with the value in the
+/// same slots. Want of memory is the answer where there are no ways.
 pub(crate) fn emit_ways(
     alloc: Global,
     body: &mut Body,

@@ -23,8 +23,8 @@ use std::alloc::{AllocError, Global};
 
 // Leaves ----------------------------------------------------------------------------------------
 
-// The constructor at the root of a leaf's provenance, by number; none where there is no such leaf,
-// or no constructor at its root.
+/// The constructor at the root of a leaf's provenance, by number; none where there is no such leaf,
+/// or no constructor at its root.
 pub(crate) fn root_of(layouts: &[Layout], ty: u32, leaf: usize) -> Option<u32>
     ensures { IfSome result (λ con. HasRootCon layouts.now ty leaf con) }
 {
@@ -35,8 +35,8 @@ pub(crate) fn root_of(layouts: &[Layout], ty: u32, leaf: usize) -> Option<u32>
     }
 }
 
-// Whether a leaf's provenance has the constructor of this number at its root: the leaf is for
-// values of it.
+/// Whether a leaf's provenance has the constructor of this number at its root: the leaf is for
+/// values of it.
 pub(crate) fn is_leaf_for(leaf: &Leaf, con: u32) -> bool
     ensures { result ≡ is_leaf_for con leaf.now }
 {
@@ -60,8 +60,8 @@ fn leaves_of(alloc: Global, leaves: &[Leaf], con: u32) -> Result<Seq<usize>, All
     Ok(found)
 }
 
-// The leaves of a type's layout that are for the values of `con`, a constructor of the type, by
-// number and in their order; none where the type has no layout.
+/// The leaves of a type's layout that are for the values of `con`, a constructor of the type, by
+/// number and in their order; none where the type has no layout.
 pub(crate) fn leaves_by(
     alloc: Global,
     layouts: &[Layout],
@@ -78,7 +78,7 @@ pub(crate) fn leaves_by(
     }
 }
 
-// How many leaves a type's layout has; None where it has no layout.
+/// How many leaves a type's layout has; None where it has no layout.
 pub(crate) fn count_leaves(layouts: &[Layout], ty: u32) -> Option<usize>
     ensures { IfSome result (λ count. HasLeaves layouts.now ty count) }
 {
@@ -98,7 +98,7 @@ fn copy_held(alloc: Global, held: &Held) -> Result<Held, AllocError>
     Ok(Held { ty: held.ty, slots })
 }
 
-// A copy of parts in slots, with their positions, in their order.
+/// A copy of parts in slots, with their positions, in their order.
 pub(crate) fn copy_parts(alloc: Global, parts: &[Subvalue]) -> Result<Seq<Subvalue>, AllocError>
     ensures { IfOk result (λ copies. copies ≡ parts.now) }
 {
@@ -111,8 +111,8 @@ pub(crate) fn copy_parts(alloc: Global, parts: &[Subvalue]) -> Result<Seq<Subval
     Ok(copies)
 }
 
-// The arguments of a construction, in slots, as its parts: argument i is the part at field i of the
-// root.
+/// The arguments of a construction, in slots, as its parts: argument i is the part at field i of
+/// the root.
 pub(crate) fn parts_of(alloc: Global, args: &[Held]) -> Result<Seq<Subvalue>, AllocError>
     ensures { IfOk result (λ parts. parts ≡ parts_from 0 args.now) }
 {
@@ -148,9 +148,9 @@ pub(crate) fn add_parts(
     Ok(())
 }
 
-// The slots of the part of data type `ty` at the position `path`. It is among `parts`: an argument,
-// or fetched once the leaf of the part above it was known. Want of memory is the answer where it is
-// not.
+/// The slots of the part of data type `ty` at the position `path`. It is among `parts`: an
+/// argument, or fetched once the leaf of the part above it was known. Want of memory is the answer
+/// where it is not.
 pub(crate) fn words_at(
     alloc: Global,
     parts: &[Subvalue],

@@ -10,7 +10,7 @@ use rb_show::show::push_name;
 use rb_show::text::{push, push_number};
 use std::alloc::{AllocError, Global};
 
-// The text with a type behind it: an integer by its width, a data type by its name.
+/// The text with a type behind it: an integer by its width, a data type by its name.
 pub(crate) fn push_type(text: &mut Vec<u8>, types: &[DataDecl], ty: Ty) -> Result<(), AllocError>
     ensures { OnOk result (text.new.items ≡ text.old.items ++ line.type_text types.now ty) }
 {

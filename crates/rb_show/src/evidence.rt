@@ -39,7 +39,7 @@ fn push_between(
     push(text, after)
 }
 
-// Adds the provenance of a leaf, by which it is named; nothing where there is no such leaf.
+/// Adds the provenance of a leaf, by which it is named; nothing where there is no such leaf.
 pub(crate) fn push_leaf(
     text: &mut Vec<u8>,
     types: &[DataDecl],

@@ -29,8 +29,8 @@ fn is_free(word: &FlatWord, bit: u64) -> bool
     bit < word.width && !is_held(word.parts.as_slice(), bit)
 }
 
-// Whether a maximal range of free bits begins at this bit: it is free, and the bit below it is none
-// or isn't free.
+/// Whether a maximal range of free bits begins at this bit: it is free, and the bit below it is
+/// none or isn't free.
 pub(crate) fn begins_free(word: &FlatWord, bit: u64) -> bool
     ensures { result ≡ begins_free word.now bit }
 {
@@ -40,8 +40,8 @@ pub(crate) fn begins_free(word: &FlatWord, bit: u64) -> bool
     bit == 0 || !is_free(word, bit - 1)
 }
 
-// How many bits from this one on are free, up to the first that isn't; 0 where this one
-// isn't.
+/// How many bits from this one on are free, up to the first that isn't; 0 where this one
+/// isn't.
 pub(crate) fn free_bits(word: &FlatWord, bit: u64) -> u64
     requires { bit < word.now.width }
     ensures { result ≡ free_bits word.now bit (word.now.width - bit) }

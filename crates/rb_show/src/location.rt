@@ -11,7 +11,7 @@ use crate::text::{push, push_number, push_range};
 use rb_core::layout_decl::{Loc, Step};
 use std::alloc::AllocError;
 
-// Adds so many bits from that bit on, as `[o:l]`.
+/// Adds so many bits from that bit on, as `[o:l]`.
 pub(crate) fn push_bits(text: &mut Vec<u8>, o: u64, l: u64) -> Result<(), AllocError>
     ensures { OnOk result (text.new.items ≡ text.old.items ++ bits_text o l) }
 {

@@ -16,7 +16,7 @@ use crate::text::{push, push_number, push_range};
 use rb_layout::layout::{FlatWord, Kind, Part};
 use std::alloc::AllocError;
 
-// Adds the field numbers of a path, each behind a point.
+/// Adds the field numbers of a path, each behind a point.
 pub(crate) fn push_path(text: &mut Vec<u8>, path: &[u32]) -> Result<(), AllocError>
     ensures { OnOk result (text.new.items ≡ text.old.items ++ path_text path.now) }
 {
@@ -112,7 +112,7 @@ fn push_pieces_at(text: &mut Vec<u8>, word: &FlatWord, bit: u64) -> Result<(), A
     Ok(())
 }
 
-// Adds the lines of all pieces of a word, by ascending offset.
+/// Adds the lines of all pieces of a word, by ascending offset.
 pub(crate) fn push_pieces(text: &mut Vec<u8>, word: &FlatWord) -> Result<(), AllocError>
     ensures { OnOk result (text.new.items ≡ text.old.items ++ piece_lines word.now) }
 {

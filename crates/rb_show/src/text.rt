@@ -31,7 +31,7 @@ pub fn push_number(text: &mut Vec<u8>, number: u64) -> Result<(), AllocError>
     text.extend_from_slice(digits(number).as_slice())
 }
 
-// Adds so many bits from that bit on, as `o:l`.
+/// Adds so many bits from that bit on, as `o:l`.
 pub(crate) fn push_range(text: &mut Vec<u8>, o: u64, l: u64) -> Result<(), AllocError>
     ensures { OnOk result (text.new.items ≡ text.old.items ++ range_text o l) }
 {

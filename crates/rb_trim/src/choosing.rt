@@ -24,11 +24,11 @@ const MOST_ARMS: usize = 12;
 // How many words a switch returns at most.
 const MOST_WORDS: usize = 12;
 
-// What is wanted of a body, and what is read. An instruction that is wanted may not be left out,
-// unless it is a jump over nothing. For each instruction, `wanted` has 1 where it is wanted and
-// else 0, `dead` slots that no way from there on reads before it sets them anew, though a later
-// instruction reads them, and `ends` where a jump to it goes on. For each slot, `reads` has one
-// more than the number of the last wanted instruction that reads it, or 0 where none does.
+/// What is wanted of a body, and what is read. An instruction that is wanted may not be left out,
+/// unless it is a jump over nothing. For each instruction, `wanted` has 1 where it is wanted and
+/// else 0, `dead` slots that no way from there on reads before it sets them anew, though a later
+/// instruction reads them, and `ends` where a jump to it goes on. For each slot, `reads` has one
+/// more than the number of the last wanted instruction that reads it, or 0 where none does.
 #[derive(Drop)]
 pub(crate) struct Rest {
     pub(crate) wanted: Seq<usize>,
@@ -37,7 +37,7 @@ pub(crate) struct Rest {
     pub(crate) reads: Seq<usize>,
 }
 
-// Puts a number at an index of a list; nothing is done past the end.
+/// Puts a number at an index of a list; nothing is done past the end.
 pub(crate) fn put(numbers: &mut Seq<usize>, i: usize, number: usize) {
     if i < numbers.len() {
         let _old = numbers.replace(i, number);
@@ -310,9 +310,9 @@ fn turns_back(
     Ok(is_whole(facts_at(facts, pc), *slot, *other, arms))
 }
 
-// For each instruction 1 where one instruction stands for it and another: a load of a word that is
-// copied right behind, and read by nothing else, and a switch whose other way leads to one on the
-// same word. 2 where a switch returns, and else 0.
+/// For each instruction 1 where one instruction stands for it and another: a load of a word that is
+/// copied right behind, and read by nothing else, and a switch whose other way leads to one on the
+/// same word. 2 where a switch returns, and else 0.
 pub(crate) fn give(
     alloc: Global,
     body: &[Instr],
@@ -350,9 +350,9 @@ pub(crate) fn give(
     Ok(given)
 }
 
-// Takes back that an instruction stands with another where no run comes to it: of three switches on
-// one word, each behind the other way of the one before, the second one is left out, so that it
-// cannot stand with the third.
+/// Takes back that an instruction stands with another where no run comes to it: of three switches
+/// on one word, each behind the other way of the one before, the second one is left out, so that it
+/// cannot stand with the third.
 pub(crate) fn clear_unreached(given: &mut Seq<usize>, reached: &[usize]) {
     for (pc, is_reached) in reached.iter().enumerate() {
         if *is_reached == 0 {
@@ -361,9 +361,9 @@ pub(crate) fn clear_unreached(given: &mut Seq<usize>, reached: &[usize]) {
     }
 }
 
-// What is wanted of a body and what is read, found from the last instruction back. `facts` has for
-// each instruction what is known before it, and `late` some slots that were set on a way to it and
-// not read on that way.
+/// What is wanted of a body and what is read, found from the last instruction back. `facts` has for
+/// each instruction what is known before it, and `late` some slots that were set on a way to it and
+/// not read on that way.
 pub(crate) fn choose(
     alloc: Global,
     fun: &CodeFun,
@@ -418,8 +418,8 @@ fn reach_next(reached: &mut Seq<usize>, body: &[Instr], ends: &[usize], other: O
     }
 }
 
-// For each instruction 1 where a run may come to it, else 0. `ends` has for each where a jump to it
-// goes on, and `given` is as `give` has it, or empty where each instruction stands for itself.
+/// For each instruction 1 where a run may come to it, else 0. `ends` has for each where a jump to
+/// it goes on, and `given` is as `give` has it, or empty where each instruction stands for itself.
 pub(crate) fn reach(
     alloc: Global,
     body: &[Instr],
@@ -464,8 +464,8 @@ pub(crate) fn reach(
     Ok(reached)
 }
 
-// For each instruction, and for the end, how many stay from there on: all that are reached and
-// wanted, but for jumps over nothing. `reached` is as `reach` has it.
+/// For each instruction, and for the end, how many stay from there on: all that are reached and
+/// wanted, but for jumps over nothing. `reached` is as `reach` has it.
 pub(crate) fn stays(
     alloc: Global,
     body: &[Instr],
@@ -502,8 +502,8 @@ pub(crate) fn stays(
     Ok(stay)
 }
 
-// For each slot 1 where an instruction that stays writes it, 2 where only loads would that write
-// another slot, and else 0. `reached` is as `reach` has it, and `given` as `give` has it.
+/// For each slot 1 where an instruction that stays writes it, 2 where only loads would that write
+/// another slot, and else 0. `reached` is as `reach` has it, and `given` as `give` has it.
 pub(crate) fn used(
     alloc: Global,
     fun: &CodeFun,
@@ -538,8 +538,8 @@ pub(crate) fn used(
     Ok(uses)
 }
 
-// For each instruction, and for the end, how many of those before it stay; `stay` is as `stays` has
-// it.
+/// For each instruction, and for the end, how many of those before it stay; `stay` is as `stays`
+/// has it.
 pub(crate) fn places_of(alloc: Global, stay: &[usize]) -> Result<Seq<usize>, AllocError> {
     let all = number_at(stay, 0);
     let mut places = Seq::new(alloc);

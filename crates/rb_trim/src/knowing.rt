@@ -10,14 +10,14 @@ ghost use Rattle.rb_trim.specs.inner.Following.{AreSame, IsAsMuch, IsHeld, IsNar
 use crate::fact::{Content, Fact};
 use rb_bits::words::take;
 
-// Whether a fact is one of these.
+/// Whether a fact is one of these.
 pub(crate) fn is_known(facts: &[Fact], fact: &Fact) -> bool
     ensures { IsTrue result → Contains facts.now fact.now }
 {
     facts.contains(fact)
 }
 
-// The slot that is known to hold the same word, or else the slot itself.
+/// The slot that is known to hold the same word, or else the slot itself.
 pub(crate) fn source(facts: &[Fact], slot: usize) -> usize
     ensures { AreSame facts.now slot result }
 {
@@ -44,7 +44,7 @@ fn same_as(fact: &Fact, slot: usize) -> Option<usize>
     }
 }
 
-// What a slot is known to hold, by the first fact on it; None where there is no fact on it.
+/// What a slot is known to hold, by the first fact on it; None where there is no fact on it.
 pub(crate) fn content_of(facts: &[Fact], slot: usize) -> Option<Content>
     ensures { IfSome result (λ content. IsHeld facts.now slot content) }
 {
@@ -79,7 +79,7 @@ fn fits_in(content: &Content, l: u8) -> bool
     }
 }
 
-// Whether a slot is known to hold a word of at most so many bits.
+/// Whether a slot is known to hold a word of at most so many bits.
 pub(crate) fn is_narrow(facts: &[Fact], slot: usize, l: u8) -> bool
     ensures { IsTrue result → IsNarrow facts.now slot l }
 {
@@ -138,7 +138,7 @@ fn part_of(facts: &[Fact], slot: usize, o: u8, l: u8) -> Content
     }
 }
 
-// Bits `o` up to `o + l` of a slot: the word itself where they are all that it is known to have.
+/// Bits `o` up to `o + l` of a slot: the word itself where they are all that it is known to have.
 pub(crate) fn part(facts: &[Fact], slot: usize, o: u8, l: u8) -> Content
     ensures { IsAsMuch facts.now (Part slot o l) result }
 {
@@ -149,7 +149,7 @@ pub(crate) fn part(facts: &[Fact], slot: usize, o: u8, l: u8) -> Content
     part_of(facts, from, o, l)
 }
 
-// The same content, told by the slots that are known to hold the same words.
+/// The same content, told by the slots that are known to hold the same words.
 pub(crate) fn resolved(facts: &[Fact], content: Content) -> Content
     ensures { IsAsMuch facts.now content result }
 {
@@ -182,8 +182,8 @@ fn anew(facts: &[Fact], from: usize) -> Content
     }
 }
 
-// The same content; where it is another slot's word, what that slot holds is made anew, if one
-// instruction does it without memory.
+/// The same content; where it is another slot's word, what that slot holds is made anew, if one
+/// instruction does it without memory.
 pub(crate) fn remade(facts: &[Fact], content: Content) -> Content
     ensures { IsAsMuch facts.now content result }
 {

@@ -13,7 +13,7 @@ use std::alloc::{AllocError, Global};
 /// How many facts are kept at most at a place, the newest ones, and how many slots.
 pub(crate) const MOST: usize = 12;
 
-// So many numbers from `first` on, each by `more` greater than the one before.
+/// So many numbers from `first` on, each by `more` greater than the one before.
 pub(crate) fn numbers(
     alloc: Global,
     count: usize,
@@ -82,7 +82,7 @@ fn meet(alloc: Global, known: &mut Knowledge, pc: usize, facts: &[Fact]) -> Resu
     Ok(())
 }
 
-// The slot that is known to hold a content, by the newest fact that says so, if any does.
+/// The slot that is known to hold a content, by the newest fact that says so, if any does.
 pub(crate) fn holder(facts: &[Fact], content: Content) -> Option<usize> {
     for fact in facts.iter().rev() {
         if fact.content == content {
@@ -185,8 +185,8 @@ fn spread(
     }
 }
 
-// The facts known before each instruction of a body, as a walk from the first one on finds; none
-// where the walk finds no way to it.
+/// The facts known before each instruction of a body, as a walk from the first one on finds; none
+/// where the walk finds no way to it.
 pub(crate) fn learn(alloc: Global, body: &[Instr]) -> Result<Seq<Seq<Fact>>, AllocError> {
     let mut known = blank(alloc, body.len())?;
     for (pc, instr) in body.iter().enumerate() {
@@ -198,7 +198,7 @@ pub(crate) fn learn(alloc: Global, body: &[Instr]) -> Result<Seq<Seq<Fact>>, All
     Ok(known.facts)
 }
 
-// What is known at a place, or nothing past the end.
+/// What is known at a place, or nothing past the end.
 pub(crate) fn facts_at(facts: &[Seq<Fact>], pc: usize) -> &[Fact] {
     match facts.get(pc) {
         None => &[],
@@ -206,7 +206,7 @@ pub(crate) fn facts_at(facts: &[Seq<Fact>], pc: usize) -> &[Fact] {
     }
 }
 
-// The slots that a list has for an instruction, or none past the end.
+/// The slots that a list has for an instruction, or none past the end.
 pub(crate) fn slots_at(places: &[Seq<usize>], pc: usize) -> &[usize] {
     match places.get(pc) {
         None => &[],
@@ -228,7 +228,7 @@ fn told_by(alloc: Global, content: Content) -> Result<Seq<usize>, AllocError> {
     Ok(slots)
 }
 
-// The slots that an instruction reads, or ones that are known to hold the same words.
+/// The slots that an instruction reads, or ones that are known to hold the same words.
 pub(crate) fn read_by(
     alloc: Global,
     facts: &[Fact],
@@ -264,7 +264,7 @@ pub(crate) fn read_by(
     Ok(slots)
 }
 
-// The slot that an instruction sets, if it sets one alone.
+/// The slot that an instruction sets, if it sets one alone.
 pub(crate) fn set_by(instr: &Instr) -> Option<usize> {
     match instr {
         Instr::Const(dest, _)
@@ -363,7 +363,7 @@ fn join_all(
     }
 }
 
-// For each instruction some slots that were set on a way to it, and not read on that way.
+/// For each instruction some slots that were set on a way to it, and not read on that way.
 pub(crate) fn written(
     alloc: Global,
     body: &[Instr],

@@ -31,7 +31,7 @@ impl From<AllocError> for Stop {
     }
 }
 
-// The number with this place, or 0 past the end.
+/// The number with this place, or 0 past the end.
 pub(crate) fn number_at(numbers: &[usize], i: usize) -> usize
     ensures { result ≡ slice_index numbers.now i }
 {
@@ -41,28 +41,28 @@ pub(crate) fn number_at(numbers: &[usize], i: usize) -> usize
     }
 }
 
-// A slot's new number, or 0 past the end.
+/// A slot's new number, or 0 past the end.
 pub(crate) fn name_at(hints: &Hints, slot: usize) -> usize
     ensures { result ≡ slice_index hints.now.names slot }
 {
     number_at(hints.names.as_slice(), slot)
 }
 
-// The slot that has a new number, or 0 past the end.
+/// The slot that has a new number, or 0 past the end.
 pub(crate) fn origin_at(hints: &Hints, new: usize) -> usize
     ensures { result ≡ slice_index hints.now.origins new }
 {
     number_at(hints.origins.as_slice(), new)
 }
 
-// One more than the number of the last instruction that reads a slot; 0 where none does.
+/// One more than the number of the last instruction that reads a slot; 0 where none does.
 pub(crate) fn read_at(hints: &Hints, slot: usize) -> usize
     ensures { result ≡ slice_index hints.now.reads slot }
 {
     number_at(hints.reads.as_slice(), slot)
 }
 
-// What is known before an instruction, nothing past the end.
+/// What is known before an instruction, nothing past the end.
 pub(crate) fn known_at(hints: &Hints, pc: usize) -> &[Fact]
     ensures { result.now ≡ facts_at hints.now pc }
 {
@@ -72,7 +72,7 @@ pub(crate) fn known_at(hints: &Hints, pc: usize) -> &[Fact]
     }
 }
 
-// Some slots that no way from an instruction on reads before it sets them anew, none past the end.
+/// Some slots that no way from an instruction on reads before it sets them anew, none past the end.
 pub(crate) fn unread_at(hints: &Hints, pc: usize) -> &[usize]
     ensures { result.now ≡ dead_at hints.now pc }
 {
@@ -89,8 +89,8 @@ fn is_dead(hints: &Hints, pc: usize, slot: usize) -> bool
     unread_at(hints, pc).contains(&slot)
 }
 
-// Whether a slot is read from an instruction on: it or a later line reads the slot, and it is not
-// known that no way comes to one that does before it sets the slot anew.
+/// Whether a slot is read from an instruction on: it or a later line reads the slot, and it is not
+/// known that no way comes to one that does before it sets the slot anew.
 pub(crate) fn is_read(hints: &Hints, pc: usize, slot: usize) -> bool
     ensures { IsTrue result ↔ SlotIsRead hints.now pc slot }
 {
@@ -98,33 +98,33 @@ pub(crate) fn is_read(hints: &Hints, pc: usize, slot: usize) -> bool
     pc < read && !is_dead(hints, pc, slot)
 }
 
-// The instruction at which a run goes on that jumps to this one.
+/// The instruction at which a run goes on that jumps to this one.
 pub(crate) fn end_at(hints: &Hints, pc: usize) -> usize
     ensures { result ≡ end hints.now pc }
 {
     number_at(hints.ends.as_slice(), pc)
 }
 
-// Whether a run may come to an instruction.
+/// Whether a run may come to an instruction.
 pub(crate) fn is_reached(hints: &Hints, pc: usize) -> bool
     ensures { IsTrue result ↔ IsReached hints.now pc }
 {
     number_at(hints.reached.as_slice(), pc) > 0
 }
 
-// Whether what stands for an instruction stands for no other one behind it.
+/// Whether what stands for an instruction stands for no other one behind it.
 pub(crate) fn is_plain(hints: &Hints, pc: usize) -> bool
     ensures { IsTrue result ↔ IsPlain hints.now pc }
 {
     number_at(hints.given.as_slice(), pc) == 0
 }
 
-// Whether a switch is to return at once, as all its ways return the same words.
+/// Whether a switch is to return at once, as all its ways return the same words.
 pub(crate) fn turns_back(hints: &Hints, pc: usize) -> bool {
     number_at(hints.given.as_slice(), pc) == RETURNS
 }
 
-// The new number of an instruction, or of one behind it that is left.
+/// The new number of an instruction, or of one behind it that is left.
 pub(crate) fn place_at(hints: &Hints, pc: usize) -> usize
     ensures { result ≡ place hints.now pc }
 {
@@ -138,7 +138,7 @@ fn landing_at(hints: &Hints, pc: usize) -> usize
     place_at(hints, end_at(hints, pc))
 }
 
-// The new number of a slot that is written; the hints do not fit where it is that of another slot.
+/// The new number of a slot that is written; the hints do not fit where it is that of another slot.
 pub(crate) fn dest(hints: &Hints, slot: usize) -> Result<usize, Stop>
     ensures { IfOk result (λ d. IsDest hints.now slot d) }
 {
@@ -150,8 +150,8 @@ pub(crate) fn dest(hints: &Hints, slot: usize) -> Result<usize, Stop>
     Ok(new)
 }
 
-// The new number of a slot that instruction `pc` reads, or of one that is known to hold the same
-// word; the hints do not fit where that one is not read from `pc` on, by what they say.
+/// The new number of a slot that instruction `pc` reads, or of one that is known to hold the same
+/// word; the hints do not fit where that one is not read from `pc` on, by what they say.
 pub(crate) fn name(hints: &Hints, facts: &[Fact], pc: usize, slot: usize) -> Result<usize, Stop>
     ensures { IfOk result (λ a. IsName hints.now facts.now pc slot a) }
 {
@@ -176,9 +176,9 @@ fn dests(alloc: Global, hints: &Hints, slots: &[usize]) -> Result<Seq<usize>, St
     Ok(new)
 }
 
-// The new numbers of slots that instruction `pc` reads, or of ones that are known to hold the same
-// words, one each and in their order; the hints do not fit where one of them is not read from `pc`
-// on, by what they say.
+/// The new numbers of slots that instruction `pc` reads, or of ones that are known to hold the same
+/// words, one each and in their order; the hints do not fit where one of them is not read from `pc`
+/// on, by what they say.
 pub(crate) fn names(
     alloc: Global,
     hints: &Hints,
@@ -196,7 +196,7 @@ pub(crate) fn names(
     Ok(new)
 }
 
-// The new number at which a run goes on by a switch's other way; None where it has no such way.
+/// The new number at which a run goes on by a switch's other way; None where it has no such way.
 pub(crate) fn other_landing(hints: &Hints, other: Option<usize>) -> Option<usize>
     ensures { result ≡ landing_in hints.now other }
 {
@@ -206,7 +206,7 @@ pub(crate) fn other_landing(hints: &Hints, other: Option<usize>) -> Option<usize
     }
 }
 
-// A switch's arms with their new targets.
+/// A switch's arms with their new targets.
 pub(crate) fn arms_of(
     alloc: Global,
     hints: &Hints,

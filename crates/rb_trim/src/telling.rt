@@ -85,8 +85,8 @@ fn told_made(facts: &[Fact], instr: &Instr) -> Option<Fact>
     })
 }
 
-// What an instruction makes of the slot that it writes, told by what is known; None where that
-// cannot be told, as of what stores, places, jumps, switches, calls or returns.
+/// What an instruction makes of the slot that it writes, told by what is known; None where that
+/// cannot be told, as of what stores, places, jumps, switches, calls or returns.
 pub(crate) fn told(facts: &[Fact], instr: &Instr) -> Option<Fact>
     ensures { IfSome result (λ fact. IsTold facts.now instr.now fact) }
 {
@@ -106,7 +106,7 @@ pub(crate) fn told(facts: &[Fact], instr: &Instr) -> Option<Fact>
     }
 }
 
-// Whether a content is told by a slot, that is, names it.
+/// Whether a content is told by a slot, that is, names it.
 pub(crate) fn is_told_by(content: &Content, slot: usize) -> bool
     ensures { IsTrue result ↔ IsToldBy content.now slot }
 {
@@ -143,7 +143,7 @@ fn writes_to(instr: &Instr, slot: usize) -> bool
     }
 }
 
-// Whether an instruction writes to a slot, and to no other.
+/// Whether an instruction writes to a slot, and to no other.
 pub(crate) fn sets(instr: &Instr, slot: usize) -> bool
     ensures { IsTrue result → Sets instr.now slot }
 {
@@ -227,7 +227,7 @@ fn is_made(facts: &[Fact], instr: &Instr, fact: &Fact) -> bool
     }
 }
 
-// Whether a fact that holds before an instruction holds behind it.
+/// Whether a fact that holds before an instruction holds behind it.
 pub(crate) fn stays(facts: &[Fact], instr: &Instr, fact: &Fact) -> bool
     ensures { IsTrue result → FollowsOne facts.now instr.now fact.now }
 {
@@ -240,7 +240,7 @@ pub(crate) fn stays(facts: &[Fact], instr: &Instr, fact: &Fact) -> bool
     keeps_content(instr, &fact.content)
 }
 
-// What the way of a number behind a switch on a slot tells: the slot holds the number.
+/// What the way of a number behind a switch on a slot tells: the slot holds the number.
 pub(crate) fn tells(slot: usize, number: u64) -> Option<Fact>
     ensures { result ≡ tells_of slot number }
 {
@@ -292,8 +292,8 @@ fn follows_at(facts: &[Fact], told: Option<Fact>, instr: &Instr, behind: &[Fact]
     }
 }
 
-// Whether the facts `behind` hold behind an instruction, by a way that tells `told`, where `facts`
-// hold before it.
+/// Whether the facts `behind` hold behind an instruction, by a way that tells `told`, where `facts`
+/// hold before it.
 pub(crate) fn follow(facts: &[Fact], told: Option<Fact>, instr: &Instr, behind: &[Fact]) -> bool
     ensures { IsTrue result → Follows facts.now told instr.now behind.now }
 {

@@ -28,7 +28,7 @@ use rb_lines::refusal::Refusal;
 use rb_run::answer::result_of_main;
 use std::alloc::Global;
 
-// Tells that the layouts of a program that agrees are the flat forms of its own.
+/// Tells that the layouts of a program that agrees are the flat forms of its own.
 pub(crate) fn layouts_are_flat(agreed: &Agreed)
     ensures { agreed.now.layouts ≡ flat_layouts agreed.now.covered.program }
 {
