@@ -12,7 +12,7 @@ use Rattle.rb_layout.specs.declared.layout.FlatTree.TheVariants as Flat
 use Rattle.rb_layout.specs.declared.layout.FlatTree.TheFolds.{fold_out-FlatArm}
 use Rattle.rb_layout.specs.declared.layout.FlatArm.{FlatArm}
 use Rattle.rb_layout.specs.Splits.{SplitAt, Test, Is, Route, Under, arm_routes, literals_of, routes_arm, routes_of, routes_step, routes_under, splits_arm, splits_of, splits_step, splits_under}
-use Rattle.rb_layout.specs.Flattening.{LeafNumbering, arm_numbering, flat_tree, numbering}
+use Rattle.rb_layout.specs.Flattening.{LeafNumbering, arm_numbering, flat_tree}
 use Rattle.rb_layout.specs.Flattening as F
 use Rattle.rb_layout.specs.A8.{SplitsWell}
 use Rattle.rb_layout.proofs.TreeLemmas.{arm_numbering-is}

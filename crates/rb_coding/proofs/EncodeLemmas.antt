@@ -45,7 +45,7 @@ use Rattle.rb_coding.specs.inner.Nodes.{subs_of, node_at}
 use Rattle.rb_coding.proofs.GrowLemmas.{progress_none, progress_trans, progress_fits, stop_after, stop_wider, stopped_over}
 use Rattle.rb_coding.proofs.OnlyLemmas.{good_only, progress_only, filled_only}
 use Rattle.rb_coding.proofs.LeafShowing.{Chosen, chosen, chosen_in, placeable, open_below, leaf_shown}
-use Rattle.rb_coding.proofs.PostLemmas.{TN, value_of, type_of, pairs, tposts, tposts-Num, tposts-Con, Typed, AllTyped, typed_all, Shape, construction, shape_of, At, at_get, each_at, Sized, path_below, nodes_are, count_typed, some_typed, length-mapped, layered, get_mid}
+use Rattle.rb_coding.proofs.PostLemmas.{TN, value_of, type_of, pairs, tposts, tposts-Num, tposts-Con, Typed, typed_all, Shape, construction, shape_of, At, at_get, each_at, Sized, path_below, nodes_are, count_typed, some_typed, length-mapped, layered, get_mid}
 use Rattle.rb_coding.proofs.PostLemmas as P
 use Rattle.rb_coding.proofs.WaitLemmas.{at_mapped, sized_take, take_end}
 

@@ -9,7 +9,6 @@ use Rattle.rb_core.specs.declared.value.Value.{Value, Num, Con, out-Value}
 use Rattle.rb_core.specs.declared.value.Value as X
 use Rattle.rb_core.specs.declared.value.Value.TheVariants.{outs-Num, outs-Con}
 use Rattle.rb_core.specs.declared.value.Value.TheOpen as V
-use Rattle.rb_core.specs.declared.value.Value.TheOpen.{Value-F}
 use Rattle.rb_core.specs.declared.value.Value.TheFolds.{para-roll-Value}
 use Rattle.rb_core.specs.declared.types.Ty.{Ty}
 use Rattle.rb_core.specs.declared.types.Ty.TheVariants.{Int, Named}

@@ -27,7 +27,6 @@ use Rattle.rb_fragment.specs.Holding.{AreGiven, Holds, scope_of}
 use Rattle.rb_fragment.specs.Owing.{Does, GivesValue, CallsAgree}
 use Rattle.rb_fragment.specs.Plan.{Plan, Rep, Reps, types_of, words_needed_by, words_needed}
 use Rattle.rb_fragment.specs.Slots.{slots_from}
-use Rattle.rb_target.specs.Meaning.{body_of}
 
 -- Parameters
 

@@ -1,5 +1,5 @@
 -- What is given of the end of a walk: its words, or why it cannot be rebuilt.
-use Rattle.std.proofs.Common.{◌≡◌, ℕ, ◌≤◌, inl, inr, List, [], ◌∷◌, length, Result, Ok, Err, refl, sym, ap, ◌∙◌}
+use Rattle.std.proofs.Common.{◌≡◌, ℕ, ◌≤◌, inl, inr, List, length, Result, Ok, Err, refl, sym, ap, ◌∙◌}
 use Rattle.std.specs.Prelude.{◌⊎◌}
 use Rattle.rb_core.specs.declared.types.DataDecl.{DataDecl}
 use Rattle.rb_core.specs.declared.types.Ty.TheVariants.{Named}
@@ -12,7 +12,6 @@ use Rattle.rb_image.specs.declared.peek.Peeked.{Peeked}
 use Rattle.rb_image.specs.Given.{IsGiven}
 use Rattle.rb_image.specs.Paths.{IsCome, IsFaultless}
 use Rattle.rb_image.specs.Peeking.{IsFaultOf, IsPartAt, end_words}
-use Rattle.rb_image.specs.Rebuilds.{rebuilt}
 use Rattle.rb_image.specs.Walks.{Where}
 use Rattle.rb_image.proofs.PeekFaults.{end_told}
 use Rattle.rb_image.proofs.WellLeaves.{AreWell}

@@ -13,7 +13,7 @@ use Rattle.rb_layout.specs.Each.{EachLayout, EachLeaf}
 use Rattle.rb_layout.specs.A1.{HasShape}
 use Rattle.rb_layout.specs.A3.{ItemFits}
 use Rattle.rb_layout.specs.Agreement.{Obeys}
-use Rattle.rb_layout.specs.Spots.{Spot, Root, Parts, Complete, Apart, Held, Tests, Splits, Flattening, NoPointer, Holding, SpotHolds, Checked, HoldAtAll, PlacesAreAll, by_leaves, by_types, shape_spots, part_spots, leaf_spots, a3_spots, a5_spots, a9_spots}
+use Rattle.rb_layout.specs.Spots.{Spot, Root, Apart, Held, Tests, Splits, NoPointer, Holding, SpotHolds, Checked, HoldAtAll, PlacesAreAll, by_leaves, by_types, shape_spots, part_spots, leaf_spots, a3_spots, a5_spots, a9_spots}
 use Rattle.rb_layout.specs.Spots as spot
 
 from_none : (k : ℕ) → 0 + k ≡ k

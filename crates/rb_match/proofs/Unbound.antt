@@ -5,7 +5,7 @@ use Rattle.rb_core.specs.declared.value.Value.TheOpen as V
 use Rattle.rb_core.specs.declared.value.Value.TheOpen.{Value-F}
 use Rattle.rb_core.specs.declared.types.Ty.{Ty}
 use Rattle.rb_core.specs.declared.types.DataDecl.{DataDecl}
-use Rattle.rb_core.specs.declared.pattern.Pat.{Pat, Con}
+use Rattle.rb_core.specs.declared.pattern.Pat.{Pat}
 use Rattle.rb_core.specs.Inference.{all_binders, binders}
 use Rattle.rb_core.specs.Matching.{all_bound, bindings, bound_within}
 use Rattle.rb_core.specs.Typing.{field_types}

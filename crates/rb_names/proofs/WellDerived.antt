@@ -18,7 +18,7 @@ use Rattle.rb_core.specs.declared.layout_decl.PartKind.{PartKind}
 use Rattle.rb_core.specs.declared.layout_decl.PartKind.TheVariants as K
 use Rattle.rb_core.specs.declared.layout_decl.LayTree.TheVariants as S
 use Rattle.rb_core.specs.Layouts as lay
-use Rattle.rb_core.specs.Layouts.{WrittenLeaf, leaves, provenances, is_short, counts_in, written_path, leaf_is_short, is_short_layout}
+use Rattle.rb_core.specs.Layouts.{WrittenLeaf, leaves, provenances, is_short, counts_in, leaf_is_short}
 use Rattle.rb_core.specs.Values.{fields_in, fields_of_con}
 use Rattle.rb_core.specs.WellNumbered.{IsWellNumbered, below_step, is_constructor, layout_is_numbered, may_be_below, numbered_pattern_step, Below, provenance_is_numbered}
 use Rattle.rb_core.proofs.PatternLaws.{fold-Wild}

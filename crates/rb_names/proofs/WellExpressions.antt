@@ -15,11 +15,11 @@ use Rattle.rb_core.specs.declared.expression.Clause.{Clause}
 use Rattle.rb_core.specs.declared.expression.Expr.{Expr}
 use Rattle.rb_core.specs.declared.expression.Expr as C
 use Rattle.rb_core.specs.declared.expression.Expr.TheOpen as E
-use Rattle.rb_core.specs.declared.expression.Expr.TheOpen.{Expr-F, Clause-F}
+use Rattle.rb_core.specs.declared.expression.Expr.TheOpen.{Expr-F}
 use Rattle.rb_core.specs.declared.expression.Expr.TheFolds.{fold-Clause, fold-roll-Expr, fold_out-Clause}
 use Rattle.rb_core.specs.Layouts.{is_short}
 use Rattle.rb_core.specs.WellNumbered as well
-use Rattle.rb_core.specs.WellNumbered.{Within, is_between, is_constructor, is_type, all_within, all_tokens, expression_step, expression_is_numbered, tokens_step, body_tokens, match_tokens, pattern_is_numbered, vars_of}
+use Rattle.rb_core.specs.WellNumbered.{Within, is_constructor, all_within, all_tokens, expression_step, expression_is_numbered, tokens_step, body_tokens, match_tokens, pattern_is_numbered, vars_of}
 use Rattle.rb_syntax.specs.declared.token.Token.{Token}
 use Rattle.rb_syntax.specs.declared.token.Token.TheVariants as tok
 use Rattle.rb_syntax.specs.declared.token.Word.TheVariants as word

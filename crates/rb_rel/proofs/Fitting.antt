@@ -18,7 +18,7 @@ use Rattle.rb_layout.specs.declared.layout.Part.{Part}
 use Rattle.rb_layout.specs.declared.layout.Kind.{Kind}
 use Rattle.rb_layout.specs.declared.layout.Kind.TheVariants.{Const, Bits, Word, Pointer}
 use Rattle.rb_layout.specs.Positions.{Open}
-use Rattle.rb_layout.specs.Items.{Content, Number, Whole, Slice, WordOf, Address, WrittenPart, Item, AWord, AField, Around, items_inside, item_list}
+use Rattle.rb_layout.specs.Items.{Content, Number, Whole, Slice, WordOf, Address, WrittenPart, Item, AWord, Around, items_inside, item_list}
 use Rattle.rb_layout.specs.Items as J
 use Rattle.rb_layout.specs.A3.{Fits, FitsWhole, FitsSlice, FitsWord, IsContentPlaced, PartsFit, ItemFits}
 use Rattle.rb_layout.specs.Flattening.{type_at, IsOpenIn, WithBlocks, Laying, without_blocks, in_turn, whole_kind, kind_if_open, kind_step, part_step, full_word, inline_words, inlined, shape_of, item_step, item_laid, kind_laid, part_laid, parts_of, items_laid}

@@ -8,7 +8,7 @@
 -- Throughout, `ws` are the words of a value, which are the root words of its leaf, and m is the memory. `subs` gives,
 -- by the path of an open position, the words of the subvalue there; `ats` gives a block's address, by its number;
 -- `clean` asks that free bits are 0.
-use Rattle.std.specs.Prelude.{◌≡◌, ℕ, ◌+◌, ◌*◌, ◌^◌, ◌<◌, List, [], ◌∷◌, ◌++◌, length, Bool, true, Option, Some, None, Ok, slice_get, slice_index}
+use Rattle.std.specs.Prelude.{◌≡◌, ℕ, ◌*◌, ◌^◌, ◌<◌, List, [], ◌∷◌, ◌++◌, length, Bool, true, Option, Some, None, Ok, slice_get, slice_index}
 use Rattle.std.specs.Int.{bit_at}
 use Rattle.rb_core.specs.declared.value.Value.{Value, Num}
 use Rattle.rb_core.specs.declared.types.Ty.{Ty}

@@ -1,14 +1,13 @@
 -- Small programs made of the code that finds a leaf, reads a location, and reads fields, each with the run of it over a
 -- worked image: the words that it returns, its switches, and the instructions that it begins. Slot 0 holds the value's
 -- word.
-use Rattle.std.proofs.Common.{◌≡◌, ℕ, List, [], ◌∷◌, ◌++◌, Option, Some, None, refl}
+use Rattle.std.proofs.Common.{◌≡◌, ℕ, List, [], ◌∷◌, ◌++◌, Some, None, refl}
 use Rattle.rb_bytes.specs.Memory.{Memory, load_of}
 use Rattle.rb_target.specs.declared.outcome.End.TheVariants.{Returned}
 use Rattle.rb_target.specs.declared.instr.AluOp.TheVariants.{Mul}
 use Rattle.rb_target.specs.declared.instr.Instr.{Instr}
 use Rattle.rb_target.specs.declared.instr.Instr.TheVariants.{Const, Alu, Take, Load, Jump, Switch, Return}
 use Rattle.rb_target.specs.declared.instr.SwitchArm.{SwitchArm}
-use Rattle.rb_target.specs.declared.code.CodeFun.{CodeFun}
 use Rattle.rb_target.specs.Meaning.{CallEnd, over, from, enter, run_of}
 use Rattle.rb_rel.proofs.Examples.{low, byte4, byte8, list_image, tree_image}
 

@@ -19,7 +19,7 @@ use Rattle.rb_syntax.specs.Bytes.{is_blank, numeral_len}
 use Rattle.rb_syntax.specs.Words.{symbol_at}
 use Rattle.rb_syntax.specs.Pieces.{name_token, number_or_fault, number_piece, underscore_piece, run_piece, symbol_piece, first_piece, piece_at}
 use Rattle.rb_syntax.specs.Lexing.{Lexed, before, with_piece, lexed_from, lexed}
-use Rattle.rb_syntax.specs.Cutting.{IsGap, blank, IsLongest, IsNumeral, IsWritten, IsTokenRun, IsBadBehind, IsWideNumber, Cut, LexesTo, no_piece, wrong_run}
+use Rattle.rb_syntax.specs.Cutting.{IsGap, IsLongest, IsNumeral, IsWritten, IsTokenRun, IsBadBehind, IsWideNumber, Cut, LexesTo, no_piece, wrong_run}
 use Rattle.rb_syntax.specs.Cutting as cut
 use Rattle.rb_syntax.proofs.PieceLemmas.{run-cons, comment-within, numeral_len-le}
 use Rattle.rb_syntax.proofs.SymbolLemmas.{symbol-length}

@@ -1,7 +1,6 @@
 -- Spelling of layouts' items and provenances, form by form.
 use Rattle.std.proofs.Common.{◌≡◌, ℕ, List, map, ap}
 use Rattle.rb_core.specs.declared.layout_decl.PartDecl.{PartDecl}
-use Rattle.rb_core.specs.declared.layout_decl.PartKind.{PartKind}
 use Rattle.rb_core.specs.declared.layout_decl.PartKind as K
 use Rattle.rb_core.specs.declared.layout_decl.LayItem.{LayItem}
 use Rattle.rb_core.specs.declared.layout_decl.LayItem as I

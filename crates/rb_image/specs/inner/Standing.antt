@@ -1,9 +1,8 @@
 -- Positions in leaves as the code carries them: a view borrows the words of the leaf; an arrival is a position to
 -- which one came, and its source has the words of the leaf, lent or its own. A position is what a leaf's provenance,
 -- its pattern, has at a path, a list of field numbers from its root.
-use Rattle.std.specs.Prelude.{ℕ, List, ◌++◌, map, Option, Some, None, Result, Ok}
+use Rattle.std.specs.Prelude.{List, ◌++◌, Option, Some, None, Result, Ok}
 use Rattle.rb_layout.specs.declared.layout.Leaf.{Leaf}
-use Rattle.rb_layout.specs.Positions.{Open}
 use Rattle.rb_layout.specs.Readable.{IsReadable}
 use Rattle.rb_image_text.specs.declared.fault.ImageFault.{ImageFault}
 use Rattle.rb_image_text.specs.declared.image.ImageBlock.{ImageBlock}

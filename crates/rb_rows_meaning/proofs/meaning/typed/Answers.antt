@@ -1,9 +1,7 @@
-use Rattle.std.proofs.Common.{subst, arith, List, Ok}
-use Rattle.rb_read.specs.Files.{IsFileAnswer}
+use Rattle.std.proofs.Common.{subst, arith}
 use Rattle.rb_syntax.specs.Cutting.{LexesTo}
 use Rattle.rb_syntax.specs.Lexing.{Lexed}
 use Rattle.rb_syntax.specs.Tokens.{tokens}
-use Rattle.rb_syntax.specs.declared.token.Placed.{Placed}
 use Rattle.rb_accept.proofs.Numbered.{is_written}
 use Rattle.rb_rows_meaning.proofs.meaning.typed.Goals as goal
 
