@@ -370,8 +370,8 @@ def coloured(n):
 
 
 def functions(n):
-    """n functions, each of which calls the next."""
-    return MAIN + "".join(f"fun f{i}():u8=f{(i + 1) % n}();\n" for i in range(n))
+    """n functions: `main`, and others of which each calls the next."""
+    return MAIN + "".join(f"fun f{i}():u8=f{(i + 1) % (n - 1)}();\n" for i in range(n - 1))
 
 
 def fields(n):
@@ -551,11 +551,11 @@ AGREEING = [
 ]
 REFUSED = [(closed, 300), (twice, 64), (ring, 900)]
 MATCHES = [
-    (literals, 16), (short_clauses, 28), (wrapped, 20), (crossed, 18), (wilds, 52), (columns, 32), (heads, 40), (unfolded, 4),
+    (literals, 16), (short_clauses, 28), (wrapped, 20), (crossed, 18), (wilds, 52), (columns, 32), (heads, 43), (unfolded, 4),
     (crowded, 15), (all_numbers, 16), (pattern, 32), (carried, 96), (binders, 28), (used, 26), (unknown, 36), (short_names, 65),
 ]
 COMPILED = [(coloured, 8)]
-PLAIN = [(functions, 9998), (levels, 280), (text, 2000)]
+PLAIN = [(functions, 10000), (levels, 280), (text, 2000)]
 RUNS = [
     (lists, 24), (lists_in, 24), (trees, 14), (trees_in, 16), (printed, 500), (halved, 19), (grown, 20), (summed, 100), (inserted, 10),
     (decoded, 1000),

@@ -1,6 +1,7 @@
 -- What is known of a file that was read, as the resolver of names asks for it.
 use Rattle.std.proofs.Common.{◌≤◌, List, ℕ, length, arith}
 use Rattle.std.proofs.lemmas.List.{length-map}
+use Rattle.rb_core.specs.Limits.{most_file_bytes}
 use Rattle.rb_names.specs.Written.{IsReadFile}
 use Rattle.rb_syntax.specs.Tokens.{tokens}
 use Rattle.rb_syntax.specs.declared.token.Placed.{Placed}
@@ -10,7 +11,7 @@ use Rattle.rb_accept.proofs.Counted.{are_counted}
 use Rattle.rb_accept.proofs.Named.{cut-named}
 use Rattle.rb_accept.proofs.OneCut.{few_tokens}
 
-pub is_written : (bytes : List ℕ) (placed : List Placed) (file : FileTree) → length bytes ≤ 262144 → FileIsRead bytes placed file → IsReadFile (tokens placed) file
+pub is_written : (bytes : List ℕ) (placed : List Placed) (file : FileTree) → length bytes ≤ most_file_bytes → FileIsRead bytes placed file → IsReadFile (tokens placed) file
 is_written bytes placed file few read = record {
   tree = read.tree.0.tree;
   short = (let short = few_tokens bytes placed read.cut in let many = length-map placed (λ (p : Placed). p.token) in omega (arith, few, short, many));

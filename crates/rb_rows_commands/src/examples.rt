@@ -1,5 +1,6 @@
-//! The examples, each with its words, its file and what it is to answer. Written by examples/make from the
-//! folder examples/.
+//! The examples, each with its words, its file and what it is to answer: words of real formats, as those of RISC-V and
+//! IPv4, and values that follow from an example's own numbers, as examples/README.md says. Written by examples/make
+//! from the folder examples/.
 
 use rb_rows_calls::rows::{ImageRow, expect_held};
 use rb_rows_calls::surprise::Surprise;

@@ -3,6 +3,7 @@
 ghost use Rattle.rb_image_text.specs.Places.{AreInPlace};
 
 use rb_accept::accepting::accept;
+use rb_core::limits::MOST_FILE_BYTES;
 use rb_core::types::Ty;
 use rb_image::examine::examine_image;
 use rb_image::kept::{Kept, Place};
@@ -16,9 +17,6 @@ use rb_values::print::print_value;
 use std::alloc::{AllocError, Global};
 use std::str;
 use std::test::Fail;
-
-// The most bytes of a file.
-const MOST: usize = 262_144;
 
 /// A place to look at: the text of an image, the number of a type, the base and the place at which the first root word
 /// is said to be kept, and the text that is to come.
@@ -133,7 +131,7 @@ pub type ValueRow<'a> = (&'a str, u32, &'a str);
 ///
 /// A file that is too long or is refused, also for want of memory.
 pub fn agreed_of(alloc: Global, file: &str) -> Result<Agreed, Fail> {
-    if file.len() > MOST {
+    if file.len() > MOST_FILE_BYTES {
         return Err(Fail::from("a long file"));
     }
     match accept(alloc, file.as_bytes()) {

@@ -5,6 +5,7 @@ use rb_check::check;
 use rb_core::eval::eval;
 use rb_core::expression::Expr;
 use rb_core::inference::infer;
+use rb_core::limits::MOST_FILE_BYTES;
 use rb_core::matching::matches;
 use rb_core::outcome::{Event, Outcome, SourceEnd};
 use rb_core::pattern::Pat;
@@ -19,7 +20,7 @@ use std::alloc::{AllocError, Global};
 use std::test::Fail;
 
 // The most bytes of a file, of which there are more than tokens.
-const MOST: usize = 262_144;
+const MOST: usize = MOST_FILE_BYTES;
 
 // The typed program of a text.
 fn typed(alloc: Global, text: &[u8]) -> Result<Typed, Fail> {

@@ -1,5 +1,6 @@
 use Rattle.std.proofs.Common.{◌≤◌, ℕ, List, [], length, sym, subst, ◌∙◌}
 use Rattle.rb_command.specs.View.{limits_view}
+use Rattle.rb_core.specs.Limits.{most_file_bytes}
 use Rattle.rb_lines.proofs.Meeting.{met}
 use Rattle.ribbit_tool.specs.Count.{CountsFile}
 use Rattle.ribbit_tool.specs.Generate.{CountsGenerated}
@@ -9,7 +10,7 @@ use Rattle.ribbit_tool.proofs.generate.count_generated.Goals as goal
 pub count_bytes-requires : goal.count_bytes-requires
 count_bytes-requires g c =
     let n = c.args.functions in
-    subst (λ (bytes : List ℕ). length bytes ≤ 262144) (sym (c.as_slice.ensures.value ∙ c.in_ok-file.ensures)) (generated_short n.count n.some n.few)
+    subst (λ (bytes : List ℕ). length bytes ≤ most_file_bytes) (sym (c.as_slice.ensures.value ∙ c.in_ok-file.ensures)) (generated_short n.count n.some n.few)
 
 pub returns : goal.returns
 returns g c =
