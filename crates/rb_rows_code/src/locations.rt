@@ -1,7 +1,7 @@
-//! Code that reads the bits at locations: the slot that has them, and how many instructions stand in the body then. Both
-//! were counted by hand. Bits of a slot are taken; an address whose bits begin at the bit of its alignment is masked, by
-//! a number and an `and`, and one that is all of its word is multiplied, by a number and a `mul`; a word of a block is
-//! loaded, and nothing is taken of it where the location has all its bits.
+//! Code that reads the bits at locations: the slot that has them, and how many instructions stand in the body then.
+//! Both were counted by hand. Bits of a slot are taken; an address whose bits begin at the bit of its alignment is
+//! masked, by a number and an `and`, and one that is all of its word is multiplied, by a number and a `mul`; a word of
+//! a block is loaded, and nothing is taken of it where the location has all its bits.
 
 use rb_core::layout_decl::{Loc, Step};
 use rb_core::seq::Seq;
