@@ -14,7 +14,7 @@ use Rattle.rb_layout.specs.declared.layout.FlatWord.{FlatWord}
 use Rattle.rb_layout.specs.declared.layout.Part.{Part}
 use Rattle.rb_layout.specs.declared.layout.WordRef.{WordRef}
 use Rattle.rb_layout.specs.A8.{last_length, length_of}
-use Rattle.rb_layout.specs.Locations.{Reached, pointer_block, constant_bit, constant_bits, known, known_in, next_ref, range_in, reached_at, resolve_from, with_bit}
+use Rattle.rb_layout.specs.Locations.{Reached, pointer_block, constant_bit, constant_bits, number_known, known_in, next_ref, range_in, reached_at, resolve_from, with_bit}
 use Rattle.rb_layout.specs.Words.{flat_at}
 use Rattle.rb_layout.specs.Excluded.{differs, Excludes}
 use Rattle.rb_agree.specs.inner.Tests.{IsAnother}
@@ -77,7 +77,7 @@ reach-length leaf (Some r) o l [] x e = range-length (flat_at leaf r) r o l x e
 reach-length leaf (Some r) o l (s ∷ steps) x e = reach-length leaf (next_ref leaf (pointer_block (flat_at leaf r) o l s.align) s) s.o s.l steps x e
 
 module _ (types : List DataDecl) (layouts : List Layout) (leaf : Leaf) (loc : Loc) where
-  apart : (v c : ℕ) → known leaf loc ≡ Some v → (v ≡ c → ⊥) → c < 2 ^ length_of loc → Excludes types layouts leaf loc c
+  apart : (v c : ℕ) → number_known leaf loc ≡ Some v → (v ≡ c → ⊥) → c < 2 ^ length_of loc → Excludes types layouts leaf loc c
   apart v c is other fits = at (reached_at leaf loc) refl is where
     at : (x : Option Reached) → reached_at leaf loc ≡ x → known_in x ≡ Some v → Excludes types layouts leaf loc c
     at None e k = absurd cc
@@ -89,6 +89,6 @@ module _ (types : List DataDecl) (layouts : List Layout) (leaf : Leaf) (loc : Lo
           bars = differs leaf x.word x.o x.l c (record { i = h.0; bit = h.1; inside = h.2; constant = h.3; other = h.4 });
         }
 
-  pub another-excluded : (number : Option ℕ) (c : ℕ) → number ≡ known leaf loc → IsAnother number (length_of loc) c → Excludes types layouts leaf loc c
+  pub another-excluded : (number : Option ℕ) (c : ℕ) → number ≡ number_known leaf loc → IsAnother number (length_of loc) c → Excludes types layouts leaf loc c
   another-excluded None c is h = absurd h
   another-excluded (Some v) c is h = apart v c (sym is) h.0 h.1

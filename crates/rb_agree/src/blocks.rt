@@ -21,7 +21,7 @@
 ghost use Rattle.std.specs.Prelude.{◌≡◌, ◌↔◌, ◌^◌, ◌≤◌, length, IfSome, IsTrue, MatchOption};
 ghost use Rattle.rb_layout.specs.A4.{FailsBlocks, HasBlocks, IsAlignment, IsBlockLength, IsBlockWidth, IsWide};
 ghost use Rattle.rb_agree.specs.inner.Lists.{EachOf, SomeOf};
-ghost use Rattle.rb_agree.specs.inner.Blocks.{FailsBlock, FailsInBlocks, FailsKind, FailsLength, FailsNear, FailsNearPart, FailsPointer, FailsWidth, HasWidth, IsBlock, IsKind, ArePartsFine, ArePointersFine, FailsParts, FailsPointers, pointed_block};
+ghost use Rattle.rb_agree.specs.inner.Blocks.{FailsBlock, FailsInBlocks, FailsKind, FailsLength, FailsNear, FailsNearPart, FailsPointer, FailsWidth, HasWidth, IsBlock, IsKind, ArePartsFine, ArePointersFine, FailsPointerParts, FailsPointers, pointed_block};
 
 use rb_layout::evidence::Why;
 use rb_layout::layout::{Block, FlatWord, Kind, Leaf, Part};
@@ -80,7 +80,7 @@ fn part_fault(part: &Part) -> Option<Why>
 
 // How a pointer among the parts of a word fails.
 fn parts_fault(parts: &[Part]) -> Option<Why>
-    ensures { MatchOption result (ArePartsFine parts.now) (FailsParts parts.now) }
+    ensures { MatchOption result (ArePartsFine parts.now) (FailsPointerParts parts.now) }
 {
     for part in parts {
         if let Some(why) = part_fault(part) {

@@ -8,7 +8,7 @@
 ghost use Rattle.std.specs.Prelude.{◌≡◌, ◌↔◌, IfOk, IsTrue, MatchOption};
 ghost use Rattle.rb_layout.specs.A7.{FailsTest, FailsTests, MeetsTest, MeetsAll};
 ghost use Rattle.rb_layout.specs.Excluded.{Excludes};
-ghost use Rattle.rb_layout.specs.Locations.{known};
+ghost use Rattle.rb_layout.specs.Locations.{number_known};
 ghost use Rattle.rb_layout.specs.Readable.{IsReadable};
 ghost use Rattle.rb_layout.specs.Splits.{Is, IsNone, routes_of};
 ghost use Rattle.rb_agree.specs.inner.Splits.{literals_in};
@@ -89,7 +89,7 @@ fn is_excluded(
     literal: u64,
 ) -> Result<bool, AllocError>
     requires readable { IsReadable leaf.now }
-    requires number { number ≡ known leaf.now loc.now }
+    requires number { number ≡ number_known leaf.now loc.now }
     ensures { IfOk result (λ b. IsTrue b ↔ Excludes types.now layouts.now leaf.now loc.now literal) }
 {
     if is_another(number, length_of(loc), literal) {

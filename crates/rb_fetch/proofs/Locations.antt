@@ -28,7 +28,7 @@ use Rattle.rb_fetch.specs.Fetching.{StepsFit, LocFits, IsReadAt, FetchesLoc}
 use Rattle.rb_fetch.specs.inner.Fetching.{AreSmall, FetchesAt}
 use Rattle.rb_fetch.specs.declared.span.Span.{Span}
 use Rattle.rb_compose.specs.Counts.{capped}
-use Rattle.rb_fetch.specs.inner.Reads.{IsSmall, Spans, IsSameRange, ReadsRange, is_all, reach, step_span, span_on, read_or, SpansLoc}
+use Rattle.rb_fetch.specs.inner.Reads.{FitsWidth, Spans, IsSameRange, ReadsRange, is_all, reach, step_span, span_on, read_or, SpansLoc}
 
 -- Fitting
 
@@ -70,13 +70,13 @@ reach_range width o l range = go (is_all width o l) refl
     go false is = range
 
 -- the bits over which a range reaches are those of the range
-reach_bits : (width : Option ℕ) (o l w : ℕ) → IsRange o l → IsSmall width w → take_of w o (reach width o l) ≡ take_of w o l
+reach_bits : (width : Option ℕ) (o l w : ℕ) → IsRange o l → FitsWidth width w → take_of w o (reach width o l) ≡ take_of w o l
 reach_bits width o l w range small = go (is_all width o l) refl
   where
     go : (b : Bool) → is_all width o l ≡ b → take_of w o (if b then 64 else l) ≡ take_of w o l
     go true is =
         let all = all_is width o l is in
-        let lt : w < 2 ^ l = subst (λ v. IsSmall v w) all.1 small in
+        let lt : w < 2 ^ l = subst (λ v. FitsWidth v w) all.1 small in
         let le : l ≤ 64 = omega (arith, range.1) in
         let more : 2 ^ l ≤ 2 ^ 64 = pow_mono le in
         ap (λ i. take_of w i 64) all.0 ∙ take_whole w 64 (omega (arith, lt, more)) ∙ sym (take_whole w l lt) ∙ ap (λ i. take_of w i l) (sym all.0)
@@ -194,7 +194,7 @@ module _ (s : List ℕ) (m : Memory) (good : IsGood m) (x : ℕ) where
 
   -- what is read at a location is the range of the read there
   pub loc_means : (words : List Read) (ws : List ℕ) (width : Option ℕ) (loc : Loc) (span : Span) → SpansLoc words width loc span → LocFits loc → AreMeant words s m ws
-      → ((w : ℕ) → slice_get ws loc.word ≡ Some w → IsSmall width w) → read_loc ws m loc ≡ Some x → Spans span s m x
+      → ((w : ℕ) → slice_get ws loc.word ≡ Some w → FitsWidth width w) → read_loc ws m loc ≡ Some x → Spans span s m x
   loc_means words ws width loc span begin h meant small e = at_word (slice_get ws loc.word) refl e
     where
       at_read : (o : Option Read) (w : ℕ) (r : Read) → o ≡ Some r → mean r s m ≡ Some w → mean (read_or o) s m ≡ Some w
@@ -232,7 +232,7 @@ pub all_read : (p : Span) → is_all p.width p.o p.l ≡ true → ReadsRange p p
 all_read p is = let all = all_is p.width p.o p.l is in record {
   fit = λ k f range. f;
   means = λ s m x range h.
-      let small : h.word < 2 ^ p.l = subst (λ o. IsSmall o h.word) all.1 h.small in
+      let small : h.word < 2 ^ p.l = subst (λ o. FitsWidth o h.word) all.1 h.small in
       let same : x ≡ h.word = h.are_bits ∙ ap (λ o. take_of h.word o p.l) all.0 ∙ take_whole h.word p.l small in
       h.is_word ∙ ap Some (sym same);
   origin = λ x e. (p.l, all.1, e);
@@ -263,7 +263,7 @@ narrower p r from count is inside short = record {
 
 -- Fetching
 
-small_at : (widths ws : List ℕ) (j : ℕ) → AreSmall widths ws → (o : Option ℕ) → slice_get widths j ≡ o → (w : ℕ) → slice_get ws j ≡ Some w → IsSmall o w
+small_at : (widths ws : List ℕ) (j : ℕ) → AreSmall widths ws → (o : Option ℕ) → slice_get widths j ≡ o → (w : ℕ) → slice_get ws j ≡ Some w → FitsWidth o w
 small_at widths ws j small None is w e = tt
 small_at widths ws j small (Some width) is w e = small j width w is e
 

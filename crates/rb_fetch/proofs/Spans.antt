@@ -31,7 +31,7 @@ use Rattle.rb_fragment.specs.WordReads.{IsSlotOf}
 use Rattle.rb_fragment.proofs.MakingAll.{slot-of}
 use Rattle.rb_fetch.specs.declared.span.Span.{Span}
 use Rattle.rb_fetch.specs.declared.place.Wanted.TheVariants.{UnitOf}
-use Rattle.rb_fetch.specs.inner.Reads.{IsSmall, ReadsRange, SpansLoc, step_span, span_on, read_or}
+use Rattle.rb_fetch.specs.inner.Reads.{FitsWidth, ReadsRange, SpansLoc, step_span, span_on, read_or}
 use Rattle.rb_fetch.specs.inner.Placing.{IsAgreedLeaf, is_wanted, NoSpot, width_of}
 use Rattle.rb_fetch.specs.inner.Fields.{SpansPart, ReadsPart, ReadsAs}
 use Rattle.rb_fetch.proofs.Fitting.{readable_leaf, resolved_fits}
@@ -58,7 +58,7 @@ span_slot (t ∷ steps) p width x some is =
 
 -- a root word is of its width
 root_small : (leaf : Leaf) (ws : List ℕ) (m : Memory) (clean : Bool) (subs : List ℕ → List ℕ) (ats : ℕ → ℕ) → LeafStands leaf ws m clean subs ats
-    → (j : ℕ) (o : Option FlatWord) → slice_get leaf.root j ≡ o → (w : ℕ) → slice_get ws j ≡ Some w → IsSmall (width_of o) w
+    → (j : ℕ) (o : Option FlatWord) → slice_get leaf.root j ≡ o → (w : ℕ) → slice_get ws j ≡ Some w → FitsWidth (width_of o) w
 root_small leaf ws m clean subs ats placed j None is w e = tt
 root_small leaf ws m clean subs ats placed j (Some f) is w e =
     let x = placed.words (record { block = None; word = j }) f is in

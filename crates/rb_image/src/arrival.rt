@@ -11,7 +11,7 @@ ghost use Rattle.std.specs.Prelude.{◌≡◌, IfOk, List};
 ghost use Rattle.rb_layout.specs.Readable.{IsReadable};
 ghost use Rattle.rb_image.specs.Given.{IsGiven};
 ghost use Rattle.rb_image.specs.Views as spec;
-ghost use Rattle.rb_image.specs.inner.Standing.{IsArrival, IsShown, come_to, shown, source_words};
+ghost use Rattle.rb_image.specs.inner.Standing.{IsArrival, IsShown, come_to, position_shown, source_words};
 ghost use Rattle.rb_image_text.specs.Places.{AreInPlace};
 ghost use Rattle.rb_image_text.specs.declared.image.ImageBlock.{ImageBlock};
 
@@ -61,7 +61,7 @@ impl<'a> Arrival<'a> {
 
     /// The position to which one came, as a view of it.
     pub(crate) fn view(&self) -> View
-        ensures same { shown result ≡ come_to self.now }
+        ensures same { position_shown result ≡ come_to self.now }
         ensures shown { (m : List ImageBlock) → IsArrival m self.now → IsShown m result }
     {
         View {
@@ -195,7 +195,7 @@ pub(crate) fn along<'a>(
     requires placed { AreInPlace image.now.blocks }
     requires shown { IsShown image.now.blocks from.now }
     ensures come { IsGiven come_to (spec.along agreed.now.covered.program.types agreed.now.layouts image.now.blocks
-        (shown from.now) path.now) result }
+        (position_shown from.now) path.now) result }
     ensures read { IfOk result (IsArrival image.now.blocks) }
 {
     let mut here = Arrival {

@@ -11,7 +11,7 @@ ghost use Rattle.std.specs.Prelude.{◌≡◌, ◌↔◌, IsTrue, map};
 ghost use Rattle.rb_core.specs.declared.pattern.Pat.{out-Pat};
 ghost use Rattle.rb_image.specs.Given.{IsGiven};
 ghost use Rattle.rb_image.specs.Rebuilds as spec;
-ghost use Rattle.rb_image.specs.inner.Standing.{IsShown, first_fault, shown};
+ghost use Rattle.rb_image.specs.inner.Standing.{IsShown, first_fault, position_shown};
 ghost use Rattle.rb_image_text.specs.Places.{AreInPlace};
 ghost use Rattle.rb_image_text.specs.declared.fault.ImageFault.TheVariants.{Memory};
 
@@ -49,7 +49,7 @@ fn matches(
     requires placed { AreInPlace image.now.blocks }
     requires shown { IsShown image.now.blocks view.now }
     ensures { IsGiven (λ so. so) (spec.matches agreed.now.covered.program.types agreed.now.layouts image.now.blocks
-        prov.now (shown view.now)) result }
+        prov.now (position_shown view.now)) result }
 {
     match prov {
         Pat::Wild(_) => Ok(true),
@@ -80,7 +80,7 @@ fn match_con(
     requires shown { IsShown image.now.blocks view.now }
     ensures { IsGiven (λ so. so) (spec.match_con agreed.now.covered.program.types con
         (map (spec.matches agreed.now.covered.program.types agreed.now.layouts image.now.blocks) pats.now)
-        (shown view.now) (out-Pat view.now.here.pat.now)) result }
+        (position_shown view.now) (out-Pat view.now.here.pat.now)) result }
 {
     match view.here.pat {
         Pat::Wild(_) => Ok(false),
@@ -108,7 +108,7 @@ fn match_fields(
     requires shown { IsShown image.now.blocks view.now }
     ensures { IsGiven (λ so. so) (spec.match_fields agreed.now.covered.program.types
         (map (spec.matches agreed.now.covered.program.types agreed.now.layouts image.now.blocks) pats.now)
-        (shown view.now) 0) result }
+        (position_shown view.now) 0) result }
 {
     let types = agreed.covered().program().types.as_slice();
     for (i, pat) in pats.iter().enumerate() {
@@ -163,7 +163,7 @@ pub(crate) fn choose<'a>(
     requires placed { AreInPlace image.now.blocks }
     requires shown { IsShown image.now.blocks view.now }
     ensures { IsGiven (λ leaf. leaf.now) (spec.chosen agreed.now.covered.program.types agreed.now.layouts
-        image.now.blocks leaves.now (shown view.now)) result }
+        image.now.blocks leaves.now (position_shown view.now)) result }
 {
     let mut before = None;
     for leaf in leaves {

@@ -14,7 +14,7 @@ ghost use Rattle.rb_image.specs.Rebuilds as spec;
 ghost use Rattle.rb_image.specs.Views.{integer_here, words_here};
 ghost use Rattle.rb_image.specs.Walks.{ArePassed, where_of};
 ghost use Rattle.rb_layout.specs.Opens.{opens_at};
-ghost use Rattle.rb_image.specs.inner.Standing.{IsShown, shown};
+ghost use Rattle.rb_image.specs.inner.Standing.{IsShown, position_shown};
 ghost use Rattle.rb_image_text.specs.Places.{AreInPlace};
 
 use crate::arrival::along;
@@ -49,7 +49,7 @@ pub(crate) fn numbers_of(alloc: Global, words: &[Kept]) -> Result<Seq<u64>, Allo
 fn integer_word(alloc: Global, image: &Image, bits: u8, view: &View) -> Result<Seq<u64>, ImageFault>
     requires placed { AreInPlace image.now.blocks }
     requires shown { IsShown image.now.blocks view.now }
-    ensures { IsGiven (λ ws. ws) (Ok (integer_here image.now.blocks (shown view.now) bits ∷ [])) result }
+    ensures { IsGiven (λ ws. ws) (Ok (integer_here image.now.blocks (position_shown view.now) bits ∷ [])) result }
 {
     if bits > 64 {
         return Err(ImageFault::Memory);
@@ -70,7 +70,7 @@ fn open_words(
     requires placed { AreInPlace image.now.blocks }
     requires shown { IsShown image.now.blocks view.now }
     ensures { IsGiven (λ ws. ws)
-        (Ok (spec.numbers_of (words_here agreed.now.layouts image.now.blocks (shown view.now) ty))) result }
+        (Ok (spec.numbers_of (words_here agreed.now.layouts image.now.blocks (position_shown view.now) ty))) result }
 {
     let words = view.words_here(alloc, image, agreed.layouts(), ty)?;
     let numbers = numbers_of(alloc, words.as_slice())?;
@@ -92,7 +92,7 @@ fn rebuild_within<'a>(
     requires placed { AreInPlace image.now.blocks }
     requires shown { IsShown image.now.blocks view.now }
     ensures { IsGiven (λ ws. ws) (spec.rebuilt_within agreed.now.covered.program.types agreed.now.layouts
-        image.now.blocks depth ty (shown view.now)) result }
+        image.now.blocks depth ty (position_shown view.now)) result }
 {
     if depth == 0 {
         return Err(ImageFault::Memory);
@@ -124,7 +124,7 @@ fn fields_at<'a>(
     ensures { IsGiven (λ fields. fields)
         (spec.fields_at agreed.now.covered.program.types agreed.now.layouts image.now.blocks
         (spec.rebuilt_within agreed.now.covered.program.types agreed.now.layouts image.now.blocks depth)
-        (shown view.now) (opens_at opens.now)) result }
+        (position_shown view.now) (opens_at opens.now)) result }
 {
     let mut fields = Seq::new(alloc);
     for open in opens {
@@ -151,7 +151,7 @@ fn words_along<'a>(
     ensures { IsGiven (λ ws. ws)
         (spec.words_along agreed.now.covered.program.types agreed.now.layouts image.now.blocks
         (spec.rebuilt_within agreed.now.covered.program.types agreed.now.layouts image.now.blocks depth)
-        (shown view.now) path.now) result }
+        (position_shown view.now) path.now) result }
 {
     let end = along(alloc, agreed, image, view, path)?;
     words_at(alloc, &*agreed, image, depth, &end.view())
@@ -172,7 +172,7 @@ fn words_at<'a>(
     ensures { IsGiven (λ ws. ws)
         (spec.words_at agreed.now.covered.program.types agreed.now.layouts image.now.blocks
         (spec.rebuilt_within agreed.now.covered.program.types agreed.now.layouts image.now.blocks depth)
-        view.now.here.ty (shown view.now)) result }
+        view.now.here.ty (position_shown view.now)) result }
 {
     match view.here.ty {
         Ty::Int(bits) => integer_word(alloc, image, bits, view),

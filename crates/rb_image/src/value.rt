@@ -16,7 +16,7 @@ ghost use Rattle.rb_image.specs.Reads.{ImageIsRead, IsReason};
 ghost use Rattle.rb_image.specs.Roots.{IsFirstImageFault, IsSoundImage};
 ghost use Rattle.rb_image.specs.Sound.{IsFault};
 ghost use Rattle.rb_image.specs.Values.{IsDeclared};
-ghost use Rattle.rb_image.specs.inner.Having.{AreSoundWhereTheyDescend, HaveDescents, HaveValues};
+ghost use Rattle.rb_image.specs.inner.Having.{AreSoundWhereTheyDescend, HaveDescents, RootsHaveValues};
 ghost use Rattle.rb_image_text.specs.Images.{AreImageBlocks};
 ghost use Rattle.rb_image_text.specs.Places.{AreInPlace};
 ghost use Rattle.rb_image_text.specs.declared.fault.ImageFault.{ImageFault};
@@ -36,7 +36,7 @@ use std::alloc::Global;
 // Tells proofs that images which are sound for a type of this program have values. Nothing else is
 // done.
 fn images_have_values(agreed: &Agreed)
-    ensures { HaveValues agreed.now.covered.program agreed.now.layouts }
+    ensures { RootsHaveValues agreed.now.covered.program agreed.now.layouts }
 {
     sound_images_have_values();
     let _ = agreed.covered().program();

@@ -9,7 +9,7 @@ ghost use Rattle.std.specs.Prelude.{◌≡◌, ◌++◌, ◌∷◌, [], ◌≤�
 ghost use Rattle.rb_image.specs.Parts.{field_word, field_words};
 ghost use Rattle.rb_image.specs.Orders.{order_of};
 ghost use Rattle.rb_image.specs.Views as spec;
-ghost use Rattle.rb_image.specs.inner.Standing.{IsShown, shown, shown_option};
+ghost use Rattle.rb_image.specs.inner.Standing.{IsShown, position_shown, shown_option};
 ghost use Rattle.rb_image.specs.inner.Viewing.{spots_of};
 ghost use Rattle.rb_image_text.specs.Places.{AreInPlace};
 
@@ -69,7 +69,7 @@ impl<'a> View<'a> {
         requires placed { AreInPlace image.now.blocks }
         requires shown { IsShown image.now.blocks self.now }
         ensures { IfOk result
-            (λ words. words.items ≡ spec.words_here layouts.now image.now.blocks (shown self.now) ty) }
+            (λ words. words.items ≡ spec.words_here layouts.now image.now.blocks (position_shown self.now) ty) }
     {
         let order = order_of(alloc, self.leaf)?;
         let count = word_count(layouts, Ty::Named(ty));
@@ -90,7 +90,7 @@ impl<'a> View<'a> {
         requires placed { AreInPlace image.now.blocks }
         requires shown { IsShown image.now.blocks self.now }
         requires narrow { bits ≤ 64 }
-        ensures { IfOk result (λ number. number ≡ spec.integer_here image.now.blocks (shown self.now) bits) }
+        ensures { IfOk result (λ number. number ≡ spec.integer_here image.now.blocks (position_shown self.now) bits) }
     {
         integer_at(alloc, image, self.leaf, self.words, self.at, bits)
     }
@@ -106,7 +106,7 @@ impl<'a> View<'a> {
     ) -> Option<View<'b>>
         requires shown { IsShown image.now.blocks self.now }
         requires at { at.now ≡ self.now.at.now ++ field ∷ [] }
-        ensures below { shown_option result ≡ spec.down types.now (shown self.now) field }
+        ensures below { shown_option result ≡ spec.down types.now (position_shown self.now) field }
         ensures shown { IfSome result (IsShown image.now.blocks) }
     {
         let here = field_of(types, self.here.pat, field)?;

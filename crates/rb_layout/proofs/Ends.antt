@@ -11,7 +11,7 @@ use Rattle.rb_layout.specs.declared.layout.FlatWord.{FlatWord}
 use Rattle.rb_layout.specs.declared.layout.WordRef.{WordRef}
 use Rattle.rb_layout.specs.declared.locate.End.{End}
 use Rattle.rb_layout.specs.Words.{flat_at}
-use Rattle.rb_layout.specs.Locations.{Reached, pointer_block, next_ref, range_in, resolve_from, reached_at, known_in, known, constant_bits}
+use Rattle.rb_layout.specs.Locations.{Reached, pointer_block, next_ref, range_in, resolve_from, reached_at, known_in, number_known, constant_bits}
 use Rattle.rb_layout.specs.Readable.{IsReadable}
 use Rattle.rb_layout.specs.inner.Ends.{end_of}
 
@@ -92,11 +92,11 @@ none_case (Some x) e = absurd cc
 pub not_found : (leaf : Leaf) (loc : Loc) → None ≡ end_of (reached_at leaf loc) → reached_at leaf loc ≡ None
 not_found leaf loc e = none_case (reached_at leaf loc) e
 
-pub known-not_found : (leaf : Leaf) (loc : Loc) → None ≡ end_of (reached_at leaf loc) → None ≡ known leaf loc
+pub known-not_found : (leaf : Leaf) (loc : Loc) → None ≡ end_of (reached_at leaf loc) → None ≡ number_known leaf loc
 known-not_found leaf loc e = ap known_in (sym (not_found leaf loc e))
 
 pub known-found : (leaf : Leaf) (loc : Loc) (end : End) → (f : FlatWord) → FoundAt leaf loc end → flat_at leaf end.at ≡ Some f
-    → constant_bits f.parts end.o end.l ≡ known leaf loc
+    → constant_bits f.parts end.o end.l ≡ number_known leaf loc
 known-found leaf loc end f found is =
     let same = same_Some _ _ (sym is ∙ found.is_word) in
     rw (same, found.is_o, found.is_l) (ap known_in (sym found.is_reached))

@@ -28,7 +28,7 @@ use Rattle.rb_layout.specs.declared.layout.FlatTree as T
 use Rattle.rb_layout.specs.declared.layout.FlatArm.{FlatArm}
 use Rattle.rb_layout.specs.Flattening.{flat_layouts}
 use Rattle.rb_layout.specs.Words.{size_of, begins_at}
-use Rattle.rb_layout.specs.Locations.{reached_at, known}
+use Rattle.rb_layout.specs.Locations.{reached_at, number_known}
 use Rattle.rb_layout.specs.Excluded.{HasNull, Bars, null}
 use Rattle.rb_layout.specs.A6.{times_held}
 use Rattle.rb_layout.proofs.Computing.{flat_rules}
@@ -123,13 +123,13 @@ abbrev cons_leaf : Leaf
 cons_leaf = leaf (by 0 1 (any ∷ any ∷ [])) (word 64 (part 0 1 (Const 0) ∷ part 3 61 (Pointer 8 0) ∷ []) ∷ [])
     (block 8 (word 64 (part 0 64 (Bits (0 ∷ []) 0) ∷ []) ∷ word 64 (part 0 64 (Word (1 ∷ []) 0) ∷ []) ∷ []) ∷ [])
 
-nil_known : known nil_leaf (root 0 0 1) ≡ Some 1
+nil_known : number_known nil_leaf (root 0 0 1) ≡ Some 1
 nil_known = refl
 
-cons_known : known cons_leaf (root 0 0 1) ≡ Some 0
+cons_known : number_known cons_leaf (root 0 0 1) ≡ Some 0
 cons_known = refl
 
-cons_free : known cons_leaf (root 0 0 2) ≡ None
+cons_free : number_known cons_leaf (root 0 0 2) ≡ None
 cons_free = refl
 
 no_such_word : reached_at cons_leaf (root 1 0 1) ≡ None
@@ -289,10 +289,10 @@ shapes_are : flat_layouts (program_of (data_type ((Int 8 ∷ []) ∷ (Int 32 ∷
     ≡ record { ty = 0; shape = 32 ∷ []; tree = T.Split tag (flat_arm 0 0 ∷ flat_arm 1 1 ∷ []) None; leaves = dot_leaf ∷ box_leaf ∷ [] } ∷ []
 shapes_are = simp flat_rules
 
-dot_known : known dot_leaf tag ≡ Some 0
+dot_known : number_known dot_leaf tag ≡ Some 0
 dot_known = refl
 
-box_known : known box_leaf tag ≡ Some 1
+box_known : number_known box_leaf tag ≡ Some 1
 box_known = refl
 
 -- the second word begins behind one byte

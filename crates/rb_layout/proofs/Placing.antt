@@ -22,7 +22,7 @@ use Rattle.rb_layout.specs.declared.layout.Kind.TheVariants.{Bits, Word}
 use Rattle.rb_layout.specs.Positions.{Open, open_positions}
 use Rattle.rb_layout.specs.Flattening.{Laying, in_turn, item_laid, kind_laid, part_laid, items_laid, parts_of, whole_kind, kind_if_open, type_at}
 use Rattle.rb_layout.specs.Items.{Content, Number, Whole, Slice, WordOf, Address, WrittenPart, Item, AWord, AField, Around, plain, item_list, item_lists, items_step, content_step, written_part_step, items_inside}
-use Rattle.rb_layout.specs.Placing.{Standing, stands, standing, standing_in, part_placed, whole_placed, if_open, parts_placed, EachStandsOnce}
+use Rattle.rb_layout.specs.Placing.{Standing, standing_of, standing, standing_in, part_placed, whole_placed, if_open, parts_placed, EachStandsOnce}
 use Rattle.rb_layout.proofs.FlatForms.{Each}
 use Rattle.rb_layout.proofs.WrittenForms as W
 use Rattle.rb_layout.proofs.WrittenForms.{item-induction}
@@ -95,7 +95,7 @@ module _ (decls : List LayoutDecl) (opens : List Open) (weight : Standing → �
   SameItem x = (n : ℕ) → W' (item_laid decls opens x n).it + B (item_laid decls opens x n).blocks ≡ N (item_list x)
 
   abbrev SameKind : PartKind → Type 0
-  SameKind k = (width o l n : ℕ) → S (map (stands width) (parts_of o l (kind_laid decls opens k n).it)) + B (kind_laid decls opens k n).blocks
+  SameKind k = (width o l n : ℕ) → S (map (standing_of width) (parts_of o l (kind_laid decls opens k n).it)) + B (kind_laid decls opens k n).blocks
       ≡ S (part_placed opens width (record { o = o; l = l; content = (kind_around k).it })) + N (kind_around k).inside
 
   add_up : (a b c d x y : ℕ) → a + c ≡ x → b + d ≡ y → a + b + (c + d) ≡ x + y
@@ -113,24 +113,24 @@ module _ (decls : List LayoutDecl) (opens : List Open) (weight : Standing → �
       ∙ add_up (W' first.it) (W' rest.it) (B first.blocks) (B rest.blocks) (N (item_list x)) (N (item_lists xs)) (each.0 n) (items_same xs each.1 (n + length first.blocks))
       ∙ sym (n-append (item_list x) (item_lists xs))
 
-  part_same : (p : PartDecl) → SameKind p.kind → (width n : ℕ) → S (map (stands width) (part_laid decls opens p n).it) + B (part_laid decls opens p n).blocks
+  part_same : (p : PartDecl) → SameKind p.kind → (width n : ℕ) → S (map (standing_of width) (part_laid decls opens p n).it) + B (part_laid decls opens p n).blocks
       ≡ S (part_placed opens width (part_around p).it) + N (part_around p).inside
   part_same p same width n =
-      ap (λ (lay : Laying (List Part)). S (map (stands width) (lay n).it) + B (lay n).blocks) (part_laid_is decls opens p)
+      ap (λ (lay : Laying (List Part)). S (map (standing_of width) (lay n).it) + B (lay n).blocks) (part_laid_is decls opens p)
       ∙ same width p.o p.l n ∙ sym (ap (λ (a : Around WrittenPart). S (part_placed opens width a.it) + N a.inside) (around-Part p))
 
   parts_same : (ps : List PartDecl) → Each (λ (p : PartDecl). SameKind p.kind) ps → (width n : ℕ)
-      → S (map (stands width) (in_turn (map (part_laid decls opens) ps) n).it) + B (in_turn (map (part_laid decls opens) ps) n).blocks
+      → S (map (standing_of width) (in_turn (map (part_laid decls opens) ps) n).it) + B (in_turn (map (part_laid decls opens) ps) n).blocks
       ≡ S (flat_map (part_placed opens width) (map (λ (a : Around WrittenPart). a.it) (map part_around ps))) + N (items_inside (map part_around ps))
   parts_same [] each width n = refl
   parts_same (p ∷ ps) each width n =
       let first = part_laid decls opens p n in
       let rest = in_turn (map (part_laid decls opens) ps) (n + length first.blocks) in
       let later = map part_around ps in
-      ap (λ xs. S xs + B (first.blocks ++ rest.blocks)) (map-append (stands width) first.it rest.it)
-      ∙ ap (λ k. k + B (first.blocks ++ rest.blocks)) (s-append (map (stands width) first.it) (map (stands width) rest.it))
-      ∙ ap (λ k. S (map (stands width) first.it) + S (map (stands width) rest.it) + k) (b-append first.blocks rest.blocks)
-      ∙ cross (S (map (stands width) first.it)) (S (map (stands width) rest.it)) (B first.blocks) (B rest.blocks) (S (part_placed opens width (part_around p).it))
+      ap (λ xs. S xs + B (first.blocks ++ rest.blocks)) (map-append (standing_of width) first.it rest.it)
+      ∙ ap (λ k. k + B (first.blocks ++ rest.blocks)) (s-append (map (standing_of width) first.it) (map (standing_of width) rest.it))
+      ∙ ap (λ k. S (map (standing_of width) first.it) + S (map (standing_of width) rest.it) + k) (b-append first.blocks rest.blocks)
+      ∙ cross (S (map (standing_of width) first.it)) (S (map (standing_of width) rest.it)) (B first.blocks) (B rest.blocks) (S (part_placed opens width (part_around p).it))
       (S (flat_map (part_placed opens width) (map (λ (a : Around WrittenPart). a.it) later))) (N (part_around p).inside) (N (items_inside later))
       (part_same p each.0 width n) (parts_same ps each.1 width (n + length first.blocks))
       ∙ sym (ap (λ k. k + N ((part_around p).inside ++ items_inside later)) (s-append (part_placed opens width (part_around p).it) (flat_map (part_placed opens width) (map (λ (a : Around WrittenPart). a.it) later)))
@@ -144,7 +144,7 @@ module _ (decls : List LayoutDecl) (opens : List Open) (weight : Standing → �
       let laid = in_turn (map (part_laid decls opens) parts) n in
       let arounds = map part_around parts in
       ap (λ (lay : Laying (List FlatWord)). W' (lay n).it + B (lay n).blocks) (word_laid decls opens width parts)
-      ∙ ap (λ xs. S xs + B laid.blocks) (append-nil (map (stands width) laid.it))
+      ∙ ap (λ xs. S xs + B laid.blocks) (append-nil (map (standing_of width) laid.it))
       ∙ parts_same parts each width n
       ∙ sym (s-append (flat_map (part_placed opens width) (map (λ (a : Around WrittenPart). a.it) arounds)) (flat_map (parts_placed decls opens) (items_inside arounds)))
       ∙ sym (ap N (list-Word width parts))
@@ -156,27 +156,27 @@ module _ (decls : List LayoutDecl) (opens : List Open) (weight : Standing → �
       ∙ sym (ap S (append-nil (parts_placed decls opens (AField path)))) ∙ sym (ap N (list-Inline path))
 
   abbrev with_kind : (k : PartKind) (lay : Laying (Option Kind)) (around : Around Content) → kind_laid decls opens k ≡ lay → kind_around k ≡ around
-      → ((width o l n : ℕ) → S (map (stands width) (parts_of o l (lay n).it)) + B (lay n).blocks
+      → ((width o l n : ℕ) → S (map (standing_of width) (parts_of o l (lay n).it)) + B (lay n).blocks
       ≡ S (part_placed opens width (record { o = o; l = l; content = around.it })) + N around.inside) → SameKind k
   with_kind k lay around e f same width o l n =
-      ap (λ (x : Laying (Option Kind)). S (map (stands width) (parts_of o l (x n).it)) + B (x n).blocks) e ∙ same width o l n
+      ap (λ (x : Laying (Option Kind)). S (map (standing_of width) (parts_of o l (x n).it)) + B (x n).blocks) e ∙ same width o l n
       ∙ sym (ap (λ (a : Around Content). S (part_placed opens width (record { o = o; l = l; content = a.it })) + N a.inside) f)
 
   const_same : (c : ℕ) → SameKind (K.Const c)
   const_same c = with_kind (K.Const c) _ _ (const_laid decls opens c) (around-Const c) (λ width o l n. refl)
 
-  whole_by : (ty : Option Ty) (path : List ℕ) (width o l : ℕ) → map (stands width) (parts_of o l (whole_kind ty path))
+  whole_by : (ty : Option Ty) (path : List ℕ) (width o l : ℕ) → map (standing_of width) (parts_of o l (whole_kind ty path))
       ≡ map (λ (c : Content). record { width = width; o = o; l = l; holds = c }) (whole_placed ty path l)
   whole_by None path width o l = refl
   whole_by (Some (Int bits)) path width o l = refl
   whole_by (Some (Named s)) path width o l = refl
 
-  bits_by : (ty : Option Ty) (path : List ℕ) (a width o l : ℕ) → map (stands width) (parts_of o l (kind_if_open ty (Bits path a)))
+  bits_by : (ty : Option Ty) (path : List ℕ) (a width o l : ℕ) → map (standing_of width) (parts_of o l (kind_if_open ty (Bits path a)))
       ≡ map (λ (c : Content). record { width = width; o = o; l = l; holds = c }) (if_open ty (Slice path a l))
   bits_by None path a width o l = refl
   bits_by (Some ty) path a width o l = refl
 
-  word_by : (ty : Option Ty) (path : List ℕ) (j width o l : ℕ) → map (stands width) (parts_of o l (kind_if_open ty (Word path j)))
+  word_by : (ty : Option Ty) (path : List ℕ) (j width o l : ℕ) → map (standing_of width) (parts_of o l (kind_if_open ty (Word path j)))
       ≡ map (λ (c : Content). record { width = width; o = o; l = l; holds = c }) (if_open ty (WordOf path j))
   word_by None path j width o l = refl
   word_by (Some ty) path j width o l = refl

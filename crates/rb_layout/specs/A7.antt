@@ -10,7 +10,7 @@ use Rattle.rb_layout.specs.declared.layout.Leaf.{Leaf}
 use Rattle.rb_layout.specs.declared.layout.FlatTree.{FlatTree}
 use Rattle.rb_layout.specs.declared.evidence.Why.{Why}
 use Rattle.rb_layout.specs.declared.evidence.Why.TheVariants.{Unresolved, NotKnown, NotExcluded}
-use Rattle.rb_layout.specs.Locations.{Reached, reached_at, known}
+use Rattle.rb_layout.specs.Locations.{Reached, reached_at, number_known}
 use Rattle.rb_layout.specs.Excluded.{Excludes}
 use Rattle.rb_layout.specs.Splits.{Test, Is, IsNone, Route, routes_of}
 use Rattle.rb_layout.specs.Each.{EachLeaf}
@@ -27,7 +27,7 @@ IsLiteral literals c = (k : ℕ) × (slice_get literals k ≡ Some c)
 -- A leaf passes a test: the split's location resolves in it; below a literal, that number is known there; below
 -- `else`, each literal is excluded there, and without literals nothing but the resolving is asked.
 abbrev pub MeetsTest : List DataDecl → List Layout → Leaf → Test → Type 0
-MeetsTest types layouts leaf (Is loc c) = Resolves leaf loc × (known leaf loc ≡ Some c)
+MeetsTest types layouts leaf (Is loc c) = Resolves leaf loc × (number_known leaf loc ≡ Some c)
 MeetsTest types layouts leaf (IsNone loc literals) =
     Resolves leaf loc × ((c : ℕ) → IsLiteral literals c → Excludes types layouts leaf loc c)
 
@@ -54,7 +54,7 @@ A7 types layouts = EachLeaf layouts (λ t layout n leaf. MeetsAll types layouts 
 -- the test.
 abbrev pub FailsTest : List DataDecl → List Layout → Leaf → Test → Why → Type 0
 FailsTest types layouts leaf (Is at c) (Unresolved loc) = (loc ≡ at) × (reached_at leaf at ≡ None)
-FailsTest types layouts leaf (Is at c) (NotKnown loc d) = (loc ≡ at) × (d ≡ c) × (known leaf at ≡ Some c → ⊥)
+FailsTest types layouts leaf (Is at c) (NotKnown loc d) = (loc ≡ at) × (d ≡ c) × (number_known leaf at ≡ Some c → ⊥)
 FailsTest types layouts leaf (IsNone at literals) (Unresolved loc) = (loc ≡ at) × (reached_at leaf at ≡ None)
 FailsTest types layouts leaf (IsNone at literals) (NotExcluded loc c) =
     (loc ≡ at) × IsLiteral literals c × (Excludes types layouts leaf at c → ⊥)

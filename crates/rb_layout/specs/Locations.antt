@@ -130,5 +130,5 @@ known_in (Some x) = constant_bits x.word.parts x.o x.l
 
 -- the number that is known at a location of a leaf: it resolves there, and all bits of its last range are constant;
 -- None elsewhere
-abbrev pub known : Leaf → Loc → Option ℕ
-known leaf loc = known_in (reached_at leaf loc)
+abbrev pub number_known : Leaf → Loc → Option ℕ
+number_known leaf loc = known_in (reached_at leaf loc)

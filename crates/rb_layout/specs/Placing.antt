@@ -34,13 +34,13 @@ content_shown l (Bits path a) = Slice path a l
 content_shown l (Word path j) = WordOf path j
 content_shown l (Pointer align b) = Address align
 
--- a part of a word of this width, as it stands
-abbrev pub stands : ℕ → Part → Standing
-stands width p = record { width = width; o = p.o; l = p.l; holds = content_shown p.l p.kind }
+-- the record of a part: the width of its word, its range, and what it holds as it is written
+abbrev pub standing_of : ℕ → Part → Standing
+standing_of width p = record { width = width; o = p.o; l = p.l; holds = content_shown p.l p.kind }
 
 -- the parts of a flat word as they stand, in their order
 abbrev pub standing : FlatWord → List Standing
-standing f = map (stands f.width) f.parts
+standing f = map (standing_of f.width) f.parts
 
 -- the parts of a block's words as they stand, word by word
 abbrev pub standing_in : Block → List Standing

@@ -3,7 +3,7 @@
 
 ghost use Rattle.std.specs.Prelude.{◌≡◌, ◌+◌, ◌<◌, ◌≤◌};
 ghost use Rattle.rb_bits.specs.Words.{IsRange};
-ghost use Rattle.rb_layout.specs.Locations.{bit_of_kind, bit_of_part, constant_bit, constant_bits, known};
+ghost use Rattle.rb_layout.specs.Locations.{bit_of_kind, bit_of_part, constant_bit, constant_bits, number_known};
 ghost use Rattle.rb_layout.specs.Readable.{IsReadable};
 
 use crate::layout::{Kind, Leaf, Part};
@@ -76,7 +76,7 @@ fn constant_bits(parts: &[Part], o: u64, l: u64) -> Option<u64>
 /// range are constant. None elsewhere.
 pub fn known_bits(leaf: &Leaf, loc: &Loc) -> Option<u64>
     requires { IsReadable leaf.now }
-    ensures { result ≡ known leaf.now loc.now }
+    ensures { result ≡ number_known leaf.now loc.now }
 {
     let end = match end_of(leaf, loc) {
         None => return None,

@@ -42,7 +42,7 @@ use Rattle.rb_fragment.specs.WordReads.{AreMeant, AllFit}
 use Rattle.rb_fragment.proofs.ReadForms.{mean-Slot, fits-Slot}
 use Rattle.rb_match.specs.Bounding.{TypedPosition, choosing_look, looks_with, places_of_patterns, rounds}
 use Rattle.rb_match.specs.Choosing.{ChoosesClause}
-use Rattle.rb_match.specs.inner.Flowing.{tree_at, looks, path_of, HasWay, TakesGraph}
+use Rattle.rb_match.specs.inner.Flowing.{tree_from, looks, path_of, HasWay, TakesGraph}
 use Rattle.rb_match.specs.inner.Places.{IsPlaceIn, IsLookedAt}
 use Rattle.rb_match.specs.inner.Trees.{TakesTree}
 use Rattle.rb_match.proofs.Bounds.{in_distinct, within_sum, all_at}
@@ -53,7 +53,7 @@ pub tree_takes : (agreed : LaidOut) (ty : Ty) (words : List Read) (pats : List P
 tree_takes agreed ty words pats spots tree graph old mid new holes unfolds lower gives grows are takes = λ plan of fit count.
     let g = gives plan of in
     let t = takes plan old.slots (record { of = of; spots = g.are; fit = fit; count = count; lower = lower }) in
-    let is : tree_at graph.nodes graph.root ≡ tree = ap (λ o. unwrap_or o (T.Clause 0)) unfolds in
+    let is : tree_from graph.nodes graph.root ≡ tree = ap (λ o. unwrap_or o (T.Clause 0)) unfolds in
     let l1 = grows.longer in
     let l2 = t.adds.grows.longer in
     record {

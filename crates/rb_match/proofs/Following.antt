@@ -16,7 +16,7 @@ use Rattle.rb_fragment.specs.Plan.{Plan, Rep}
 use Rattle.rb_fragment.proofs.Holds.{slots_at-kept}
 use Rattle.rb_match.specs.declared.knowledge.Known.TheVariants.{Leaf, Saved}
 use Rattle.rb_match.specs.declared.knowledge.Spot.{Spot}
-use Rattle.rb_match.specs.inner.Knowing.{View, seen, SpotsBelow, IsSaved, IsKnown, AreKnown, FollowsLeaf, FollowsSaved, IsShared, SharesKnown, IsMet, IsCommon}
+use Rattle.rb_match.specs.inner.Knowing.{View, seen, SpotsBelow, IsSaved, IsKnown, AreKnown, FollowsLeaf, FollowsSaved, IsShared, SharesKnown, IsMet, IsCommonKnowledge}
 use Rattle.rb_match.specs.inner.Asking.{is_test, carried}
 
 -- an item of a list with one more
@@ -51,7 +51,7 @@ pub meets : (known : List Known) (edge : Edge) (node : ℕ) (both : List Known) 
 meets known edge node both s = λ view either. s view (elim either [ inl a ↦ inl a | inr b ↦ inr b.1 ])
 
 pub common-next : (edges : List Edge) (i : ℕ) (x : Edge) (node : ℕ) (found r : Option (List Known)) → i < length edges → x ≡ get_or edges i x
-    → IsCommon (take i edges) node found → IsMet found x node r → IsCommon (take (i + 1) edges) node r
+    → IsCommonKnowledge (take i edges) node found → IsMet found x node r → IsCommonKnowledge (take (i + 1) edges) node r
 common-next edges i x node found r lt is c m = λ view e at leaf all.
     let here = ap (λ l. slice_get l at.0) (sym (take-next edges i x lt is)) ∙ at.1 in
     m view (elim (snoc-at (take i edges) x e at.0 here) [

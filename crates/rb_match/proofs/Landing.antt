@@ -13,7 +13,7 @@ use Rattle.rb_fragment.proofs.Patching.{AreAllHoles, AreClosable, adds_closed, a
 use Rattle.rb_fragment.specs.Arms.{AreOfOneWay, closed}
 use Rattle.rb_match.specs.declared.knowledge.Known.{Known}
 use Rattle.rb_match.specs.declared.knowledge.Edge.{Edge}
-use Rattle.rb_match.specs.inner.Knowing.{IsEdge, IsCommon, seen}
+use Rattle.rb_match.specs.inner.Knowing.{IsEdge, IsCommonKnowledge, seen}
 use Rattle.rb_match.specs.inner.Asking.{holes_of, AreOpen}
 use Rattle.rb_match.specs.inner.Flowing.{landing_of, others_of, Job, IsOn, Arrives, Lands, Flows, FlowsHere, JobStands}
 use Rattle.rb_match.proofs.Edges.{same-nat, other-nat, in_none, in_head, in_tail, in_append, open_edge, edge_open, landing, landed, landed_from, other_kept, other_from, all_holes_from, closable_from}
@@ -76,7 +76,7 @@ module _ (b : Sheet) (edges : List Edge) (n from : ℕ) (stand : AreOpen from b.
   pub landing_closable : AreClosable from (length b.code) holes targets
   landing_closable = closable_from from (length b.code) holes targets (λ h i. let t = landing_target h i in ((landing_hole h i).0, t.1, t.2))
 
-module _ (job : Job) (b : Sheet) (edges : List Edge) (n : ℕ) (known : List Known) (f : Flows job b edges) (st : JobStands job.first b edges) (common : IsCommon edges n (Some known)) where
+module _ (job : Job) (b : Sheet) (edges : List Edge) (n : ℕ) (known : List Known) (f : Flows job b edges) (st : JobStands job.first b edges) (common : IsCommonKnowledge edges n (Some known)) where
   abbrev pub landed_code : Sheet
   landed_code = closed b (landing_of n edges) (length b.code ∷ [])
 

@@ -31,7 +31,7 @@ use Rattle.rb_match.specs.declared.knowledge.Spot.{Spot}
 use Rattle.rb_match.specs.declared.place.Place.{Place}
 use Rattle.rb_match.specs.declared.spots.Whole.{Whole}
 use Rattle.rb_fragment.proofs.Holds.{AllBelow-more}
-use Rattle.rb_match.specs.inner.Knowing.{IsEdge, IsCommon}
+use Rattle.rb_match.specs.inner.Knowing.{IsEdge, IsCommonKnowledge}
 use Rattle.rb_match.specs.inner.Places.{FindsPlace, IsLookedAt}
 use Rattle.rb_match.specs.inner.Asking.{AreSpots, holes_of, AreOpen, StandOpen, AskedAt, AskedThere, edge_at}
 use Rattle.rb_match.specs.inner.Flowing.{landing_of, others_of, job_of, Flows, JobStands, StepsNode, RootStands, IsFineJob, IsClauseHole, AreClauseHoles, TakesGraph}
@@ -128,7 +128,7 @@ module _ (agreed : LaidOut) (graph : Whole) (words : List Read) (spots : List Sp
   pub stays_node : (node : GraphNode) → StepsNode agreed ty words pats spots nodes node n old edges old edges
   stays_node node = record { stands = λ first st. st; flows = λ plan base root first fine at st f. f }
 
-  module _ (known : List Known) (common : IsCommon edges n (Some known)) (new : Sheet) (asked onward : List Edge) where
+  module _ (known : List Known) (common : IsCommonKnowledge edges n (Some known)) (new : Sheet) (asked onward : List Edge) where
     abbrev b : Sheet
     b = closed old (landing_of n edges) (length old.code ∷ [])
 

@@ -24,7 +24,7 @@ use Rattle.rb_match.specs.Bounding.{TypedPosition}
 use Rattle.rb_match.proofs.Following.{snoc-at}
 use Rattle.rb_match.specs.inner.Asking.{take_link}
 use Rattle.rb_match.specs.inner.Places.{IsLookedAt}
-use Rattle.rb_match.specs.inner.Flowing.{tree_at, HasWay, path_of, Job, IsOn}
+use Rattle.rb_match.specs.inner.Flowing.{tree_from, HasWay, path_of, Job, IsOn}
 
 module _ (trees : List Tree) where
   abbrev below : GraphArm → TreeArm
@@ -77,7 +77,7 @@ module _ (trees : List Tree) where
           (get-right (ways (tree_under trees a.under)) (all_ways arms other) h1.0 tail h1.1)
 
 -- the tree of a node
-pub tree_of_node : (nodes : List GraphNode) → LinksAreLower nodes → (n : ℕ) (node : GraphNode) → slice_get nodes n ≡ Some node → tree_at nodes n ≡ node_tree (node_trees nodes) node
+pub tree_of_node : (nodes : List GraphNode) → LinksAreLower nodes → (n : ℕ) (node : GraphNode) → slice_get nodes n ≡ Some node → tree_from nodes n ≡ node_tree (node_trees nodes) node
 tree_of_node nodes lower n node at = ap (λ o. unwrap_or o (Trees.Clause 0)) (node-tree nodes lower n node at)
 
 -- places behind one another
@@ -95,7 +95,7 @@ module _ (job : Job) (lower : LinksAreLower job.nodes) (n : ℕ) (position : Lis
   abbrev other1 : Option Tree
   other1 = option_map (tree_under trees) other
 
-  is_tree : tree_at job.nodes n ≡ Trees.Test position arms1 other1
+  is_tree : tree_from job.nodes n ≡ Trees.Test position arms1 other1
   is_tree = tree_of_node job.nodes lower n (Test position arms other) at
 
   -- the part that is tested is there, and the arm that is taken has a node
@@ -104,9 +104,9 @@ module _ (job : Job) (lower : LinksAreLower job.nodes) (n : ℕ) (position : Lis
     pub is_part : part_at v position ≡ Some part
     pub node : ℕ
     pub is_node : take_link arms other (out-Value part) ≡ Some node
-    pub takes : clause_taken (tree_at job.nodes node) v ≡ Some k
+    pub takes : clause_taken (tree_from job.nodes node) v ≡ Some k
 
-  pub tested : (v : Value) (k : ℕ) → clause_taken (tree_at job.nodes n) v ≡ Some k → IsTested v k
+  pub tested : (v : Value) (k : ℕ) → clause_taken (tree_from job.nodes n) v ≡ Some k → IsTested v k
   tested v k e = go (part_at v position) refl (sym (taken-Test position arms1 other1 v) ∙ ap (λ t. clause_taken t v) (sym is_tree) ∙ e)
     where
       go : (o : Option Value) → part_at v position ≡ o → take_at (map taken_arm arms1) (option_map clause_taken other1) o v ≡ Some k → IsTested v k
@@ -115,14 +115,14 @@ module _ (job : Job) (lower : LinksAreLower job.nodes) (n : ℕ) (position : Lis
           let r = takes_link trees arms other (out-Value part) v k h in
           record { part = part; is_part = is; node = r.0; is_node = r.1; takes = r.2 }
 
-  pub passes : (v : Value) (clause : ℕ) (path : List TypedPosition) (ty : Ty) → clause_taken (tree_at job.nodes job.root) v ≡ Some clause → IsOn job v n path → IsLookedAt job.plan.program.types job.ty job.pats position ty
+  pub passes : (v : Value) (clause : ℕ) (path : List TypedPosition) (ty : Ty) → clause_taken (tree_from job.nodes job.root) v ≡ Some clause → IsOn job v n path → IsLookedAt job.plan.program.types job.ty job.pats position ty
       → (t : IsTested v clause) → IsOn job v t.node (path ++ record { path = position; ty = ty } ∷ [])
   passes v clause path ty root on looked t = record {
     same = λ k e. t.takes ∙ ap Some (same_Some clause k (sym root ∙ e));
     onward = λ tail h.
         let w = link_ways trees arms other (out-Value t.part) t.node t.is_node tail h in
         let h1 = get-mapped (λ way. position ∷ way) (all_ways trees arms other) w.0 tail w.1 in
-        let h2 : HasWay (ways (tree_at job.nodes n)) (position ∷ tail) = (w.0, ap (λ u. slice_get (ways u) w.0) is_tree ∙ ap (λ ws. slice_get ws w.0) (ways-Test position arms1 other1) ∙ h1) in
+        let h2 : HasWay (ways (tree_from job.nodes n)) (position ∷ tail) = (w.0, ap (λ u. slice_get (ways u) w.0) is_tree ∙ ap (λ ws. slice_get ws w.0) (ways-Test position arms1 other1) ∙ h1) in
         let r = on.onward (position ∷ tail) h2 in
         (r.0, r.1 ∙ ap Some (sym (path-snoc path (record { path = position; ty = ty }) tail)));
     looked = λ p i. elim (snoc-at path (record { path = position; ty = ty }) p i.0 i.1) [
@@ -136,8 +136,8 @@ pub begins_on : (job : Job) (v : Value) → IsOn job v job.root []
 begins_on job v = record { same = λ k e. e; onward = λ tail h. h; looked = λ p i. absurd (let e = i.1 in cc) }
 
 -- the value is at a clause
-pub ends_on : (job : Job) (lower : LinksAreLower job.nodes) (v : Value) (n k clause : ℕ) (path : List TypedPosition) → slice_get job.nodes n ≡ Some (Clause k) → IsOn job v n path → clause_taken (tree_at job.nodes job.root) v ≡ Some clause
-    → (k ≡ clause) × HasWay (ways (tree_at job.nodes job.root)) (map path_of path)
+pub ends_on : (job : Job) (lower : LinksAreLower job.nodes) (v : Value) (n k clause : ℕ) (path : List TypedPosition) → slice_get job.nodes n ≡ Some (Clause k) → IsOn job v n path → clause_taken (tree_from job.nodes job.root) v ≡ Some clause
+    → (k ≡ clause) × HasWay (ways (tree_from job.nodes job.root)) (map path_of path)
 ends_on job lower v n k clause path at on root =
     let is = tree_of_node job.nodes lower n (Clause k) at in
     let same : k ≡ clause = same_Some k clause (sym (taken-Clause k v) ∙ ap (λ t. clause_taken t v) (sym is) ∙ on.same clause root) in

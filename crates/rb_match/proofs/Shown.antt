@@ -20,7 +20,7 @@ use Rattle.rb_match.specs.declared.knowledge.Known.{Known}
 use Rattle.rb_match.specs.declared.knowledge.Known.TheVariants as K
 use Rattle.rb_match.specs.inner.Knowing.{IsKnown}
 use Rattle.rb_matrix.specs.Apart.{PatternsAreApart}
-use Rattle.rb_match.specs.inner.Threading.{AllFollow, AreWild, BeginsWith, Covers, HasSub, IsAtLeaf, IsFirst, IsLeafOfAll, IsWild, ShowTogether, Tells, TellTogether}
+use Rattle.rb_match.specs.inner.Threading.{AllFollow, AreWild, TellsConstructor, Covers, HasSub, IsAtLeaf, IsFirst, IsLeafOfAll, IsWild, ShowTogether, Tells, TellTogether}
 use Rattle.rb_matrix.proofs.Differing.{pass-at}
 use Rattle.rb_match.proofs.Bindings.{begins_with}
 use Rattle.rb_match.proofs.Following.{snoc-at}
@@ -46,7 +46,7 @@ below_option token c ps field rest sub None at h = tt
 below_option token c ps field rest sub (Some deep) at h = sub_below token c ps field rest sub deep.now at h
 
 -- the constructor with which it begins
-pub con_begins : (pat : Pat) (token : ℕ) (c : ConRef) (ps : List Pat) → pat ≡ Con token c ps → BeginsWith pat c.con
+pub con_begins : (pat : Pat) (token : ℕ) (c : ConRef) (ps : List Pat) → pat ≡ Con token c ps → TellsConstructor pat c.con
 con_begins pat token c ps is = λ v m.
     let b = begins_with c.con (map matches_of ps) (out-Value v) (sym (matches-Con v token c ps) ∙ ap (λ (q : Pat). matches_of q v) (sym is) ∙ m) in
     (b.0, b.1)

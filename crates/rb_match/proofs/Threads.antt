@@ -26,7 +26,7 @@ use Rattle.rb_match.specs.inner.Knowing.{IsEdge, seen}
 use Rattle.rb_match.specs.inner.Places.{IsLookedAt}
 use Rattle.rb_match.specs.inner.Asking.{holes_of, take_link}
 use Rattle.rb_match.specs.inner.Flowing.{Flows, IsOn, job_of}
-use Rattle.rb_match.specs.inner.Threading.{AllFollow, Ascend, AreThreaded, BeginsWith, IsDecided, IsThreaded, LeadsOn, TellTogether, Threads}
+use Rattle.rb_match.specs.inner.Threading.{AllFollow, Ascend, AreThreaded, TellsConstructor, IsDecided, IsThreaded, LeadsOn, TellTogether, Threads}
 use Rattle.rb_match.proofs.Edges.{edge_open, open_edge}
 use Rattle.rb_match.proofs.LeafTests.{link_same}
 use Rattle.rb_match.proofs.Passing.{passes, tested}
@@ -34,7 +34,7 @@ use Rattle.rb_match.proofs.Testing.{looks-snoc}
 
 -- Tests
 
-decides : (agreed : LaidOut) (ty at : Ty) (pats : List Pat) (known : List Known) (position : List ℕ) (arms : List GraphArm) (other : Option ℕ) (sub : Pat) (node c : ℕ) → TellTogether agreed known position sub → BeginsWith sub c
+decides : (agreed : LaidOut) (ty at : Ty) (pats : List Pat) (known : List Known) (position : List ℕ) (arms : List GraphArm) (other : Option ℕ) (sub : Pat) (node c : ℕ) → TellTogether agreed known position sub → TellsConstructor sub c
     → IsLookedAt agreed.covered.program.types ty pats position at → take_link arms other (V.Con c []) ≡ Some node → IsDecided agreed ty pats known position arms other node
 decides agreed ty at pats known position arms other sub node c t begins looked link = record {
   at = at;
@@ -45,7 +45,7 @@ decides agreed ty at pats known position arms other sub node c t begins looked l
       (m.0, m.1, ap (take_link arms other) b.1 ∙ link_same arms other c b.0 ∙ link);
 }
 
-pub decides_option : (agreed : LaidOut) (ty at : Ty) (pats : List Pat) (known : List Known) (position : List ℕ) (arms : List GraphArm) (other o : Option ℕ) (sub : Pat) (c : ℕ) → TellTogether agreed known position sub → BeginsWith sub c
+pub decides_option : (agreed : LaidOut) (ty at : Ty) (pats : List Pat) (known : List Known) (position : List ℕ) (arms : List GraphArm) (other o : Option ℕ) (sub : Pat) (c : ℕ) → TellTogether agreed known position sub → TellsConstructor sub c
     → IsLookedAt agreed.covered.program.types ty pats position at → o ≡ take_link arms other (V.Con c []) → IfSome o (λ node. IsDecided agreed ty pats known position arms other node)
 decides_option agreed ty at pats known position arms other None sub c t begins looked link = tt
 decides_option agreed ty at pats known position arms other (Some node) sub c t begins looked link = decides agreed ty at pats known position arms other sub node c t begins looked (sym link)

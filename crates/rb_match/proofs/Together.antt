@@ -25,7 +25,7 @@ use Rattle.rb_match.specs.declared.knowledge.Known.{Known}
 use Rattle.rb_match.specs.declared.knowledge.Spot.{Spot}
 use Rattle.rb_match.specs.declared.knowledge.Edge.{Edge}
 use Rattle.rb_match.specs.declared.spots.Whole.{Whole}
-use Rattle.rb_match.specs.inner.Knowing.{IsCommon, seen}
+use Rattle.rb_match.specs.inner.Knowing.{IsCommonKnowledge, seen}
 use Rattle.rb_match.specs.inner.Asking.{StandOpen, holes_of, take_link}
 use Rattle.rb_match.specs.inner.Binding.{SavesTogether}
 use Rattle.rb_match.specs.inner.Flowing.{landing_of}
@@ -43,7 +43,7 @@ goes c v us is =
     ap (take_link (arm_of c) None) is ∙ ap (λ u. if u then Some 0 else None) same
 
 pub saves_together : (agreed : LaidOut) (graph : Whole) (c : ConRef) (words : List ℕ) (spots : List Spot) (known : List Known) (old b : Sheet) (edges : List Edge)
-    → AsksDeep agreed graph c.ty spots (map (λ x. Slot x) words) [] [] (arm_of c) None old b edges → graph.nodes.now ≡ [] → StandOpen old b edges → IsCommon edges 0 (Some known) → SavesTogether agreed c words spots known old (closed b (landing_of 0 edges) (length b.code ∷ []))
+    → AsksDeep agreed graph c.ty spots (map (λ x. Slot x) words) [] [] (arm_of c) None old b edges → graph.nodes.now ≡ [] → StandOpen old b edges → IsCommonKnowledge edges 0 (Some known) → SavesTogether agreed c words spots known old (closed b (landing_of 0 edges) (length b.code ∷ []))
 saves_together agreed graph c words spots known old b edges asks none stand common = λ plan n of are low count.
     let a = asks plan n of are (slots_fit old.slots words low) (length-map words (λ x. Slot x) ∙ count) in
     let L = landing_of 0 edges in

@@ -10,7 +10,7 @@
 
 ghost use Rattle.std.specs.Prelude.{◌≡◌, ◌∷◌, ◌++◌, [], IfOk, IfSome, true};
 ghost use Rattle.rb_match.specs.declared.knowledge.Known.TheVariants.{Leaf};
-ghost use Rattle.rb_match.specs.inner.Knowing.{FollowsLeaf, FollowsSaved, IsMet, IsCommon, IsShared, SharesKnown};
+ghost use Rattle.rb_match.specs.inner.Knowing.{FollowsLeaf, FollowsSaved, IsMet, IsCommonKnowledge, IsShared, SharesKnown};
 
 use rb_core::seq::Seq;
 use rb_core::types::Ty;
@@ -291,7 +291,7 @@ pub fn node_known<'a>(
     edges: &[Edge<'a>],
     node: usize,
 ) -> Result<Option<Seq<Known<'a>>>, AllocError>
-    ensures { IfOk result (λ r. IsCommon edges.now node r) }
+    ensures { IfOk result (λ r. IsCommonKnowledge edges.now node r) }
 {
     let mut found = None;
     for edge in edges {

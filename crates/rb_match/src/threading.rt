@@ -20,7 +20,7 @@
 //! to be.
 
 ghost use Rattle.std.specs.Prelude.{◌≡◌, IfOk, IfSome, OnOk, true};
-ghost use Rattle.rb_match.specs.inner.Threading.{AllFollow, Ascend, AreThreaded, AreWild, BeginsWith, Covers, HasSub, IsAtLeaf, IsDecided, IsFirst, IsLeafOfAll, IsThreaded, IsWild, LeadsOn, ShowTogether, Tells, TellTogether, Threads};
+ghost use Rattle.rb_match.specs.inner.Threading.{AllFollow, Ascend, AreThreaded, AreWild, TellsConstructor, Covers, HasSub, IsAtLeaf, IsDecided, IsFirst, IsLeafOfAll, IsThreaded, IsWild, LeadsOn, ShowTogether, Tells, TellTogether, Threads};
 
 use crate::asking::{link_of, mark_tested_below};
 use crate::knowledge::{Edge, Known, copy_known, position_below};
@@ -54,7 +54,7 @@ fn sub_at<'a>(pat: &'a Pat, position: &[u32]) -> Option<&'a Pat>
 
 // The constructor with which a pattern begins; None for a wildcard, a variable or a number.
 fn con_of_pat(pat: &Pat) -> Option<ConRef>
-    ensures { IfSome result (λ con. BeginsWith pat.now con.con) }
+    ensures { IfSome result (λ con. TellsConstructor pat.now con.con) }
 {
     match pat {
         Pat::Wild(_) | Pat::Var(_, _) | Pat::Num(_, _) => None,

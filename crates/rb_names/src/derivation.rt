@@ -5,7 +5,7 @@
 
 ghost use Rattle.std.specs.Prelude.{◌≡◌, Some, IfOk, OnOk};
 ghost use Rattle.rb_auto.specs.Rooms.{AreTheRooms};
-ghost use Rattle.rb_names.specs.inner.Deriving.{IsAllDerived, IsNext, first_of};
+ghost use Rattle.rb_names.specs.inner.Deriving.{IsAllDerived, IsNext, earlier_refusal};
 
 use rb_auto::room::Room;
 use rb_auto::rooms::find_rooms;
@@ -27,7 +27,7 @@ impl Derived {
     // Keeps the refusal, if it is the first: a later one is dropped.
     fn refuse(&mut self, refusal: AutoFault)
         ensures layouts { self.new.layouts ≡ self.old.layouts }
-        ensures refused { self.new.refused ≡ first_of self.old.refused (Some refusal) }
+        ensures refused { self.new.refused ≡ earlier_refusal self.old.refused (Some refusal) }
     {
         if self.refused.is_none() {
             self.refused = Some(refusal);

@@ -17,7 +17,7 @@ use Rattle.rb_read.proofs.Open.{Open, one, many, first, next, the, a_number, a_l
 use Rattle.rb_read.proofs.Open as open_at
 use Rattle.rb_read.specs.inner.Tokens as tokens
 use Rattle.rb_read.specs.inner.Tokens.{lower_name, upper_name}
-use Rattle.rb_read.specs.inner.Reading.{LayoutRest, laid_out, auto_from, auto_word, layout_of, con_tree, param_tree, type_tree, expression, layout_tree, begins_item, file_items, fun_of, laid_out_of, type_of}
+use Rattle.rb_read.specs.inner.Reading.{LayoutRest, laid_out, auto_from, auto_word, layout_of, con_tree, param_tree, type_tree, expression, layout_tree, begins_item, file_items, fun_of, laid_out_of, type_item_of}
 use Rattle.rb_read.specs.inner.Reading as reading
 use Rattle.rb_read.proofs.Forms.{IsRight, Again, Clear, IsForm}
 use Rattle.rb_read.proofs.FormLaws.{nat_lt-zero, nothing-form, pair-form}
@@ -139,7 +139,7 @@ module _ (total limit : ℕ) where
 
   item-on : (t : Token) → AtToken total limit item item_written this t
   unfolding begins reading.file_item reading.file_item_from reading.type_item reading.layout_item reading.fun_item
-  item-on (tok.Reserved word.Type) = node-at type-form 0 refl (nat_lt-zero limit) (λ at. type_of) (λ ts. refl) (λ at. []) (λ at. tt) (λ at. tt) (λ at. refl) (λ at p rest. refl)
+  item-on (tok.Reserved word.Type) = node-at type-form 0 refl (nat_lt-zero limit) (λ at. type_item_of) (λ ts. refl) (λ at. []) (λ at. tt) (λ at. tt) (λ at. refl) (λ at p rest. refl)
   item-on (tok.Reserved word.Layout) = node-at-by layout-form 0 refl (nat_lt-zero limit) (λ at p. layout_of limit total at p.0 p.1) (λ ts. refl) layout_marks marks-are marks-all marks-small layout-written
   item-on (tok.Reserved word.Fun) = node-at fun-form 0 refl (nat_lt-zero limit) (λ at. fun_of) (λ ts. refl)
       (λ at. []) (λ at. tt) (λ at. tt) (λ at. refl) (λ at p rest. refl)
@@ -147,7 +147,7 @@ module _ (total limit : ℕ) where
 
   item-again : (x : ItemTree) (rest : List Written) → IsRight total (item_written x rest) → Clear none (tokens_in rest) → Again total limit this x (item_written x rest) rest
   unfolding reading.file_item reading.file_item_from reading.type_item reading.layout_item reading.fun_item
-  item-again (top.Types t) rest i c = node-again type-form (tok.Reserved word.Type) (λ at. type_of) (λ ts. refl) [] tt refl _ (t.name, (tt, t.cons)) rest _ refl (λ at h. refl) i c
+  item-again (top.Types t) rest i c = node-again type-form (tok.Reserved word.Type) (λ at. type_item_of) (λ ts. refl) [] tt refl _ (t.name, (tt, t.cons)) rest _ refl (λ at h. refl) i c
   item-again (top.Layouts t) rest i c = node-again layout-form (tok.Reserved word.Layout) (λ at p. layout_of limit total at p.0 p.1) (λ ts. refl) (number t.at ∷ []) tt refl _ (t.ty, laid_out t.shape t.tree) rest _ refl
       (λ at h. rw (← h.0) refl) i c
   item-again (top.Derived name a) rest i c = node-again layout-form (tok.Reserved word.Layout) (λ at p. layout_of limit total at p.0 p.1) (λ ts. refl) [] tt refl _ (name, reading.derived a) rest _ refl (λ at h. refl) i c

@@ -20,7 +20,7 @@ use Rattle.rb_read.specs.inner.Combining.{Reader, ReadOutcome, ◌>>=◌, pair, 
 use Rattle.rb_read.proofs.Open.{Open, one, maybe, many, first, the, a_number, a_field, a_range, into_field, begins, if_so, ahead_of}
 use Rattle.rb_read.proofs.Open as open_at
 use Rattle.rb_read.specs.inner.Tokens.{number, field}
-use Rattle.rb_read.specs.inner.Reading.{PathEnd, sliced, numbered, ends_path, range_rest, range, field_in, more_fields, path, path_end_from, field_part, part_kind_from, part_kind, part, item_from, item_one, no_pointer, pointer, lay_item_tree, field_part_of, pointer_of, word_of}
+use Rattle.rb_read.specs.inner.Reading.{PathEnd, sliced, numbered, ends_path, range_rest, range, field_in, more_fields, path, path_end_from, field_part, part_kind_from, part_kind, part, item_from, item_one, no_pointer, pointer, lay_item_tree, field_part_of, pointer_of, word_item_of}
 use Rattle.rb_read.specs.inner.Reading as reading
 use Rattle.rb_read.proofs.Forms.{IsRight, Again, Clear, IsForm}
 use Rattle.rb_read.proofs.FormLaws.{nat_lt-zero, all-clear, pair-form, first-strict, iso-form, bars-form, into-strict, alias-form}
@@ -216,7 +216,7 @@ module _ (total limit l : ℕ) (pointed : Reader PartKind) (arrow : IsPointed to
 
   item-on : (t : Token) → AtToken total limit (open_at.lay_item l) (at_item l) (item_one pointed) t
   unfolding begins item_one item_from
-  item-on (tok.Reserved word.Word) = node-at parts-form 0 refl (nat_lt-zero limit) (λ at. word_of) (λ ts. refl) (λ at. [])
+  item-on (tok.Reserved word.Word) = node-at parts-form 0 refl (nat_lt-zero limit) (λ at. word_item_of) (λ ts. refl) (λ at. [])
       (λ at. tt) (λ at. tt) (λ at. refl) (λ at p rest. word-written p.0 p.1.1 l rest)
   item-on (tok.Reserved word.Inline) = node-at fields-form 0 refl (nat_lt-zero limit) (λ at p. I.Inline (p.0 ∷ p.1)) (λ ts. inline-reads ts) (λ at. [])
       (λ at. tt) (λ at. tt) (λ at. refl) (λ at p rest. item-Inline (p.0 ∷ p.1) l rest)
@@ -232,7 +232,7 @@ module _ (total limit l : ℕ) (pointed : Reader PartKind) (arrow : IsPointed to
       → Again total limit (item_one pointed) x (at_item l x rest) rest
   unfolding item_one item_from
   item-again rest c = item_by_form (λ x. IsRight total (at_item l x rest) → Again total limit (item_one pointed) x (at_item l x rest) rest)
-      (λ bits parts i. node-again parts-form (tok.Reserved word.Word) (λ at. word_of) (λ ts. refl) [] tt refl _ (bits, (tt, parts)) rest _
+      (λ bits parts i. node-again parts-form (tok.Reserved word.Word) (λ at. word_item_of) (λ ts. refl) [] tt refl _ (bits, (tt, parts)) rest _
       (word-written bits parts l rest) (λ at h. refl) i (all-clear (tokens_in rest)))
       (λ ns i. inline-again rest c ns i)
 

@@ -14,7 +14,7 @@ use Rattle.rb_syntax.proofs.LayoutSpelling.{below-Wild, below-Var, below-Num, be
 use Rattle.rb_syntax.proofs.PatternInduction.{induction}
 use Rattle.rb_read.specs.inner.Combining.{Reader, into, nothing, in_parens, beyond}
 use Rattle.rb_read.proofs.Open.{maybe, fields, pat, below, prov, begins, as_pattern}
-use Rattle.rb_read.specs.inner.Reading.{named, begins_pattern, pattern_from, pattern_one, pattern, begins_below, below_from, below_one, is_upper, provenance_from, provenance_one, provenance}
+use Rattle.rb_read.specs.inner.Reading.{named, begins_pattern, pattern_from, pattern_one, pattern, begins_below, below_from, below_one, begins_provenance, provenance_from, provenance_one, provenance}
 use Rattle.rb_read.specs.inner.Reading as reading
 use Rattle.rb_read.proofs.Forms.{IsRight, Again, Clear, IsForm}
 use Rattle.rb_read.proofs.FormLaws.{nothing-form}
@@ -193,19 +193,19 @@ unfolding reading.below
 below-part total limit zero l e = below-zero total limit l e
 below-part total limit (suc n) l e = below-above total limit l (within limit l n e) (below-part total limit n (suc l) (omega (arith, e)))
 
-provenance-zero : (total limit l : ℕ) → l + 0 ≡ suc limit → IsPart total limit opens_paren (prov l) (λ p. prov_written p l) (λ ts. beyond is_upper ts)
+provenance-zero : (total limit l : ℕ) → l + 0 ≡ suc limit → IsPart total limit opens_paren (prov l) (λ p. prov_written p l) (λ ts. beyond begins_provenance ts)
 unfolding begins P.roll-PatTree denote.Hole.Carrier.roll P.out-PatTree denote.Hole.Carrier.out
-provenance-zero total limit l e = zero-form is_upper deeper none begun where
-  deeper : (t : Token) → is_upper t ≡ true → IsDeep limit (begins (prov l) t)
+provenance-zero total limit l e = zero-form begins_provenance deeper none begun where
+  deeper : (t : Token) → begins_provenance t ≡ true → IsDeep limit (begins (prov l) t)
   deeper (tok.Upper x) h = not-within limit l e
   deeper _ h = cc
 
-  none : (t : Token) → is_upper t ≡ false → begins (prov l) t ≡ None
+  none : (t : Token) → begins_provenance t ≡ false → begins (prov l) t ≡ None
   none (tok.Upper x) h = cc
   none _ h = refl
 
-  begun : (p : PatTree) (rest : List Written) → IsRight total (prov_written p l rest) → IsDeepBegun limit is_upper (prov_written p l rest)
-  begun p rest = by_form (λ q. IsRight total (prov_written q l rest) → IsDeepBegun limit is_upper (prov_written q l rest))
+  begun : (p : PatTree) (rest : List Written) → IsRight total (prov_written p l rest) → IsDeepBegun limit begins_provenance (prov_written p l rest)
+  begun p rest = by_form (λ q. IsRight total (prov_written q l rest) → IsDeepBegun limit begins_provenance (prov_written q l rest))
       (λ at i. absurd i.0)
       (λ at x i. flawed total _ rest (below-Var at x l rest) i)
       (λ at n i. flawed total _ rest (below-Num at n l rest) i)

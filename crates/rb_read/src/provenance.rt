@@ -26,7 +26,7 @@ use std::alloc::Global;
 
 // Whether the first token begins a provenance; not where there is no token.
 fn begins_provenance(placed: &[Placed]) -> bool
-    ensures { result ≡ combining.at_front (λ t. reading.is_upper t) (tokens placed.now) }
+    ensures { result ≡ combining.at_front (λ t. reading.begins_provenance t) (tokens placed.now) }
 {
     match placed {
         [] => false,

@@ -22,6 +22,7 @@ const PAIR: &str =
 // A cell that leads to itself.
 const CELL: &str = "root 0x40\nblock 64 16 02000000000000004000000000000000\n";
 
+// Here and in the tables below: an image, a type, the base and the place of the root word, what comes.
 const LISTS: [Row; 9] = [
     ("root 0x1\n", 0, 0, 0, "0"),
     ("root 0x1\n", 1, 0, 0, "0"),

@@ -154,7 +154,8 @@ fn runs_with_layouts(rt: HostRuntime) -> Result<(), Surprise> {
     expect_rows(rt.alloc(), "run E ", &ROWS)
 }
 
-// Words and answers: a million nodes and more in 304 bytes, and two billion in 480, which is one more than there are.
+// Words and answers: a million nodes and more in 304 bytes, and two billion in 480. In the third row
+// the region has just these, in the fourth one byte less.
 const LARGE: [(&str, &str); 4] = [
     ("run E 40 1024 19", "13 ribbit: value over 1000000 nodes;"),
     ("run E 40 1024 30", "13 ribbit: value over 1000000 nodes;"),

@@ -17,7 +17,7 @@ use Rattle.rb_layout.specs.Positions.{Open, open_positions}
 use Rattle.rb_layout.specs.Words.{words_in}
 use Rattle.rb_layout.specs.Flattening.{type_at, inlined, flat_leaf}
 use Rattle.rb_layout.specs.Items.{Content, Number, Whole, Slice, WordOf, Address}
-use Rattle.rb_layout.specs.Placing.{Standing, stands, standing, part_placed}
+use Rattle.rb_layout.specs.Placing.{Standing, standing_of, standing, part_placed}
 
 -- what is seen of a leaf, one after the other, as in its text
 pub data Seen : Type 0 where
@@ -42,7 +42,7 @@ seen_behind block (Pointer align b) = in_block (block b)
 -- what is seen of a part in a word of this width: the part, and behind a pointer its block,
 -- where `block b` is what is seen of block b
 abbrev pub part_seen : (ℕ → List Seen) → ℕ → Part → List Seen
-part_seen block width p = Has (stands width p) ∷ seen_behind block p.kind
+part_seen block width p = Has (standing_of width p) ∷ seen_behind block p.kind
 
 -- what is seen of a word: its width, then its parts one after the other, where `block b` is what is seen of block b
 abbrev pub word_seen : (ℕ → List Seen) → FlatWord → List Seen

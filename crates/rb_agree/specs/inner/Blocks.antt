@@ -38,8 +38,8 @@ abbrev pub ArePartsFine : List Part → Type 0
 ArePartsFine parts = EachOf (λ (p : Part). IsKind p.l p.kind) parts
 
 -- one of these parts is a pointer that fails as `why` says
-abbrev pub FailsParts : List Part → Why → Type 0
-FailsParts parts why = SomeOf (λ (p : Part). FailsKind p.l p.kind why) parts
+abbrev pub FailsPointerParts : List Part → Why → Type 0
+FailsPointerParts parts why = SomeOf (λ (p : Part). FailsKind p.l p.kind why) parts
 
 -- each pointer among the parts of these words is aligned and wide enough
 abbrev pub ArePointersFine : List FlatWord → Type 0
@@ -47,7 +47,7 @@ ArePointersFine words = EachOf (λ (f : FlatWord). ArePartsFine f.parts) words
 
 -- a pointer among the parts of these words fails as `why` says
 abbrev pub FailsPointers : List FlatWord → Why → Type 0
-FailsPointers words why = SomeOf (λ (f : FlatWord). FailsParts f.parts why) words
+FailsPointers words why = SomeOf (λ (f : FlatWord). FailsPointerParts f.parts why) words
 
 -- a word of a block has 8, 16, 32 or 64 bits
 abbrev pub HasWidth : FlatWord → Type 0
@@ -94,4 +94,4 @@ FailsNearPart blocks part why = FailsKind part.l part.kind why ⊎ FailsInBlocks
 
 -- a pointer among these parts fails as `why` says, or one of these blocks does
 abbrev pub FailsNear : List Block → List Part → Why → Type 0
-FailsNear blocks parts why = FailsParts parts why ⊎ FailsInBlocks blocks why
+FailsNear blocks parts why = FailsPointerParts parts why ⊎ FailsInBlocks blocks why

@@ -13,15 +13,15 @@ use Rattle.rb_compose.specs.Counts.{capped}
 use Rattle.rb_fetch.specs.declared.span.Span.{Span}
 
 -- w has at most so many bits as the width says; any number where no width is given
-abbrev pub IsSmall : Option ℕ → ℕ → Type 0
-IsSmall None w = Unit {0}
-IsSmall (Some width) w = w < 2 ^ width
+abbrev pub FitsWidth : Option ℕ → ℕ → Type 0
+FitsWidth None w = Unit {0}
+FitsWidth (Some width) w = w < 2 ^ width
 
 -- x is the bits of span p over slots s and memory m: its range of the word that its read means, no wider than p says
 pub record Spans (p : Span) (s : List ℕ) (m : Memory) (x : ℕ) : Type 0 where
   pub word : ℕ
   pub is_word : mean p.read s m ≡ Some word
-  pub small : IsSmall p.width word
+  pub small : FitsWidth p.width word
   pub are_bits : x ≡ take_of word p.o p.l
 
 -- Whatever the slots and the memory are, one range is what the other one is, and can be made where that can.

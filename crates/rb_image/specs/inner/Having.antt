@@ -17,8 +17,8 @@ use Rattle.rb_image.specs.Values.{IsDeclared, KeepsImage}
 
 -- the root words of an image that is sound for a declared type represent a value of it, in each memory that keeps the
 -- image's blocks
-abbrev pub HaveValues : Program → List Layout → Type 0
-HaveValues p layouts = (image : Image) (ty : Ty) → IsDeclared p.types ty → IsSoundImage p.types layouts image ty
+abbrev pub RootsHaveValues : Program → List Layout → Type 0
+RootsHaveValues p layouts = (image : Image) (ty : Ty) → IsDeclared p.types ty → IsSoundImage p.types layouts image ty
     → (m : Memory) → KeepsImage image.blocks m → (v : Value) × AreOf p m ty image.root v
 
 -- the root words of an image that is sound for a declared type represent a value of it, and all pointers fall

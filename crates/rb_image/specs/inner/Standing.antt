@@ -19,8 +19,8 @@ use Rattle.rb_image.specs.Splits.{and_then}
 use Rattle.rb_image.specs.Views.{LeafPosition}
 
 -- the position that a view has
-abbrev pub shown : View → LeafPosition
-shown v = record {
+abbrev pub position_shown : View → LeafPosition
+position_shown v = record {
   leaf = v.leaf.now;
   root = v.words.now.root.items;
   addresses = v.words.now.addresses.items;
@@ -31,7 +31,7 @@ shown v = record {
 -- the position that a view has, where there is a view
 abbrev pub shown_option : Option View → Option LeafPosition
 shown_option None = None
-shown_option (Some v) = Some (shown v)
+shown_option (Some v) = Some (position_shown v)
 
 -- the leaf of view v has few and short words, and the words of its blocks were read in m
 pub record IsShown (m : List ImageBlock) (v : View) : Type 0 where

@@ -57,8 +57,8 @@ others_of node (e ∷ es) = if e.hole.leaf == node then others_of node es else e
 -- Ways through a graph --------------------------------------------------------------------------
 
 -- the decision tree to which the graph unfolds from node n on
-abbrev pub tree_at : List GraphNode → ℕ → Tree
-tree_at nodes n = tree_under (node_trees nodes) n
+abbrev pub tree_from : List GraphNode → ℕ → Tree
+tree_from nodes n = tree_under (node_trees nodes) n
 
 -- the way, a list of positions, is one of those in the list
 abbrev pub HasWay : List Way → Way → Type 0
@@ -95,10 +95,10 @@ AllLookedAt job path = (p : TypedPosition) → IsPlaceIn p path
 -- same clause of it from there as from the root, and each way from there to a clause, behind these places, is one
 -- from the root
 pub record IsOn (job : Job) (v : Value) (n : ℕ) (path : List TypedPosition) : Type 0 where
-  pub same : (k : ℕ) → clause_taken (tree_at job.nodes job.root) v ≡ Some k → clause_taken (tree_at job.nodes n) v
+  pub same : (k : ℕ) → clause_taken (tree_from job.nodes job.root) v ≡ Some k → clause_taken (tree_from job.nodes n) v
       ≡ Some k
-  pub onward : (tail : Way) → HasWay (ways (tree_at job.nodes n)) tail
-      → HasWay (ways (tree_at job.nodes job.root)) (map path_of path ++ tail)
+  pub onward : (tail : Way) → HasWay (ways (tree_from job.nodes n)) tail
+      → HasWay (ways (tree_from job.nodes job.root)) (map path_of path ++ tail)
   pub looked : AllLookedAt job path
 
 -- Runs ------------------------------------------------------------------------------------------
@@ -139,7 +139,7 @@ pub record IsGiven (job : Job) (s : List ℕ) (m : Memory) (clean : Bool) (v : V
   pub meant : AreMeant job.words s m ws
   pub represents : Rep job.plan m clean job.ty v ws
   pub clause : ℕ
-  pub takes : clause_taken (tree_at job.nodes job.root) v ≡ Some clause
+  pub takes : clause_taken (tree_from job.nodes job.root) v ≡ Some clause
 
 -- what may be said of a run: of the finished code, of what goes on in it, and of the slots, the world and the value
 -- at its beginning
@@ -235,7 +235,7 @@ pub record AreClauseHoles (nodes : List GraphNode) (count : ℕ) (edges : List E
 pub record LeavesOn (job : Job) (final : List Instr) (next : Next) (holes : List Hole) (s : List ℕ) (w : World)
     (k : ℕ) : Type 0 where
   pub path : List TypedPosition
-  pub is_way : HasWay (ways (tree_at job.nodes job.root)) (map path_of path)
+  pub is_way : HasWay (ways (tree_from job.nodes job.root)) (map path_of path)
   pub looked : AllLookedAt job path
   pub leaves : GoesOutBy final next holes job.base (looks job.plan path) (length job.first.code) s w k
       (λ s' m. Unit {0})

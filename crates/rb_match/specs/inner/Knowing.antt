@@ -97,6 +97,6 @@ IsEdge e es = (k : ℕ) × (slice_get es k ≡ Some e)
 
 -- the facts r are so wherever those are that one of the edges to the node with this number carries; r is none only
 -- where that is never
-abbrev pub IsCommon : List Edge → ℕ → Option (List Known) → Type 0
-IsCommon edges node r =
+abbrev pub IsCommonKnowledge : List Edge → ℕ → Option (List Known) → Type 0
+IsCommonKnowledge edges node r =
     (at : View) (e : Edge) → IsEdge e edges → e.hole.leaf ≡ node → AreKnown at e.known → AreFound at r

@@ -34,7 +34,7 @@ use Rattle.rb_match.specs.Bounding.{TypedPosition}
 use Rattle.rb_match.specs.inner.Knowing.{AreKnown, IsKnown, View, seen}
 use Rattle.rb_match.specs.inner.Places.{IsLookedAt}
 use Rattle.rb_match.specs.inner.Asking.{StandOpen, take_link}
-use Rattle.rb_match.specs.inner.Flowing.{IsOn, job_of, looks, tree_at}
+use Rattle.rb_match.specs.inner.Flowing.{IsOn, job_of, looks, tree_from}
 
 -- What facts tell -------------------------------------------------------------------------------
 
@@ -56,9 +56,9 @@ abbrev pub TellTogether : LaidOut → List Known → List ℕ → Pat → Type 0
 TellTogether agreed known position sub =
     (at : View) → IsPlanOf agreed at.plan → AreKnown at known → MatchesAt at.value position sub
 
--- each value that the pattern matches begins with constructor number c
-abbrev pub BeginsWith : Pat → ℕ → Type 0
-BeginsWith pat c = (v : Value) → matches_of pat v ≡ true → (us : List Value) × (out-Value v ≡ V.Con c us)
+-- the pattern tells the constructor: each value that it matches begins with constructor number c
+abbrev pub TellsConstructor : Pat → ℕ → Type 0
+TellsConstructor pat c = (v : Value) → matches_of pat v ≡ true → (us : List Value) × (out-Value v ≡ V.Con c us)
 
 -- what is known decides a test at a position that some pattern looks at: it leads to this node whatever the value
 pub record IsDecided (agreed : LaidOut) (ty : Ty) (pats : List Pat) (known : List Known) (position : List ℕ)
@@ -116,7 +116,7 @@ LeadsOn agreed ty pats nodes known n m =
     → let job = job_of plan base spots ty words pats nodes root first in
     IsPlanOf agreed plan → LinksAreLower nodes
     → (clean : Bool) (v : Value) (s : List ℕ) (w : Memory) (clause : ℕ) (path : List TypedPosition)
-    → AreKnown (seen plan clean v spots s w) known → clause_taken (tree_at nodes root) v ≡ Some clause
+    → AreKnown (seen plan clean v spots s w) known → clause_taken (tree_from nodes root) v ≡ Some clause
     → IsOn job v n path
     → (longer : List TypedPosition) × (looks plan path ≤ looks plan longer) × IsOn job v m longer
 

@@ -17,16 +17,16 @@ abbrev pub MeanTheSame : {A : Type 0} → Table A → Table A → Type 0
 MeanTheSame t u = (name : Name) → meaning t name ≡ meaning u name
 
 -- the first refusal of two that may be there: the earlier one, or else the later one, or else none
-abbrev pub first_of : Option AutoFault → Option AutoFault → Option AutoFault
-first_of None later = later
-first_of (Some fault) later = Some fault
+abbrev pub earlier_refusal : Option AutoFault → Option AutoFault → Option AutoFault
+earlier_refusal None later = later
+earlier_refusal (Some fault) later = Some fault
 
 -- after is before with the answer for type t counted in: its layout at the end, or its refusal, where it is the first
 pub record IsNext (p : Program) (kinds : List (Option Auto)) (t : ℕ) (before after : Derived) : Type 0 where
   pub answer : Derives
   pub is_derived : IsDerived p kinds t answer
   pub layouts : after.layouts ≡ before.layouts ++ layouts_in (answer ∷ [])
-  pub refused : after.refused ≡ first_of before.refused (first_refusal (answer ∷ []))
+  pub refused : after.refused ≡ earlier_refusal before.refused (first_refusal (answer ∷ []))
 
 -- d has the layouts that are derived for these types, in their order, and the first refusal
 pub record IsAllDerived (p : Program) (kinds : List (Option Auto)) (ts : List ℕ) (d : Derived) : Type 0 where

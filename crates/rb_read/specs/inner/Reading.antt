@@ -106,10 +106,10 @@ unfoldable pub pattern : ℕ → ℕ → Reader PatTree
 pattern zero total ts = beyond begins_pattern ts
 pattern (suc n) total ts = pattern_one (λ us. pattern n total us) total ts
 
--- whether a token is a name that begins with a capital, as the first of a provenance is
-abbrev pub is_upper : Token → Bool
-is_upper (token.Upper name) = true
-is_upper _ = false
+-- whether a token begins a provenance: a name with a capital
+abbrev pub begins_provenance : Token → Bool
+begins_provenance (token.Upper name) = true
+begins_provenance _ = false
 
 -- whether a token begins what may stand below a provenance's constructor: a name with a capital, or `_`
 abbrev pub begins_below : Token → Bool
@@ -148,7 +148,7 @@ provenance_one inner total (t ∷ ts) = provenance_from inner (total - suc (leng
 -- a provenance, that is, the pattern at the head of a leaf: a constructor, with constructors and `_` below it; with
 -- so many levels left
 unfoldable pub provenance : ℕ → ℕ → Reader PatTree
-provenance zero total ts = beyond is_upper ts
+provenance zero total ts = beyond begins_provenance ts
 provenance (suc n) total ts = provenance_one (λ us. below n total us) total ts
 
 -- Expressions.
@@ -340,8 +340,8 @@ abbrev pub part_of : (ℕ × ℕ) × PartKind → PartDecl
 part_of ((first, bits), kind) = record { o = first; l = bits; kind = kind }
 
 -- a word of a leaf or block made of its width in bits, and its parts
-abbrev pub word_of : ℕ × (Unit {0} × List PartDecl) → LayItem
-word_of (bits, (_, parts)) = lay_item.Word bits parts
+abbrev pub word_item_of : ℕ × (Unit {0} × List PartDecl) → LayItem
+word_item_of (bits, (_, parts)) = lay_item.Word bits parts
 
 -- over the reader of what stands behind `->` in a part
 module _ (pointed : Reader PartKind) where
@@ -367,7 +367,7 @@ module _ (pointed : Reader PartKind) where
   -- other token is refused
   unfoldable pub item_from : Token → Reader LayItem
   item_from (token.Reserved word.Word) ts =
-      into word_of (pair number (pair (expect symbol.OpenBrace) (any_closed part symbol.CloseBrace))) ts
+      into word_item_of (pair number (pair (expect symbol.OpenBrace) (any_closed part symbol.CloseBrace))) ts
   item_from (token.Reserved word.Inline) ts = into (λ p. lay_item.Inline p) path ts
   item_from _ ts = refused ts
 
@@ -483,8 +483,8 @@ abbrev pub laid_out_of : List ℕ × (Unit {0} × (SplitTree × Unit {0})) → L
 laid_out_of (shape, (_, (tree, _))) = laid_out shape tree
 
 -- the item of a type, made of its name and its constructors
-abbrev pub type_of : NameTree × (Unit {0} × List ConTree) → ItemTree
-type_of (name, (_, cons)) = top.Types (record { name = name; cons = cons })
+abbrev pub type_item_of : NameTree × (Unit {0} × List ConTree) → ItemTree
+type_item_of (name, (_, cons)) = top.Types (record { name = name; cons = cons })
 
 -- the item of a function, made of its name, its parameters, its type of results, and its body
 abbrev pub fun_of : NameTree × (Unit {0} × (List ParamTree × (Unit {0} × (TyTree × (Unit {0}
@@ -518,7 +518,7 @@ module _ (limit total : ℕ) where
 
   -- a type behind its word: `T = A | B(u8);`
   unfoldable pub type_item : Reader ItemTree
-  type_item = into type_of
+  type_item = into type_item_of
       (pair (upper_name total) (pair (expect symbol.Equals) (some_closed (con_tree total) symbol.Bar symbol.Semicolon)))
 
   -- a layout behind its word, which has number `at`: `T <64> = ..;` or `T = boxed;`

@@ -183,13 +183,13 @@ value_of (Number n) = n
 value_of w = 0
 
 -- the number that a word is, or 0 if there is no word or it is no number
-abbrev pub value_in : Option LineWord → ℕ
-value_in None = 0
-value_in (Some w) = value_of w
+abbrev pub value_or_zero : Option LineWord → ℕ
+value_or_zero None = 0
+value_or_zero (Some w) = value_of w
 
 -- the number at a place among the words, from 0 on
 abbrev pub number_at : List LineWord → ℕ → ℕ
-number_at ws k = value_in (slice_get ws k)
+number_at ws k = value_or_zero (slice_get ws k)
 
 -- the number at a place as a byte: its last eight bits, which are the whole number in a whole line, as numbers of
 -- bits, offsets and lengths of bits and widths are at most 64 there

@@ -50,13 +50,13 @@ then_on t (o ∷ os) (sign.Name at x) = None
 then_on t (o ∷ os) sign.Other = None
 
 -- the state behind a sign where a value is to begin: a number is whole, and a name stands; none at other signs
-abbrev pub first_of : List Wait → Sign → Option State
-first_of os (sign.Number at n) = Some (complete (number at n) os)
-first_of os (sign.Name at x) = Some (named at x os)
-first_of os sign.Open = None
-first_of os sign.Close = None
-first_of os sign.Comma = None
-first_of os sign.Other = None
+abbrev pub after_start : List Wait → Sign → Option State
+after_start os (sign.Number at n) = Some (complete (number at n) os)
+after_start os (sign.Name at x) = Some (named at x os)
+after_start os sign.Open = None
+after_start os sign.Close = None
+after_start os sign.Comma = None
+after_start os sign.Other = None
 
 -- the state behind the name at byte `at` and one more sign: its fields begin, or it is whole without fields and the
 -- sign follows it; none where no value goes on with the sign
@@ -70,7 +70,7 @@ after_name at x os sign.Other = None
 
 -- the state behind one more sign; none where no value goes on with it
 abbrev pub step : State → Sign → Option State
-step (expecting os) s = first_of os s
+step (expecting os) s = after_start os s
 step (named at x os) s = after_name at x os s
 step (complete t os) s = then_on t os s
 

@@ -3,7 +3,7 @@ use Rattle.std.specs.Prelude.{if◌then◌else◌}
 use Rattle.std.proofs.lemmas.Option.{slice_get_read}
 use Rattle.rb_image.specs.Rebuilds.{match_fields, matches}
 use Rattle.rb_image.specs.Views.{down}
-use Rattle.rb_image.specs.inner.Standing.{shown}
+use Rattle.rb_image.specs.inner.Standing.{position_shown}
 use Rattle.rb_image.proofs.GivenLemmas.{first_err}
 use Rattle.rb_image.proofs.LookLemmas.{given_on}
 use Rattle.rb_image.proofs.MatchLemmas.{fields_on, weight_among, weight_con, weights}
@@ -34,9 +34,9 @@ match_fields-returns-in_err-matches t c =
     let gos = matches types c.args.agreed.now.layouts c.args.image.now.blocks in
     let pats = c.args.pats.now in
     let i = c.loop-i.i in
-    let x = shown c.args.view.now in
+    let x = position_shown c.args.view.now in
     let pat = c.index-pats-i.result in
-    let y = shown c.in-Some.below in
+    let y = position_shown c.in-Some.below in
     let same : c.as_slice-types.result.now ≡ types = c.as_slice-types.ensures ∙ ap (λ q. q.types) (c.program.ensures.same ∙ ap (λ k. k.program) c.covered.ensures.same) in
     let there : down types x i ≡ Some y = ap (λ ts. down ts x i) (sym same) ∙ ap (down c.as_slice-types.result.now x) (sym c.in_ok-field.ensures) ∙ sym c.in-Some.ensures.below in
     let is = slice_get_read pats (length pats) i pat refl c.loop-i-test.true c.index-pats-i.is in

@@ -1,6 +1,6 @@
 use Rattle.std.proofs.Common.{◌≡◌, ◌+◌, ◌*◌, map, drop}
 use Rattle.rb_image.specs.Rebuilds.{match_fields, matches}
-use Rattle.rb_image.specs.inner.Standing.{shown}
+use Rattle.rb_image.specs.inner.Standing.{position_shown}
 use Rattle.rb_image.proofs.MatchLemmas.{weight, weights}
 use Rattle.rb_image.proofs.matching.+matching.Given as goal
 
@@ -8,7 +8,7 @@ abbrev pub invariant-match_fields-loop-i : goal.invariant-match_fields-loop-i
 invariant-match_fields-loop-i l =
     let types = l.agreed.covered.program.types in
     let gos = matches types l.agreed.layouts l.image.blocks in
-    match_fields types (map gos l.pats) (shown l.view) 0 ≡ match_fields types (map gos (drop l.i l.pats)) (shown l.view) l.i
+    match_fields types (map gos l.pats) (position_shown l.view) 0 ≡ match_fields types (map gos (drop l.i l.pats)) (position_shown l.view) l.i
 
 abbrev pub decreases-matches : goal.decreases-matches
 decreases-matches l = 3 * weight l.prov.now

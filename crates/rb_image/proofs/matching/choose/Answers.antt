@@ -2,7 +2,7 @@ use Rattle.std.proofs.Common.{◌+◌, length, drop, Ok, refl, sym, ap, ◌∙�
 use Rattle.std.proofs.lemmas.Option.{slice_get_read}
 use Rattle.std.proofs.lemmas.Bool.{false≢true}
 use Rattle.rb_image.specs.Rebuilds.{chosen, matches}
-use Rattle.rb_image.specs.inner.Standing.{or_before, shown}
+use Rattle.rb_image.specs.inner.Standing.{or_before, position_shown}
 use Rattle.rb_image.proofs.GivenLemmas.{due_is, fault_is}
 use Rattle.rb_image.proofs.MatchLemmas.{leaf_passed, leaf_unknown}
 use Rattle.rb_image.proofs.matching.choose.Goals as goal
@@ -16,7 +16,7 @@ loop-leaf-preserved c =
     let leaves = c.args.leaves.now in
     let k = c.loop-leaf.leaf-index in
     let leaf = c.leaf-item.result in
-    let x = shown c.args.view.now in
+    let x = position_shown c.args.view.now in
     let is = slice_get_read leaves (length leaves) k leaf refl c.loop-leaf-test.true c.leaf-item.is in
     let due = matches types layouts m leaf.prov x in
     let later = chosen types layouts m (drop (k + 1) leaves) x in

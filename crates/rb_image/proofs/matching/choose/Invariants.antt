@@ -1,10 +1,10 @@
 use Rattle.std.proofs.Common.{◌≡◌, drop}
 use Rattle.rb_image.specs.Rebuilds.{chosen}
-use Rattle.rb_image.specs.inner.Standing.{or_before, shown}
+use Rattle.rb_image.specs.inner.Standing.{or_before, position_shown}
 use Rattle.rb_image.proofs.matching.choose.Given as goal
 
 abbrev pub invariant-loop-leaf : goal.invariant-loop-leaf
 invariant-loop-leaf l =
     let types = l.agreed.covered.program.types in
     let m = l.image.blocks in
-    chosen types l.agreed.layouts m l.leaves (shown l.view) ≡ or_before l.before (chosen types l.agreed.layouts m (drop l.leaf-index l.leaves) (shown l.view))
+    chosen types l.agreed.layouts m l.leaves (position_shown l.view) ≡ or_before l.before (chosen types l.agreed.layouts m (drop l.leaf-index l.leaves) (position_shown l.view))

@@ -8,7 +8,7 @@ use Rattle.rb_image.specs.declared.pack.FieldWords.{FieldWords}
 use Rattle.rb_image.specs.Rebuilds.{chosen, fields_at, packed, rebuilt_within}
 use Rattle.rb_image.specs.Splits.{and_then}
 use Rattle.rb_layout.specs.Opens.{opens_at}
-use Rattle.rb_image.specs.inner.Standing.{shown}
+use Rattle.rb_image.specs.inner.Standing.{position_shown}
 use Rattle.rb_image.proofs.GivenLemmas.{first_err}
 use Rattle.rb_image.proofs.LookLemmas.{given_ok, given_on}
 use Rattle.rb_image.proofs.RebuildLemmas.{in_leaf, rebuilt_more}
@@ -23,7 +23,7 @@ rebuild_within-returns-in_err-leaf t c =
     let types = c.args.agreed.now.covered.program.types in
     let layouts = c.args.agreed.now.layouts in
     let m = c.args.image.now.blocks in
-    let x = shown c.args.view.now in
+    let x = position_shown c.args.view.now in
     let ty = c.args.ty in
     let layout = c.in-Some.layout.now in
     let ls = c.layouts.result.now in
@@ -40,7 +40,7 @@ rebuild_within-returns-in_err-fields t c =
     let types = c.args.agreed.now.covered.program.types in
     let layouts = c.args.agreed.now.layouts in
     let m = c.args.image.now.blocks in
-    let x = shown c.args.view.now in
+    let x = position_shown c.args.view.now in
     let ty = c.args.ty in
     let layout = c.in-Some.layout.now in
     let ls = c.layouts.result.now in
@@ -64,7 +64,7 @@ rebuild_within-returns t c =
     let types = c.args.agreed.now.covered.program.types in
     let layouts = c.args.agreed.now.layouts in
     let m = c.args.image.now.blocks in
-    let x = shown c.args.view.now in
+    let x = position_shown c.args.view.now in
     let ty = c.args.ty in
     let layout = c.in-Some.layout.now in
     let ls = c.layouts.result.now in

@@ -1,7 +1,7 @@
 use Rattle.std.proofs.Common.{[], length, refl, subst, arith}
 use Rattle.rb_core.specs.declared.types.Ty.TheVariants.{Named}
 use Rattle.rb_match.specs.declared.spots.Whole.{Whole}
-use Rattle.rb_match.specs.inner.Knowing.{IsCommon}
+use Rattle.rb_match.specs.inner.Knowing.{IsCommonKnowledge}
 use Rattle.rb_match.proofs.Landing.{landing_hole}
 use Rattle.rb_match.proofs.Nodes.{closed_grows}
 use Rattle.rb_match.proofs.Together.{saves_together}
@@ -12,7 +12,7 @@ land-requires c = λ e i. let s = c.in_ok-edges.ensures.stand.are_open e i in (o
 
 pub returns-clause-saves : goal.returns-clause-saves
 returns-clause-saves c =
-    let common = subst (λ r. IsCommon c.in_ok-edges.edges 0 r) c.in-Some.is (rw c.as_slice.ensures at c.in_ok-known.ensures) in
+    let common = subst (λ r. IsCommonKnowledge c.in_ok-edges.edges 0 r) c.in-Some.is (rw c.as_slice.ensures at c.in_ok-known.ensures) in
     let graph : Whole = record { ty = Named c.args.con.ty; pats = record { ref_ptr = (0, 0); now = [] }; nodes = record { ref_ptr = (0, 0); now = [] } } in
     rw c.in_ok-_rest.ensures.code (saves_together c.args.agreed.now graph c.args.con c.args.words.now c.args.spots.now c.in-Some.known c.args.body.now c.ask_deep.new.body c.in_ok-edges.edges
     (rw (c.as_slice-reads.ensures, c.in_ok-reads.ensures) at c.in_ok-edges.ensures.asks) refl c.in_ok-edges.ensures.stand common)

@@ -1,11 +1,11 @@
 use Rattle.std.proofs.Common.{subst}
-use Rattle.rb_match.specs.inner.Knowing.{IsCommon}
+use Rattle.rb_match.specs.inner.Knowing.{IsCommonKnowledge}
 use Rattle.rb_match.proofs.Nodes.{steps_node}
 use Rattle.rb_match.proofs.engine.emit_node.Goals as goal
 
 pub returns-in-None : goal.returns-in-None
 returns-in-None c =
-    let common = subst (λ r. IsCommon c.args.edges c.args.number r) c.in-Some.is (rw c.as_slice.ensures at c.in_ok-known-in-Test.ensures) in
+    let common = subst (λ r. IsCommonKnowledge c.args.edges c.args.number r) c.in-Some.is (rw c.as_slice.ensures at c.in_ok-known-in-Test.ensures) in
     let code = c.in_ok-rest-in-Test.ensures.code in
     let rest = c.in_ok-rest-in-Test.ensures.rest in
     rw (c.in-Test.is, c.in-None.ensures, rest) (steps_node c.args.agreed.now c.args.graph.now c.args.subject.now.words.now c.args.subject.now.spots.now c.in-Test.position c.in-Test.arms c.in-Test.other c.args.number c.args.body.now c.args.edges c.in-Some.known common
