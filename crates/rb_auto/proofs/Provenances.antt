@@ -21,7 +21,7 @@ use Rattle.rb_core.specs.Values.{fields_in, fields_of, fields_of_con}
 use Rattle.rb_core.specs.Typing.{PatternRule, Typing, also_bound, distinct_binders, field_types, fields_match, pattern_binders, pattern_params, pattern_step, same_type, subpatterns}
 use Rattle.rb_core.specs.TypedPrograms.{first_fault, layout_fault, provenance_fault}
 use Rattle.rb_core.proofs.PatternLaws.{fold-Wild, fold-Var, fold-Num, fold-Con, Each, Cases, induction}
-use Rattle.rb_core.proofs.TypedForms.{came, constructed, same_type-is}
+use Rattle.rb_core.proofs.TypingAnswers.{came, constructed, same_type-is}
 use Rattle.rb_layout.specs.Positions.{Open, below, opens_below, opens_of, opens_step, open_positions, root_type, types_or_none}
 use Rattle.rb_layout.specs.Flattening.{type_at}
 use Rattle.rb_layout.specs.Cycles.{IsChain}

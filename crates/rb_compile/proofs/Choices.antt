@@ -1,12 +1,10 @@
 -- A match, from its scrutinee, the choice of a clause and the arms.
-use Rattle.std.proofs.Common.{◌≡◌, ◌++◌, ℕ, zero, suc, ◌+◌, ◌<◌, ◌≤◌, inl, Bool, true, false, List, [], ◌∷◌, map, length, Option, Some, None, Ok, refl, sym, subst, ap, ◌∙◌, arith}
+use Rattle.std.proofs.Common.{◌≡◌, ◌++◌, ℕ, zero, suc, ◌+◌, ◌<◌, ◌≤◌, inl, Bool, true, false, List, [], ◌∷◌, map, length, Option, Some, None, refl, sym, subst, ap, ◌∙◌, arith}
 use Rattle.std.proofs.lemmas.Option.{same_Some, slice_get_within}
 use Rattle.std.specs.Prelude.{slice_get, is_some, if◌then◌else◌}
 use Rattle.rb_core.specs.declared.value.Value.{Value}
 use Rattle.rb_core.specs.declared.types.Ty.{Ty}
 use Rattle.rb_core.specs.declared.types.DataDecl.{DataDecl}
-use Rattle.rb_core.specs.declared.typing.Binder.{Binder}
-use Rattle.rb_core.specs.declared.program.Fun.{Fun}
 use Rattle.rb_core.specs.declared.binding.Binding.{Binding}
 use Rattle.rb_core.specs.declared.pattern.Pat.{Pat}
 use Rattle.rb_core.specs.declared.expression.Clause.{Clause}
@@ -18,13 +16,11 @@ use Rattle.rb_core.specs.Clauses.{PatternIsTyped, pat_of, wanted_of}
 use Rattle.rb_core.specs.Inference.{binders, inferred_type}
 use Rattle.rb_core.specs.Matching.{bindings, chosen_clause, matches_of, next_clause}
 use Rattle.rb_core.specs.Meaning.{Calls, after, clause_meaning, first_of, meaning_of, spent, then_do}
-use Rattle.rb_core.specs.Typing.{clause_rule, clauses, pattern_binders, type_of}
 use Rattle.rb_core.specs.Values.{is_of_type}
 use Rattle.rb_core.proofs.MeaningForms.{meaning-Match}
 use Rattle.rb_core.proofs.NumberedForms.{numbered-Match}
 use Rattle.rb_core.proofs.PartForms.{first_chosen}
-use Rattle.rb_core.proofs.TypedForms.{Came, came, ok-same, typed-Match}
-use Rattle.rb_core.proofs.TypingLemmas.{type-Clause, type-Match}
+use Rattle.rb_core.proofs.TypedForms.{patterns_typed, typed-Match}
 use Rattle.rb_bytes.specs.Memory.{Memory, IsGood}
 use Rattle.rb_bytes.proofs.GrowthLemmas.{Grown-extends, Grown-refl}
 use Rattle.rb_target.specs.declared.body.Hole.{Hole}
@@ -100,29 +96,6 @@ chosen_is (c ∷ cs) v k e = go (matches_of c.pat v) refl k e (λ j h. chosen_is
 pub patterns_are : (types : List DataDecl) (s : Ty) (cs : List Clause) → ((k : ℕ) (c : Clause) → slice_get cs k ≡ Some c → PatternIsTyped types s c.pat) → PatternsAreTyped types s (map pat_of cs)
 patterns_are types s [] h = tt
 patterns_are types s (c ∷ cs) h = (h 0 c refl, patterns_are types s cs (λ k x at. h (suc k) x at))
-
--- each clause's pattern is typed, at the type of the scrutinee
-module _ (types : List DataDecl) (funs : List Fun) where
-  abbrev pub AllTyped : Ty → List Clause → Type 0
-  AllTyped s cs = (k : ℕ) (c : Clause) → slice_get cs k ≡ Some c → PatternIsTyped types s c.pat
-
-  patterns_in : (cs : List Clause) (s : Ty) (wanted : Option Ty) (scope : List Binder) (t : Ty) → clauses (map (clause_rule types funs) cs) s wanted scope ≡ Ok t → AllTyped s cs
-  patterns_in [] s wanted scope t e k c at = cc
-  patterns_in (d ∷ cs) s wanted scope t e k c at = pick k at (λ u h j there. patterns_in cs s (Some u) scope t h j c there) (came (clause_rule types funs d s wanted scope) (λ found. clauses (map (clause_rule types funs) cs) s (Some found) scope) t e)
-    where
-      pick : (k : ℕ) → slice_get (d ∷ cs) k ≡ Some c → ((u : Ty) → clauses (map (clause_rule types funs) cs) s (Some u) scope ≡ Ok t → (j : ℕ) → slice_get cs j ≡ Some c → PatternIsTyped types s c.pat)
-          → Came (clause_rule types funs d s wanted scope) (λ found. clauses (map (clause_rule types funs) cs) s (Some found) scope) t → PatternIsTyped types s c.pat
-      pick zero at more first =
-          let is : d ≡ c = cc at in
-          let within = came (pattern_binders types d.pat s) (λ bs. type_of types funs d.body wanted (scope ++ bs)) first.from (sym (type-Clause types funs d.pat d.body s wanted scope) ∙ first.first_is) in
-          subst (λ (x : Clause). PatternIsTyped types s x.pat) is (within.from, within.first_is)
-      pick (suc k) at more first = more first.from first.then_is k at
-
-  pub patterns_typed : (at : ℕ) (e : Expr) (cs : List Clause) (wanted : Option Ty) (scope : List Binder) (t s : Ty) → type_of types funs (X.Match at e cs) wanted scope ≡ Ok t → type_of types funs e None scope ≡ Ok s → AllTyped s cs
-  patterns_typed at e cs wanted scope t s typed first =
-      let h = came (type_of types funs e None scope) (λ s. clauses (map (clause_rule types funs) cs) s wanted scope) t (sym (type-Match types funs at e cs wanted scope) ∙ typed) in
-      let same : h.from ≡ s = ok-same (sym h.first_is ∙ first) in
-      subst (λ u. AllTyped u cs) same (patterns_in cs h.from wanted scope t h.then_is)
 
 -- arms that do one thing do what follows from it
 arms_map : (count : ℕ) (e q : Sheet) (joins : List Hole) (starts : List ℕ) (P Q : ℕ → Sheet → Sheet → ℕ → Type 0) → ((k : ℕ) (a d : Sheet) (join : ℕ) → k < count → P k a d join → Q k a d join)

@@ -19,7 +19,7 @@ use Rattle.rb_core.specs.Typing.{type_of}
 use Rattle.rb_core.proofs.MeaningForms.{meaning-Match}
 use Rattle.rb_core.proofs.NumberedForms.{numbered-Match}
 use Rattle.rb_core.proofs.PartForms.{first_chosen}
-use Rattle.rb_core.proofs.TypedForms.{typed-Match}
+use Rattle.rb_core.proofs.TypedForms.{patterns_typed, typed-Match}
 use Rattle.rb_bytes.specs.Memory.{Memory, IsGood}
 use Rattle.rb_bytes.proofs.GrowthLemmas.{Grown-extends, Grown-refl}
 use Rattle.rb_target.specs.declared.instr.Instr.{Instr}
@@ -54,7 +54,7 @@ use Rattle.rb_compile.specs.inner.Ready.{SiteIsReady}
 use Rattle.rb_compile.specs.inner.Forms.{EmitsExpr, meant}
 use Rattle.rb_compile.specs.inner.Arms.{GroundIsReady, IsSubject}
 use Rattle.rb_compile.specs.inner.Tails.{AddsTail, DoesTailNumber, EmitsReturn, EmitsTailArms, IsTail, Tail, TailArmIn, TailArmsAre, TailArmsDone, TailArmsIn, TailsAreReady}
-use Rattle.rb_compile.proofs.Choices.{chosen_is, patterns_are, patterns_typed, rep_typed, some_at, some_of}
+use Rattle.rb_compile.proofs.Choices.{chosen_is, patterns_are, rep_typed, some_at, some_of}
 use Rattle.rb_compile.proofs.Sites.{ready-Match}
 use Rattle.rb_compile.proofs.Returning.{is_tail_behind, same_tail, tail_behind, tail_closed, value_then_tail}
 

@@ -1,6 +1,6 @@
 -- The inferred type of an expression is the type that typing gives it, where typing gives one.
-use Rattle.std.proofs.Common.{◌≡◌, ℕ, List, [], ◌∷◌, ◌++◌, map, length, Option, Some, None, Ok, Err, Bool, true, false, ◌==◌, refl, sym, ap, ◌∙◌, eqb-true}
-use Rattle.std.specs.Prelude.{if◌then◌else◌, unwrap_or}
+use Rattle.std.proofs.Common.{◌≡◌, ℕ, List, [], ◌∷◌, ◌++◌, map, length, Option, Some, None, Ok, ◌==◌, refl, sym, ap, ◌∙◌, eqb-true}
+use Rattle.std.specs.Prelude.{unwrap_or}
 use Rattle.std.proofs.lemmas.List.{map-append, length-map}
 use Rattle.rb_core.specs.declared.types.Ty.{Ty}
 use Rattle.rb_core.specs.declared.types.Ty.TheVariants.{Int, Named}
@@ -9,61 +9,22 @@ use Rattle.rb_core.specs.declared.types.DataDecl.{DataDecl}
 use Rattle.rb_core.specs.declared.program.Param.{Param}
 use Rattle.rb_core.specs.declared.program.Fun.{Fun}
 use Rattle.rb_core.specs.declared.typing.Binder.{Binder}
-use Rattle.rb_core.specs.declared.typing.TypeFault.{TypeFault}
 use Rattle.rb_core.specs.declared.pattern.Pat as Q
 use Rattle.rb_core.specs.declared.pattern.Pat.{Pat}
 use Rattle.rb_core.specs.declared.expression.Op.{Op}
 use Rattle.rb_core.specs.declared.expression.Clause.{Clause}
 use Rattle.rb_core.specs.declared.expression.Expr.{Expr}
-use Rattle.rb_core.specs.Typing.{Typing, and_then, same_type, as_wanted, type_holds, number, integer, distinct_binders, twice_at, repeated, binder_of, field_types, subpatterns, pattern_params, pattern_binders, arguments, param_types, result_type, operand_wanted, operator_type, integer_operand, operands, clauses, rule_of, clause_rule, type_of, variable_type}
+use Rattle.rb_core.specs.Typing.{Typing, same_type, as_wanted, type_holds, number, integer, distinct_binders, twice_at, repeated, binder_of, field_types, subpatterns, pattern_params, pattern_binders, arguments, param_types, result_type, operand_wanted, operator_type, integer_operand, operands, clauses, rule_of, clause_rule, type_of, variable_type}
 use Rattle.rb_core.specs.Inference.{Inference, binders, all_binders, operands_type, match_type, inferred_type, clause_inferred, binders_step}
 use Rattle.rb_core.proofs.PatternLaws as PL
 use Rattle.rb_core.proofs.ExpressionLaws as EL
 use Rattle.rb_core.proofs.TypingLemmas.{pattern-Wild, pattern-Var, pattern-Num, pattern-Con, type-Num, type-Var, type-Call, type-Build, type-Binary, type-To, type-Let, type-Match, type-Clause}
+use Rattle.rb_core.proofs.TypingAnswers.{came, chosen, constructed, fits_found, fits_wanted, integer_is}
 use Rattle.rb_core.proofs.InferenceForms.{inferred-Num, inferred-Var, inferred-Call, inferred-Build, inferred-Binary, inferred-To, inferred-Let, inferred-Match, clause_inferred-is}
-
--- what came before an answer
-pub record Came {A B : Type 0} (first : Typing A) (go : A → Typing B) (b : B) : Type 0 where
-  pub from : A
-  pub first_is : first ≡ Ok from
-  pub then_is : go from ≡ Ok b
-
-came : {A B : Type 0} (first : Typing A) (go : A → Typing B) (b : B) → and_then first go ≡ Ok b → Came first go b
-came (Ok a) go b e = record { from = a; first_is = refl; then_is = e }
-came (Err f) go b e = cc
-
-same_type-is : (t u : Ty) → same_type t u ≡ true → t ≡ u
-same_type-is (Int n) (Int m) e = ap Int (eqb-true n m e)
-same_type-is (Int n) (Named t) e = cc
-same_type-is (Named t) (Int n) e = cc
-same_type-is (Named t) (Named s) e = ap Named (eqb-true t s e)
-
--- a choice of an answer and a fault that gave an answer
-chosen : {A : Type 0} (b : Bool) (a t : A) (f : TypeFault) → (if b then Ok a else Err f) ≡ Ok t → (b ≡ true) × (a ≡ t)
-chosen true a t f e = (refl, cc)
-chosen false a t f e = cc
-
--- what fits is what was found, and is what was wanted
-fits-found : (at : ℕ) (wanted : Option Ty) (found t : Ty) → as_wanted at wanted found ≡ Ok t → found ≡ t
-fits-found at None found t e = cc
-fits-found at (Some w) found t e =
-    let c = chosen (same_type w found) w t _ e in sym (same_type-is w found c.0) ∙ c.1
-
-fits-wanted : (at : ℕ) (w found t : Ty) → as_wanted at (Some w) found ≡ Ok t → w ≡ t
-fits-wanted at w found t e = (chosen (same_type w found) w t _ e).1
 
 number-is : (at n : ℕ) (wanted : Option Ty) (t : Ty) → number at n wanted ≡ Ok t → unwrap_or wanted (Int 64) ≡ t
 number-is at n None t e = cc
 number-is at n (Some w) t e = (chosen (type_holds w n) w t _ e).1
-
-integer-is : (at : ℕ) (u t : Ty) → integer at u ≡ Ok t → u ≡ t
-integer-is at (Int n) t e = cc
-integer-is at (Named s) t e = cc
-
--- a choice of what typing gave and a fault that gave an answer
-constructed : {A : Type 0} (b : Bool) (a : Typing A) (f : TypeFault) (t : A) → (if b then a else Err f) ≡ Ok t → (b ≡ true) × (a ≡ Ok t)
-constructed true a f t e = (refl, e)
-constructed false a f t e = cc
 
 distinct-are : (ps : List Param) (bs : List Binder) → distinct_binders ps ≡ Ok bs → map binder_of ps ≡ bs
 distinct-are ps bs e = of_repeat (repeated ps) e
@@ -138,41 +99,36 @@ module _ (types : List DataDecl) (funs : List Fun) where
   abbrev IsInferred : Expr → Type 0
   IsInferred e = (wanted : Option Ty) (scope : List Binder) (t : Ty) → ty e wanted scope ≡ Ok t → inferred_type types funs e wanted scope ≡ t
 
-  -- a clause that has a type, with its binders
-  pub record TypedClause (c : Clause) (s : Ty) (wanted : Option Ty) (scope : List Binder) (t : Ty) : Type 0 where
-    pub body : ty c.body wanted (scope ++ binders types c.pat s) ≡ Ok t
-
-  typed_clause : (c : Clause) (s : Ty) (wanted : Option Ty) (scope : List Binder) (t : Ty) → clause_rule types funs c s wanted scope ≡ Ok t → TypedClause c s wanted scope t
-  typed_clause c s wanted scope t e =
+  -- a clause that is typed has a body that is, with the pattern's binders
+  pub clause_typed : (c : Clause) (s : Ty) (wanted : Option Ty) (scope : List Binder) (t : Ty) → clause_rule types funs c s wanted scope ≡ Ok t → ty c.body wanted (scope ++ binders types c.pat s) ≡ Ok t
+  clause_typed c s wanted scope t e =
       let within = came (pattern_binders types c.pat s) (λ bs. ty c.body wanted (scope ++ bs)) t (sym (type-Clause types funs c.pat c.body s wanted scope) ∙ e) in
-      record {
-        body = ap (λ bs. ty c.body wanted (scope ++ bs)) (sym (pattern_binders-are types c.pat s within.from within.first_is)) ∙ within.then_is;
-      }
+      ap (λ bs. ty c.body wanted (scope ++ bs)) (sym (pattern_binders-are types c.pat s within.from within.first_is)) ∙ within.then_is
 
   clauses-wanted : (cs : List Clause) (s w : Ty) (scope : List Binder) (t : Ty) → EL.EachBody HasWanted cs
       → clauses (map (clause_rule types funs) cs) s (Some w) scope ≡ Ok t → w ≡ t
   clauses-wanted [] s w scope t each e = cc
   clauses-wanted (c ∷ cs) s w scope t each e =
       let first = came (clause_rule types funs c s (Some w) scope) (λ found. clauses (map (clause_rule types funs) cs) s (Some found) scope) t e in
-      let here = typed_clause c s (Some w) scope first.from first.first_is in
-      each.0 w (scope ++ binders types c.pat s) first.from here.body ∙ clauses-wanted cs s first.from scope t each.1 first.then_is
+      let here = clause_typed c s (Some w) scope first.from first.first_is in
+      each.0 w (scope ++ binders types c.pat s) first.from here ∙ clauses-wanted cs s first.from scope t each.1 first.then_is
 
   wanted_cases : EL.Cases HasWanted
   wanted_cases = record {
     num = λ at n w scope t e. number-is at n (Some w) t (sym (type-Num types funs at n (Some w) scope) ∙ e);
-    var = λ at x w scope t e. fits-wanted at w (variable_type x scope) t (sym (type-Var types funs at x (Some w) scope) ∙ e);
+    var = λ at x w scope t e. fits_wanted at w (variable_type x scope) t (sym (type-Var types funs at x (Some w) scope) ∙ e);
     call = λ at g es each w scope t e.
-        fits-wanted at w (result_type funs g) t (came (arguments at (map (rule_of types funs) es) (param_types funs g) scope) (λ done. as_wanted at (Some w) (result_type funs g)) t
+        fits_wanted at w (result_type funs g) t (came (arguments at (map (rule_of types funs) es) (param_types funs g) scope) (λ done. as_wanted at (Some w) (result_type funs g)) t
         (sym (type-Call types funs at g es (Some w) scope) ∙ e)).then_is;
     build = λ at c es each w scope t e.
-        fits-wanted at w (Named c.ty) t (came (arguments at (map (rule_of types funs) es) (field_types types c) scope) (λ done. as_wanted at (Some w) (Named c.ty)) t
+        fits_wanted at w (Named c.ty) t (came (arguments at (map (rule_of types funs) es) (field_types types c) scope) (λ done. as_wanted at (Some w) (Named c.ty)) t
         (sym (type-Build types funs at c es (Some w) scope) ∙ e)).then_is;
     binary = λ at op a b ha hb w scope t e.
         let parts = came (operands op (rule_of types funs a) (rule_of types funs b) (Some w) scope) (λ u. as_wanted at (Some w) (operator_type op u)) t
         (sym (type-Binary types funs at op a b (Some w) scope) ∙ e) in
-        fits-wanted at w (operator_type op parts.from) t parts.then_is;
+        fits_wanted at w (operator_type op parts.from) t parts.then_is;
     to = λ at bits a ha w scope t e.
-        fits-wanted at w (Int bits) t (came (integer_operand (rule_of types funs a) None scope) (λ u. as_wanted at (Some w) (Int bits)) t
+        fits_wanted at w (Int bits) t (came (integer_operand (rule_of types funs a) None scope) (λ u. as_wanted at (Some w) (Int bits)) t
         (sym (type-To types funs at bits a (Some w) scope) ∙ e)).then_is;
     bound = λ at x u a b ha hb w scope t e.
         hb w _ t (came (ty a (Some u) scope) (λ v. ty b (Some w) (scope ++ record { var = x; ty = u } ∷ [])) t (sym (type-Let types funs at x u a b (Some w) scope) ∙ e)).then_is;
@@ -184,6 +140,14 @@ module _ (types : List DataDecl) (funs : List Fun) where
   pub wanted-is_found : (e : Expr) → HasWanted e
   wanted-is_found = EL.induction HasWanted wanted_cases
 
+  all_wanted : (cs : List Clause) → EL.EachBody HasWanted cs
+  all_wanted [] = tt
+  all_wanted (c ∷ cs) = (wanted-is_found c.body, all_wanted cs)
+
+  -- clauses of which a type is wanted have that type
+  pub found_is : (cs : List Clause) (s w : Ty) (scope : List Binder) (t : Ty) → clauses (map (clause_rule types funs) cs) s (Some w) scope ≡ Ok t → w ≡ t
+  found_is cs s w scope t = clauses-wanted cs s w scope t (all_wanted cs)
+
   -- operands that have a type: that of the first, which is the wanted one or the inferred one
   operands-type : (op : Op) (a b : Expr) (wanted : Option Ty) (scope : List Binder) (u : Ty) → IsInferred a
       → operands op (rule_of types funs a) (rule_of types funs b) wanted scope ≡ Ok u → operands_type op wanted (inferred_type types funs a None scope) ≡ u
@@ -191,7 +155,7 @@ module _ (types : List DataDecl) (funs : List Fun) where
       let first = came (integer_operand (rule_of types funs a) (operand_wanted op wanted) scope) (λ v. ty b (Some v) scope) u e in
       let found = came (ty a (operand_wanted op wanted) scope) (integer (rule_of types funs a).at) first.from first.first_is in
       of_wanted (operand_wanted op wanted) found.from found.first_is
-      ∙ integer-is (rule_of types funs a).at found.from first.from found.then_is
+      ∙ (integer_is (rule_of types funs a).at found.from first.from found.then_is).2
       ∙ wanted-is_found b first.from scope u first.then_is
     where
       of_wanted : (o : Option Ty) (v : Ty) → ty a o scope ≡ Ok v → unwrap_or o (inferred_type types funs a None scope) ≡ v
@@ -200,44 +164,36 @@ module _ (types : List DataDecl) (funs : List Fun) where
 
   match-type : (cs : List Clause) (s t : Ty) (wanted : Option Ty) (scope : List Binder) → EL.EachBody IsInferred cs
       → clauses (map (clause_rule types funs) cs) s wanted scope ≡ Ok t → match_type types wanted (map (clause_inferred types funs) cs) s scope ≡ t
-  match-type cs s t (Some w) scope each e = clauses-wanted cs s w scope t (all_wanted cs) e
-    where
-      all_wanted : (ds : List Clause) → EL.EachBody HasWanted ds
-      all_wanted [] = tt
-      all_wanted (d ∷ ds) = (wanted-is_found d.body, all_wanted ds)
+  match-type cs s t (Some w) scope each e = found_is cs s w scope t e
   match-type [] s t None scope each e = cc
   match-type (c ∷ cs) s t None scope each e =
       let first = came (clause_rule types funs c s None scope) (λ found. clauses (map (clause_rule types funs) cs) s (Some found) scope) t e in
-      let here = typed_clause c s None scope first.from first.first_is in
+      let here = clause_typed c s None scope first.from first.first_is in
       ap (λ (b : Pat × Inference). b.1 None (scope ++ binders types b.0 s)) (clause_inferred-is types funs c)
-      ∙ each.0 None (scope ++ binders types c.pat s) first.from here.body
-      ∙ clauses-wanted cs s first.from scope t (all_wanted cs) first.then_is
-    where
-      all_wanted : (ds : List Clause) → EL.EachBody HasWanted ds
-      all_wanted [] = tt
-      all_wanted (d ∷ ds) = (wanted-is_found d.body, all_wanted ds)
+      ∙ each.0 None (scope ++ binders types c.pat s) first.from here
+      ∙ found_is cs s first.from scope t first.then_is
 
   inferred_cases : EL.Cases IsInferred
   inferred_cases = record {
     num = λ at n wanted scope t e. inferred-Num types funs wanted scope at n ∙ number-is at n wanted t (sym (type-Num types funs at n wanted scope) ∙ e);
-    var = λ at x wanted scope t e. inferred-Var types funs wanted scope at x ∙ fits-found at wanted (variable_type x scope) t (sym (type-Var types funs at x wanted scope) ∙ e);
+    var = λ at x wanted scope t e. inferred-Var types funs wanted scope at x ∙ fits_found at wanted (variable_type x scope) t (sym (type-Var types funs at x wanted scope) ∙ e);
     call = λ at g es each wanted scope t e.
         inferred-Call types funs wanted scope at g es
-        ∙ fits-found at wanted (result_type funs g) t (came (arguments at (map (rule_of types funs) es) (param_types funs g) scope) (λ done. as_wanted at wanted (result_type funs g)) t
+        ∙ fits_found at wanted (result_type funs g) t (came (arguments at (map (rule_of types funs) es) (param_types funs g) scope) (λ done. as_wanted at wanted (result_type funs g)) t
         (sym (type-Call types funs at g es wanted scope) ∙ e)).then_is;
     build = λ at c es each wanted scope t e.
         inferred-Build types funs wanted scope at c es
-        ∙ fits-found at wanted (Named c.ty) t (came (arguments at (map (rule_of types funs) es) (field_types types c) scope) (λ done. as_wanted at wanted (Named c.ty)) t
+        ∙ fits_found at wanted (Named c.ty) t (came (arguments at (map (rule_of types funs) es) (field_types types c) scope) (λ done. as_wanted at wanted (Named c.ty)) t
         (sym (type-Build types funs at c es wanted scope) ∙ e)).then_is;
     binary = λ at op a b ha hb wanted scope t e.
         let parts = came (operands op (rule_of types funs a) (rule_of types funs b) wanted scope) (λ u. as_wanted at wanted (operator_type op u)) t
         (sym (type-Binary types funs at op a b wanted scope) ∙ e) in
         inferred-Binary types funs wanted scope at op a b
         ∙ ap (operator_type op) (operands-type op a b wanted scope parts.from ha parts.first_is)
-        ∙ fits-found at wanted (operator_type op parts.from) t parts.then_is;
+        ∙ fits_found at wanted (operator_type op parts.from) t parts.then_is;
     to = λ at bits a ha wanted scope t e.
         inferred-To types funs wanted scope at bits a
-        ∙ fits-found at wanted (Int bits) t (came (integer_operand (rule_of types funs a) None scope) (λ u. as_wanted at wanted (Int bits)) t
+        ∙ fits_found at wanted (Int bits) t (came (integer_operand (rule_of types funs a) None scope) (λ u. as_wanted at wanted (Int bits)) t
         (sym (type-To types funs at bits a wanted scope) ∙ e)).then_is;
     bound = λ at x u a b ha hb wanted scope t e.
         inferred-Let types funs wanted scope at x u a b

@@ -24,8 +24,9 @@ pub mod OperatorLaws
 pub mod PartForms
 pub mod PatternLaws
 pub mod ScopeLemmas
-pub mod TypingExamples
 pub mod TypedForms
+pub mod TypingAnswers
+pub mod TypingExamples
 pub mod TypingLemmas
 pub mod ValueLaws
 pub mod ValueLemmas

@@ -21,7 +21,7 @@ use Rattle.rb_core.specs.Typing.{Typing, and_then, binder_of, repeated, twice_at
 use Rattle.rb_core.specs.TypedPrograms.{IsTyped, first_fault, layout_fault, function_fault}
 use Rattle.rb_core.specs.WellNumbered.{Within, all_within, is_between, is_constructor, vars_of, expression_step, numbered_clause_step, expression_is_numbered, function_is_numbered}
 use Rattle.rb_core.proofs.InferenceAgreement.{wanted-is_found}
-use Rattle.rb_core.proofs.TypedForms.{ok-same, came}
+use Rattle.rb_core.proofs.TypingAnswers.{ok-same, came}
 
 pub both : (a b : Bool) → (a && b) ≡ true → (a ≡ true) × (b ≡ true)
 both true true e = (refl, refl)

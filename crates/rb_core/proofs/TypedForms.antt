@@ -1,58 +1,24 @@
 -- What typing says of an expression's parts, form by form.
-use Rattle.std.proofs.Common.{◌≡◌, ◌==◌, ℕ, zero, suc, ◌<◌, ◌^◌, List, [], ◌∷◌, ◌++◌, map, length, Bool, true, false, Option, Some, None, Ok, Err, refl, sym, ap, ◌∙◌, subst, arith, eqb-true}
+use Rattle.std.proofs.Common.{◌≡◌, ◌==◌, ℕ, zero, suc, ◌<◌, ◌^◌, List, [], ◌∷◌, ◌++◌, map, length, true, Option, Some, None, Ok, refl, sym, ap, ◌∙◌, subst, arith, eqb-true}
 use Rattle.std.proofs.lemmas.Bool.Decides.{nat_tests}
-use Rattle.std.specs.Prelude.{if◌then◌else◌, unwrap_or, slice_get}
+use Rattle.std.specs.Prelude.{unwrap_or, slice_get}
 use Rattle.rb_core.specs.declared.types.Ty.{Ty}
 use Rattle.rb_core.specs.declared.types.Ty.TheVariants.{Int, Named}
 use Rattle.rb_core.specs.declared.types.ConRef.{ConRef}
 use Rattle.rb_core.specs.declared.types.DataDecl.{DataDecl}
 use Rattle.rb_core.specs.declared.typing.Binder.{Binder}
-use Rattle.rb_core.specs.declared.typing.TypeFault.{TypeFault}
 use Rattle.rb_core.specs.declared.program.Fun.{Fun}
 use Rattle.rb_core.specs.declared.expression.Op.{Op}
 use Rattle.rb_core.specs.declared.expression.Clause.{Clause}
 use Rattle.rb_core.specs.declared.expression.Expr.{Expr}
 use Rattle.rb_core.specs.declared.expression.Expr as X
-use Rattle.rb_core.specs.Typing.{Typing, and_then, same_type, as_wanted, type_holds, number, integer, operand_wanted, operator_type, integer_operand, operands, variable_type, field_types, rule_of, clause_rule, clauses, pattern_binders, type_of, arguments, each_argument, param_types, result_type}
+use Rattle.rb_core.specs.Typing.{as_wanted, type_holds, number, integer, operand_wanted, operator_type, integer_operand, operands, variable_type, field_types, rule_of, clause_rule, clauses, pattern_binders, type_of, arguments, each_argument, param_types, result_type}
 use Rattle.rb_core.specs.Inference.{with_binder, operands_type, inferred_type, binders, match_type, clause_inferred}
 use Rattle.rb_core.specs.Clauses.{wanted_of, PatternIsTyped}
 use Rattle.rb_core.proofs.TypingLemmas.{type-Num, type-Var, type-Call, type-Build, type-Binary, type-To, type-Let, type-Match, type-Clause}
 use Rattle.rb_core.proofs.InferenceForms.{inferred-Match}
-use Rattle.rb_core.proofs.InferenceAgreement.{pattern_binders-are, wanted-is_found, inferred-is_found}
-
-pub ok-same : {A : Type 0} {a b : A} → ◌≡◌ {A = Typing A} (Ok a) (Ok b) → a ≡ b
-ok-same e = cc
-
-pub record Came {A B : Type 0} (first : Typing A) (go : A → Typing B) (b : B) : Type 0 where
-  pub from : A
-  pub first_is : first ≡ Ok from
-  pub then_is : go from ≡ Ok b
-
-pub came : {A B : Type 0} (first : Typing A) (go : A → Typing B) (b : B) → and_then first go ≡ Ok b → Came first go b
-came (Ok a) go b e = record { from = a; first_is = refl; then_is = e }
-came (Err f) go b e = cc
-
-pub chosen : {A : Type 0} (b : Bool) (a t : A) (f : TypeFault) → (if b then Ok a else Err f) ≡ Ok t → (b ≡ true) × (a ≡ t)
-chosen true a t f e = (refl, cc)
-chosen false a t f e = cc
-
-pub constructed : {A : Type 0} (b : Bool) (a : Typing A) (f : TypeFault) (t : A) → (if b then a else Err f) ≡ Ok t → (b ≡ true) × (a ≡ Ok t)
-constructed true a f t e = (refl, e)
-constructed false a f t e = cc
-
-pub same_type-is : (t u : Ty) → same_type t u ≡ true → t ≡ u
-same_type-is (Int n) (Int m) h = ap Int (eqb-true n m h)
-same_type-is (Int n) (Named t) h = cc
-same_type-is (Named t) (Int n) h = cc
-same_type-is (Named t) (Named s) h = ap Named (eqb-true t s h)
-
-pub fits_found : (at : ℕ) (wanted : Option Ty) (found t : Ty) → as_wanted at wanted found ≡ Ok t → found ≡ t
-fits_found at None found t e = ok-same e
-fits_found at (Some w) found t e = let c = chosen (same_type w found) w t _ e in sym (same_type-is w found c.0) ∙ c.1
-
-pub integer_is : (at : ℕ) (u t : Ty) → integer at u ≡ Ok t → (n : ℕ) × (t ≡ Int n) × (u ≡ t)
-integer_is at (Int n) t e = (n, sym (ok-same e), ok-same e)
-integer_is at (Named s) t e = cc
+use Rattle.rb_core.proofs.TypingAnswers.{ok-same, Came, came, chosen, constructed, fits_found, integer_is}
+use Rattle.rb_core.proofs.InferenceAgreement.{wanted-is_found, inferred-is_found, clause_typed, found_is}
 
 -- the integer type that a number is typed as
 held_number : (n : ℕ) (w : Ty) → type_holds w n ≡ true → (bits : ℕ) × (w ≡ Int bits) × (n < 2 ^ bits)
@@ -160,11 +126,6 @@ module _ (types : List DataDecl) (funs : List Fun) where
 
   -- Clauses
 
-  clause_typed : (c : Clause) (s : Ty) (wanted : Option Ty) (scope : List Binder) (t : Ty) → clause_rule types funs c s wanted scope ≡ Ok t → type_of types funs c.body wanted (scope ++ binders types c.pat s) ≡ Ok t
-  clause_typed c s wanted scope t e =
-      let within = came (pattern_binders types c.pat s) (λ bs. type_of types funs c.body wanted (scope ++ bs)) t (sym (type-Clause types funs c.pat c.body s wanted scope) ∙ e) in
-      ap (λ bs. type_of types funs c.body wanted (scope ++ bs)) (sym (pattern_binders-are types c.pat s within.from within.first_is)) ∙ within.then_is
-
   -- each clause is typed, at the type of the whole
   clauses_typed : (cs : List Clause) (s : Ty) (wanted : Option Ty) (scope : List Binder) (t : Ty) → clauses (map (clause_rule types funs) cs) s wanted scope ≡ Ok t → (k : ℕ) (c : Clause) → slice_get cs k ≡ Some c
       → type_of types funs c.body (wanted_of k wanted (Some t)) (scope ++ binders types c.pat s) ≡ Ok t
@@ -174,14 +135,8 @@ module _ (types : List DataDecl) (funs : List Fun) where
       first : Came (clause_rule types funs d s wanted scope) (λ found. clauses (map (clause_rule types funs) cs) s (Some found) scope) t
       first = came (clause_rule types funs d s wanted scope) (λ found. clauses (map (clause_rule types funs) cs) s (Some found) scope) t e
 
-      found_is : (ds : List Clause) (w : Ty) → clauses (map (clause_rule types funs) ds) s (Some w) scope ≡ Ok t → w ≡ t
-      found_is [] w h = ok-same h
-      found_is (x ∷ ds) w h =
-          let one = came (clause_rule types funs x s (Some w) scope) (λ found. clauses (map (clause_rule types funs) ds) s (Some found) scope) t h in
-          wanted-is_found types funs x.body w _ one.from (clause_typed x s (Some w) scope one.from one.first_is) ∙ found_is ds one.from one.then_is
-
       is : first.from ≡ t
-      is = found_is cs first.from first.then_is
+      is = found_is types funs cs s first.from scope t first.then_is
 
       rest : clauses (map (clause_rule types funs) cs) s (Some t) scope ≡ Ok t
       rest = subst (λ u. clauses (map (clause_rule types funs) cs) s (Some u) scope ≡ Ok t) is first.then_is
@@ -191,7 +146,7 @@ module _ (types : List DataDecl) (funs : List Fun) where
       pick zero there more =
           let same : d ≡ c = cc there in
           subst (λ (x : Clause). type_of types funs x.body wanted (scope ++ binders types x.pat s) ≡ Ok t) same
-          (subst (λ u. type_of types funs d.body wanted (scope ++ binders types d.pat s) ≡ Ok u) is (clause_typed d s wanted scope first.from first.first_is))
+          (subst (λ u. type_of types funs d.body wanted (scope ++ binders types d.pat s) ≡ Ok u) is (clause_typed types funs d s wanted scope first.from first.first_is))
       pick (suc zero) there more = more zero there
       pick (suc (suc i)) there more = more (suc i) there
 
@@ -222,7 +177,7 @@ module _ (types : List DataDecl) (funs : List Fun) where
           subst (λ (x : Clause). PatternIsTyped types s x.pat) is (within.from, within.first_is)
       pick (suc k) at more first = more first.from first.then_is k at
 
-  patterns_typed : (at : ℕ) (e : Expr) (cs : List Clause) (wanted : Option Ty) (scope : List Binder) (t s : Ty) → type_of types funs (X.Match at e cs) wanted scope ≡ Ok t → type_of types funs e None scope ≡ Ok s → ((k : ℕ) (c : Clause) → slice_get cs k ≡ Some c → PatternIsTyped types s c.pat)
+  pub patterns_typed : (at : ℕ) (e : Expr) (cs : List Clause) (wanted : Option Ty) (scope : List Binder) (t s : Ty) → type_of types funs (X.Match at e cs) wanted scope ≡ Ok t → type_of types funs e None scope ≡ Ok s → ((k : ℕ) (c : Clause) → slice_get cs k ≡ Some c → PatternIsTyped types s c.pat)
   patterns_typed at e cs wanted scope t s typed first =
       let h = came (type_of types funs e None scope) (λ s. clauses (map (clause_rule types funs) cs) s wanted scope) t (sym (type-Match types funs at e cs wanted scope) ∙ typed) in
       let same : h.from ≡ s = ok-same (sym h.first_is ∙ first) in

@@ -4,7 +4,7 @@ use Rattle.std.specs.Prelude.{slice_get, filter, not, if◌then◌else◌, ◌&&
 use Rattle.std.specs.List.{AllByRecursion}
 use Rattle.std.proofs.lemmas.Option.{same_Some}
 use Rattle.rb_core.specs.Typing.{same_type}
-use Rattle.rb_core.proofs.TypedForms.{same_type-is}
+use Rattle.rb_core.proofs.TypingAnswers.{same_type-is}
 use Rattle.rb_decide.specs.Decisions.{AreDistinct}
 use Rattle.rb_core.specs.declared.types.Ty.{Ty}
 use Rattle.rb_layout.specs.Flattening.{same_path}

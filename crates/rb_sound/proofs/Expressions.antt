@@ -38,8 +38,9 @@ use Rattle.rb_core.proofs.ValueLaws.{is_of_type-Num, is_of_type-Con}
 use Rattle.rb_core.proofs.ExpressionLaws.{Each, EachBody, induction}
 use Rattle.rb_core.proofs.TypingLemmas.{type-Num, type-Var, type-Call, type-Build, type-Binary, type-To, type-Let, type-Match, type-Clause}
 use Rattle.rb_core.proofs.InferenceForms.{inferred-Match}
-use Rattle.rb_core.proofs.InferenceAgreement.{pattern_binders-are, wanted-is_found, inferred-is_found}
-use Rattle.rb_core.proofs.TypedForms.{ok-same, came, chosen, constructed, fits_found, integer_is}
+use Rattle.rb_core.proofs.InferenceAgreement.{wanted-is_found, inferred-is_found, clause_typed, found_is}
+use Rattle.rb_core.proofs.TypingAnswers.{ok-same, came, chosen, constructed, fits_found}
+use Rattle.rb_core.proofs.TypedForms.{operands_int}
 use Rattle.rb_core.proofs.NumberedForms.{both}
 use Rattle.rb_core.proofs.CoverageForms.{part, branch, sites-Clause, sites-Call, sites-Build, sites-Binary, sites-To, sites-Let, sites-Match}
 use Rattle.rb_core.proofs.MeaningForms.{clause_meaning-is, meaning-Num, meaning-Var, meaning-Call, meaning-Build, meaning-Binary, meaning-To, meaning-Let, meaning-Match}
@@ -158,26 +159,6 @@ module _ (types : List DataDecl) where
   snoc_types (w ∷ vs) (u ∷ ts) v t h k = let hs = both (is_of_type types w u) _ h in and_true _ _ hs.0 (snoc_types vs ts v t hs.1 k)
 
 module _ (types : List DataDecl) (funs : List Fun) where
-  operands_int : (op : Op) (a b : Expr) (wanted : Option Ty) (scope : List Binder) (u : Ty) → operands op (rule_of types funs a) (rule_of types funs b) wanted scope ≡ Ok u
-      → (n : ℕ) × (u ≡ Int n) × (operands_type op wanted (inferred_type types funs a None scope) ≡ u)
-      × (from : Ty) × (type_of types funs a (operand_wanted op wanted) scope ≡ Ok from) × (type_of types funs b (Some u) scope ≡ Ok u)
-  operands_int op a b wanted scope u e =
-      let first = came (integer_operand (rule_of types funs a) (operand_wanted op wanted) scope) (λ v. type_of types funs b (Some v) scope) u e in
-      let found = came (type_of types funs a (operand_wanted op wanted) scope) (integer (rule_of types funs a).at) first.from first.first_is in
-      let whole = integer_is (rule_of types funs a).at found.from first.from found.then_is in
-      let same = wanted-is_found types funs b first.from scope u first.then_is in (
-        whole.0,
-        sym same ∙ whole.1,
-        of_wanted (operand_wanted op wanted) found.from found.first_is ∙ whole.2 ∙ same,
-        found.from,
-        found.first_is,
-        subst (λ w. type_of types funs b (Some w) scope ≡ Ok u) same first.then_is,
-      )
-    where
-      of_wanted : (o : Option Ty) (v : Ty) → type_of types funs a o scope ≡ Ok v → unwrap_or o (inferred_type types funs a None scope) ≡ v
-      of_wanted None v h = inferred-is_found types funs a None scope v h
-      of_wanted (Some w) v h = wanted-is_found types funs a w scope v h
-
   -- a clause that is typed
   record TypedClause (c : Clause) (s : Ty) (wanted : Option Ty) (scope : List Binder) (t : Ty) : Type 0 where
     pub params : List Param
@@ -191,14 +172,8 @@ module _ (types : List DataDecl) (funs : List Fun) where
       record {
         params = params.from;
         pattern = params.first_is;
-        body = ap (λ bs. type_of types funs c.body wanted (scope ++ bs)) (sym (pattern_binders-are types c.pat s within.from within.first_is)) ∙ within.then_is;
+        body = clause_typed types funs c s wanted scope t e;
       }
-
-  found_is : (cs : List Clause) (s w : Ty) (scope : List Binder) (t : Ty) → clauses (map (clause_rule types funs) cs) s (Some w) scope ≡ Ok t → w ≡ t
-  found_is [] s w scope t e = ok-same e
-  found_is (c ∷ cs) s w scope t e =
-      let first = came (clause_rule types funs c s (Some w) scope) (λ found. clauses (map (clause_rule types funs) cs) s (Some found) scope) t e in
-      wanted-is_found types funs c.body w _ first.from (typed_clause c s (Some w) scope first.from first.first_is).body ∙ found_is cs s first.from scope t first.then_is
 
 some_behind : (o : Option ℕ) → IsSome (next_clause o) → IsSome o
 some_behind None h = h
@@ -337,9 +312,9 @@ module _ (p : Program) (calls : Calls) (sound : (g n : ℕ) (vs : List Value) �
       same t (operator_type op h.from) _ _ (meaning-Binary p calls f wanted scope left env at op a b) (fits_found at wanted (operator_type op h.from) t h.then_is)
       (subst (λ u. RunsAs p.types (operator_type op h.from) (then_do (ev a (operand_wanted op wanted) scope left env) (λ v rest. then_do (ev b (Some u) scope rest env) (Rattle.rb_core.specs.Meaning.combined op (width_of u) v)))) (sym parts.2)
       (subst (λ u. RunsAs p.types (operator_type op u) (then_do (ev a (operand_wanted op wanted) scope left env) (λ v rest. then_do (ev b (Some u) scope rest env) (Rattle.rb_core.specs.Meaning.combined op (width_of u) v)))) (sym parts.1)
-      (runs_do p.types parts.3 (operator_type op (Int parts.0)) _ _ (ha _ scope left env parts.3 parts.4 ws.0 cs.0 agree)
+      (runs_do p.types h.from (operator_type op (Int parts.0)) _ _ (ha _ scope left env h.from parts.3 ws.0 cs.0 agree)
       (λ v rest k. runs_do p.types (Int parts.0) (operator_type op (Int parts.0)) _ _
-      (hb (Some (Int parts.0)) scope rest env (Int parts.0) (subst (λ u. type_of p.types p.funs b (Some u) scope ≡ Ok u) parts.1 parts.5) ws.1 cs.1 agree)
+      (hb (Some (Int parts.0)) scope rest env (Int parts.0) (subst (λ u. type_of p.types p.funs b (Some u) scope ≡ Ok u) parts.1 parts.4) ws.1 cs.1 agree)
       (λ w last k'. done_runs p.types (operator_type op (Int parts.0)) _ last (op_is p.types op parts.0 _ _))))))
 
   to_sound : (at bits : ℕ) (a : Expr) → Sound a → Sound (X.To at bits a)

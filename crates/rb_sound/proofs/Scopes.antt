@@ -22,7 +22,7 @@ use Rattle.rb_core.proofs.PatternLaws as PL
 use Rattle.rb_core.proofs.MatchingForms.{matches-Con, bindings-Wild, bindings-Var, bindings-Num, bindings-Con}
 use Rattle.rb_core.proofs.TypingLemmas.{pattern-Con}
 use Rattle.rb_core.proofs.InferenceAgreement.{binders-Wild, binders-Var, binders-Num, binders-Con}
-use Rattle.rb_core.proofs.TypedForms.{came, constructed, same_type-is}
+use Rattle.rb_core.proofs.TypingAnswers.{came, constructed, same_type-is}
 use Rattle.rb_core.proofs.NumberedForms.{both}
 use Rattle.rb_sound.specs.Soundness.{AreOfTypes, AreInScope}
 
