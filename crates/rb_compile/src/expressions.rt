@@ -25,11 +25,11 @@ use crate::atoms::{
 };
 use crate::matches::{Arms, extend, next_wanted, patterns};
 use crate::shown::shown_patterns;
-use crate::signatures::{field_types, function_at, param_types};
+use crate::signatures::{field_types, function_at};
 use crate::used::used_pattern;
 use rb_build::build::emit_build;
 use rb_core::expression::{Clause, Expr, Op};
-use rb_core::inference::wanted_of_operand;
+use rb_core::inference::{param_types, wanted_of_operand};
 use rb_core::seq::Seq;
 use rb_core::types::{ConRef, Ty};
 use rb_core::typing::Binder;

@@ -2,10 +2,10 @@
 //! are named by their numbers, and constructors by the number of their type and their own within
 //! it. An error is want of memory.
 
-ghost use Rattle.std.specs.Prelude.{◌≡◌, map, IfOk, option_copied, slice_get};
+ghost use Rattle.std.specs.Prelude.{◌≡◌, IfOk, option_copied, slice_get};
 ghost use Rattle.rb_core.specs.Values.{fields_of};
 
-use rb_core::program::{Fun, Param};
+use rb_core::program::Fun;
 use rb_core::seq::Seq;
 use rb_core::types::{ConRef, DataDecl, Ty};
 use rb_layout::agreed::Agreed;
@@ -17,17 +17,6 @@ pub(crate) fn function_at(agreed: &Agreed, number: u32) -> Option<&Fun>
 {
     let program = agreed.covered().program();
     program.funs.get(number as usize)
-}
-
-/// The types of some parameters, in their order.
-pub(crate) fn param_types(alloc: Global, params: &[Param]) -> Result<Seq<Ty>, AllocError>
-    ensures { IfOk result (λ ts. ts ≡ map (λ p. p.ty) params.now) }
-{
-    let mut tys = Seq::new(alloc);
-    for param in params {
-        tys.push(param.ty)?;
-    }
-    Ok(tys)
 }
 
 /// The types of a constructor's fields, in their order; None where the program does not have the
@@ -45,7 +34,7 @@ pub(crate) fn field_types(
 }
 
 // The types of a constructor's fields, in their order; None where these types do not have the
-// constructor.
+/// constructor.
 fn fields_in(alloc: Global, types: &[DataDecl], con: ConRef) -> Result<Option<Seq<Ty>>, AllocError>
     ensures { IfOk result (λ o. o ≡ fields_of types.now con) }
 {

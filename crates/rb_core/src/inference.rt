@@ -251,13 +251,18 @@ pub fn types_of_params(alloc: Global, program: &Program, fun: u32) -> Result<Seq
     ensures { IfOk result (λ types. types ≡ param_types program.now.funs fun) }
 {
     match program.funs.get(fun as usize) {
-        Some(callee) => types_of(alloc, callee.params.as_slice()),
+        Some(callee) => param_types(alloc, callee.params.as_slice()),
         None => Ok(Seq::new(alloc)),
     }
 }
 
-// The types of these parameters, in their order.
-fn types_of(alloc: Global, params: &[Param]) -> Result<Seq<Ty>, AllocError>
+/// The types of these parameters, in their order: as many as there are parameters, each in its
+/// parameter's place.
+///
+/// # Errors
+///
+/// Want of memory.
+pub fn param_types(alloc: Global, params: &[Param]) -> Result<Seq<Ty>, AllocError>
     ensures { IfOk result (λ types. types ≡ map (λ p. p.ty) params.now) }
 {
     let mut types = Seq::new(alloc);
