@@ -16,12 +16,12 @@ and_also : (a b : Bool) → a ≡ true → b ≡ true → (a && b) ≡ true
 and_also true b e f = f
 and_also false b e f = cc
 
-between : (a b n : ℕ) → is_between a b n ≡ true → (a ≤ n) × (n ≤ b)
+pub between : (a b n : ℕ) → is_between a b n ≡ true → (a ≤ n) × (n ≤ b)
 between a b n e =
     let h = both (nat_le a n) (nat_le n b) e in
     let lo : a ≤ n = grind (arith, nat_tests, h.0) in let hi : n ≤ b = grind (arith, nat_tests, h.1) in (lo, hi)
 
-from_between : (a b n : ℕ) → a ≤ n → n ≤ b → is_between a b n ≡ true
+pub from_between : (a b n : ℕ) → a ≤ n → n ≤ b → is_between a b n ≡ true
 from_between a b n lo hi =
     let first : nat_le a n ≡ true = grind (arith, nat_tests, lo) in let last : nat_le n b ≡ true = grind (arith, nat_tests, hi) in
     and_also (nat_le a n) (nat_le n b) first last
@@ -38,7 +38,7 @@ or_right : (a b : Bool) → b ≡ true → either a b ≡ true
 or_right true b e = refl
 or_right false b e = e
 
-name_byte : (n : ℕ) → is_word_byte n ≡ true → IsNameByte n
+pub name_byte : (n : ℕ) → is_word_byte n ≡ true → IsNameByte n
 name_byte n e = elim (or_else (is_capital n) _ e) [
   | inl cap ↦ inr (inl (between 65 90 n cap))
   | inr more ↦ elim (or_else (is_small n) _ more) [
@@ -50,7 +50,7 @@ name_byte n e = elim (or_else (is_capital n) _ e) [
   ]
 ]
 
-from_name_byte : (n : ℕ) → IsNameByte n → is_word_byte n ≡ true
+pub from_name_byte : (n : ℕ) → IsNameByte n → is_word_byte n ≡ true
 from_name_byte n (inl small) = or_right (is_capital n) _ (or_left (is_small n) _ (from_between 97 122 n small.0 small.1))
 from_name_byte n (inr (inl cap)) = or_left (is_capital n) _ (from_between 65 90 n cap.0 cap.1)
 from_name_byte n (inr (inr (inl digit))) = or_right (is_capital n) _ (or_right (is_small n) _ (or_left (is_between 48 57 n) _ (from_between 48 57 n digit.0 digit.1)))

@@ -3,13 +3,15 @@ use Rattle.std.proofs.Common.{◌≡◌, ℕ, ◌+◌, ◌<◌, ◌^◌, List, [
 use Rattle.std.specs.Fmt.{decimal}
 use Rattle.std.proofs.lemmas.Grind.{common_steps}
 use Rattle.std.proofs.lemmas.List.Elements.{All-head, All-tail}
+use Rattle.rb_core.specs.WellNumbered.{is_small, is_word_byte}
 use Rattle.rb_target.proofs.FieldLemmas.{in_open, number_decimal, word_in_text, Steps, decimal_steps, word_steps}
 use Rattle.rb_target.proofs.LineLemmas.{whole, whole_next, Reads, reads}
+use Rattle.rb_target.proofs.Names.{from_between, from_name_byte}
 use Rattle.rb_target.specs.Text.{line_word_text, key_text, key_of, line_words, spaced, line, instr_text, head_text, body_text, fun_text, code_text}
 use Rattle.rb_target.specs.Validity.{IsSmall, IsNameByte, IsLower}
 use Rattle.rb_target.proofs.SpelledForms.{AreShort, IsFit, AreFit, IsFitFun, AreFitFuns}
 use Rattle.rb_target.specs.inner.Fields.{number_of_word, is_open, next_field, may_end, first_line, after_word, instruction_of}
-use Rattle.rb_target.specs.inner.Reading.{is_gap, is_small, is_name_byte, named, line_next, headed, step, is_some, goes_on, Progress, start, moved, feed, then_feed, run}
+use Rattle.rb_target.specs.inner.Reading.{is_gap, named, line_next, headed, step, is_some, goes_on, Progress, start, moved, feed, then_feed, run}
 use Rattle.rb_target.specs.declared.instr.Instr.{Instr}
 use Rattle.rb_target.specs.declared.word.LineWord.{LineWord}
 use Rattle.rb_target.specs.declared.word.LineWord.TheVariants.{Number}
@@ -160,10 +162,10 @@ count_steps f t n small =
     decimal_steps (λ w b. is_some (number_of_word w)) (λ m. true) (λ m b g s. rw (number_decimal m s) refl) (λ m g big. refl) n n (omega arith) small refl
 
 small_steps : (b : ℕ) → IsSmall b → (is_gap b ≡ false) × (is_small b ≡ true)
-small_steps b h = (grind (arith, common_steps), grind (arith, common_steps))
+small_steps b h = (grind (arith, common_steps), from_between 97 122 b h.0 h.1)
 
-name_byte_steps : (b : ℕ) → IsNameByte b → (is_gap b ≡ false) × (is_name_byte b ≡ true)
-name_byte_steps b h = (grind (arith, common_steps), grind (arith, common_steps))
+name_byte_steps : (b : ℕ) → IsNameByte b → (is_gap b ≡ false) × (is_word_byte b ≡ true)
+name_byte_steps b h = (grind (arith, common_steps), from_name_byte b h)
 
 long_name : (p : List ℕ) (b : ℕ) → 0 < length p → (length (p ++ b ∷ []) == 1) ≡ false
 long_name p b h = let e : length (p ++ b ∷ []) ≡ length p + 1 = length-append p (b ∷ []) in grind (arith, common_steps)

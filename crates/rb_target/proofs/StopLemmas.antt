@@ -6,18 +6,20 @@ use Rattle.std.proofs.lemmas.Option.{same_Some}
 use Rattle.std.proofs.lemmas.List.{take_more, take_all, take-append-drop}
 use Rattle.std.proofs.lemmas.List.Elements.{All-append, All-cons, All-nil}
 use Rattle.rb_core.specs.Stopping.{BeginsSome}
+use Rattle.rb_core.specs.WellNumbered.{is_word_byte}
+use Rattle.rb_target.proofs.Names.{between, name_byte}
 use Rattle.rb_target.proofs.Texts.{code_text-push}
 use Rattle.rb_target.proofs.FieldLemmas.{word_in_text, any_told, IsWordFront, word_front_told, starts_rest}
 use Rattle.rb_target.proofs.LineLemmas.{short-append, IsSpelledBy, spelled_fit, IsGoodLine, word_follows, ones_to_come, Completes, completes, IsNext, next_word, closed_ends}
 use Rattle.rb_target.proofs.RunLemmas.{at_spot, pushed, counts, run_none, run_append, reads_code, lower_some}
 use Rattle.rb_target.proofs.FrontLemmas.{opened, line_front, head_front, spot_text, IsGoodHead, IsGoodWithin, IsGood, Leaves, pushed_spelled, opened_more, word_front_more, head_whole, IsNamed, step_leaves, zero_small}
 use Rattle.rb_target.specs.Text.{line_word_text, key_text, key_of, spaced, line, fun_text, code_text}
-use Rattle.rb_target.specs.Validity.{IsSmall, IsNameByte, IsLower}
+use Rattle.rb_target.specs.Validity.{IsNameByte, IsLower}
 use Rattle.rb_target.specs.Spelled.{AreSpelled}
 use Rattle.rb_target.specs.Stopping.{IsCode, StopsAt, IsTextOf}
 use Rattle.rb_target.proofs.SpelledForms.{IsFitFun, AreFitFuns, funs_fit, fit_funs}
 use Rattle.rb_target.specs.inner.Fields.{number_of_word, is_open, is_word_front, keys, next_field, after_word}
-use Rattle.rb_target.specs.inner.Reading.{is_gap, is_small, is_name_byte, named, line_next, worded, headed, step, is_some, goes_on, Progress, start, moved, feed, run, is_outside, is_done}
+use Rattle.rb_target.specs.inner.Reading.{is_gap, named, line_next, worded, headed, step, is_some, goes_on, Progress, start, moved, feed, run, is_outside, is_done}
 use Rattle.rb_target.specs.declared.word.LineWord.{LineWord}
 use Rattle.rb_target.specs.declared.word.LineWord.TheVariants.{Number}
 use Rattle.rb_target.specs.declared.code.CodeFun.{CodeFun}
@@ -177,25 +179,19 @@ within_can_end f l q good h =
     can_end (Within f l) q (line_word_text front.word) front.rest gap.0 front.is
     (subst (λ o. Moves (worded f l gap.0 o)) (sym (word_in_text (next_field l.rest) front.word front.may front.short)) gap.1)
 
-small_told : (b : ℕ) → is_small b ≡ true → IsSmall b
-small_told b h = grind (arith, common_steps)
-
-name_byte_told : (b : ℕ) → is_name_byte b ≡ true → IsNameByte b
-name_byte_told b h = grind (arith, common_steps)
-
 long_word : (x : ℕ) (bs : List ℕ) (b : ℕ) → (length (x ∷ bs ++ b ∷ []) == 1) ≡ false
 long_word x bs b = let e : length (bs ++ b ∷ []) ≡ length bs + 1 = length-append bs (b ∷ []) in grind (arith, common_steps)
 
 lower_more : (w : List ℕ) (b : ℕ) → IsLower w → goes_on Naming (w ++ b ∷ []) b ≡ true → IsLower (w ++ b ∷ [])
 lower_more [] b h g = absurd h
 lower_more (x ∷ bs) b h g =
-    let byte : is_name_byte b ≡ true = rw (long_word x bs b) at g in
-    (h.0, All-append IsNameByte bs (b ∷ []) h.1 (All-cons IsNameByte b [] (name_byte_told b byte) (All-nil IsNameByte)))
+    let byte : is_word_byte b ≡ true = rw (long_word x bs b) at g in
+    (h.0, All-append IsNameByte bs (b ∷ []) h.1 (All-cons IsNameByte b [] (name_byte b byte) (All-nil IsNameByte)))
 
 naming_word : (w : List ℕ) (b : ℕ) → IsGoodWord Naming w → goes_on Naming (w ++ b ∷ []) b ≡ true → IsGoodWord Naming (w ++ b ∷ [])
 naming_word w b h g = elim h [
   | inl e ↦ let first : goes_on Naming (b ∷ []) b ≡ true = subst (λ v. goes_on Naming (v ++ b ∷ []) b ≡ true) e g in
-      inr (subst (λ v. IsLower (v ++ b ∷ [])) (sym e) (small_told b first, All-nil IsNameByte))
+      inr (subst (λ v. IsLower (v ++ b ∷ [])) (sym e) (between 97 122 b first, All-nil IsNameByte))
   | inr l ↦ inr (lower_more w b l g)
 ]
 

@@ -1,9 +1,10 @@
 -- Reading a code text byte by byte. A gap is a byte between words, a blank (32) or a line's end (10). A spot is
 -- where reading stands between two words: what is read of the function at hand, and of the line. A word and the
 -- gap behind it make a move from one spot to the next, end a function, or are refused.
-use Rattle.std.specs.Prelude.{◌≡◌, ℕ, List, [], ◌∷◌, ◌++◌, length, codes, Bool, true, false, ◌&&◌, ◌||◌, ◌==◌, nat_eq, nat_le, nat_lt, if◌then◌else◌, Option, Some, None, Result, Ok, Err}
+use Rattle.std.specs.Prelude.{◌≡◌, ℕ, List, [], ◌∷◌, ◌++◌, length, codes, Bool, true, false, ◌&&◌, ◌||◌, ◌==◌, nat_eq, nat_lt, if◌then◌else◌, Option, Some, None, Result, Ok, Err}
 use Rattle.std.specs.List.{starts_with}
 use Rattle.std.specs.Cmp.Lexicographic.{pointwise}
+use Rattle.rb_core.specs.WellNumbered.{is_small, is_word_byte}
 use Rattle.rb_target.specs.Stopping.{IsTextOf, StopsAt}
 use Rattle.rb_target.specs.declared.fault.CodeFault.{CodeFault}
 use Rattle.rb_target.specs.declared.fault.CodeFault.TheVariants.{CodeSyntax, Memory}
@@ -22,14 +23,6 @@ use Rattle.rb_target.specs.declared.read.spot.Move.TheVariants.{To, Closed, Refu
 -- whether a byte is a gap
 abbrev pub is_gap : ℕ → Bool
 is_gap b = (b == 32) || (b == 10)
-
--- whether a byte is a small letter
-abbrev pub is_small : ℕ → Bool
-is_small b = nat_le 97 b && nat_le b 122
-
--- whether a byte may stand in a function's name behind the first: a letter, a digit or an underscore
-abbrev pub is_name_byte : ℕ → Bool
-is_name_byte b = is_small b || (nat_le 65 b && nat_le b 90) || (nat_le 48 b && nat_le b 57) || (b == 95)
 
 -- the function of a name of which no count and no instruction is read
 abbrev pub named : List ℕ → CodeFun
@@ -87,7 +80,7 @@ is_some (Some n) = true
 -- whether some word that may stand at a spot begins as w does; b is the last byte of w
 abbrev pub goes_on : Spot → List ℕ → ℕ → Bool
 goes_on Outside w b = starts_with nat_eq (codes "fun") w
-goes_on Naming w b = if length w == 1 then is_small b else is_name_byte b
+goes_on Naming w b = if length w == 1 then is_small b else is_word_byte b
 goes_on (Heading f t) w b = is_some (number_of_word w)
 goes_on (Starting f) w b = starts_with nat_eq (codes "end") w || is_key_front w
 goes_on (Within f l) w b = is_word_front (next_field l.rest) w

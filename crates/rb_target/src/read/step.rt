@@ -1,6 +1,7 @@
 //! One byte more of a code text.
 
 ghost use Rattle.std.specs.Prelude.{◌≡◌, ◌∷◌, [], ◌++◌, IfOk, Some, None, true};
+ghost use Rattle.rb_core.specs.WellNumbered as name;
 ghost use Rattle.rb_target.specs.inner.Reading as spec;
 
 use super::field::{is_key_front, key_of_word, number_of_word};
@@ -39,19 +40,16 @@ fn is_gap(byte: u8) -> bool
 
 // Whether a byte is a small letter.
 fn is_small(byte: u8) -> bool
-    ensures { result ≡ spec.is_small byte }
+    ensures { result ≡ name.is_small byte }
 {
     b'a' <= byte && byte <= b'z'
 }
 
 // Whether a byte may stand in a function's name behind the first: a letter, a digit or `_`.
-fn is_name_byte(byte: u8) -> bool
-    ensures { result ≡ spec.is_name_byte byte }
+fn is_word_byte(byte: u8) -> bool
+    ensures { result ≡ name.is_word_byte byte }
 {
-    is_small(byte)
-        || (b'A' <= byte && byte <= b'Z')
-        || (b'0' <= byte && byte <= b'9')
-        || byte == b'_'
+    byte.is_ascii_uppercase() || is_small(byte) || byte.is_ascii_digit() || byte == b'_'
 }
 
 // The move behind a word of an instruction's line, by the byte behind it: on to the next word at a
@@ -211,7 +209,7 @@ fn goes_on(spot: &Spot, word: &[u8], last: u8) -> bool
             if word.len() == 1 {
                 is_small(last)
             } else {
-                is_name_byte(last)
+                is_word_byte(last)
             }
         }
         Spot::Heading(..) => number_of_word(word).is_some(),
