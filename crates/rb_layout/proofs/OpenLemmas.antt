@@ -12,7 +12,8 @@ use Rattle.rb_core.proofs.PatternLaws.{fold-Wild, fold-Var, fold-Con}
 use Rattle.rb_layout.specs.Positions.{Open, below, opens_below, opens_of, opens_step, open_positions, root_type, types_or_none}
 use Rattle.rb_layout.proofs.Walks.{drop_from}
 use Rattle.rb_layout.specs.declared.opens.OpenPosition.{OpenPosition}
-use Rattle.rb_layout.specs.Opens.{opens_at, under}
+use Rattle.rb_layout.specs.Opens.{opens_at}
+use Rattle.rb_layout.specs.inner.Opening.{under}
 
 module _ (types : List DataDecl) where
   abbrev opens : Pat → Ty → List Open

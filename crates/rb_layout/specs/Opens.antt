@@ -1,6 +1,6 @@
--- Open positions as code lists them, and those below a path. An open position is a path, the field numbers from the
--- root to a wildcard or variable of a pattern, with the type there.
-use Rattle.std.specs.Prelude.{ℕ, List, map, ◌++◌}
+-- Open positions as code lists them. An open position is a path, the field numbers from the root to a wildcard or
+-- variable of a pattern, with the type there.
+use Rattle.std.specs.Prelude.{List, map}
 use Rattle.rb_layout.specs.Positions.{Open}
 use Rattle.rb_layout.specs.declared.opens.OpenPosition.{OpenPosition}
 
@@ -11,7 +11,3 @@ open_at o = record { path = o.path; ty = o.ty }
 -- a list of open positions that code lists, as specifications speak of them, in the same order
 abbrev pub opens_at : List OpenPosition → List Open
 opens_at os = map open_at os
-
--- an open position of a pattern that stands at this path, seen from the root: its own path comes behind this one
-abbrev pub under : List ℕ → Open → Open
-under path o = record { path = path ++ o.path; ty = o.ty }

@@ -4,3 +4,4 @@ pub mod Settling
 pub mod Ends
 pub mod Walking
 pub mod Laying
+pub mod Opening

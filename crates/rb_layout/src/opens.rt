@@ -3,7 +3,8 @@
 
 ghost use Rattle.std.specs.Prelude.{◌≡◌, ◌++◌, map, IfOk, OnOk};
 ghost use Rattle.rb_layout.specs.Positions.{open_positions, opens_below, opens_of};
-ghost use Rattle.rb_layout.specs.Opens.{opens_at, under};
+ghost use Rattle.rb_layout.specs.Opens.{opens_at};
+ghost use Rattle.rb_layout.specs.inner.Opening.{under};
 
 use crate::numbers::number_of;
 use crate::positions::type_of_root;

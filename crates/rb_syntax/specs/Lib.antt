@@ -1,4 +1,3 @@
-pub mod Backward
 pub mod Bytes
 pub mod Cutting
 pub mod Fronts
@@ -8,3 +7,4 @@ pub mod Spelling
 pub mod Tokens
 pub mod Words
 pub mod Written
+pub mod inner

@@ -4,7 +4,7 @@
 ghost use Rattle.std.specs.Prelude.{◌∷◌, OnOk};
 ghost use Rattle.rb_syntax.specs.declared.token.Token.TheVariants as tok;
 ghost use Rattle.rb_syntax.specs.Written as written;
-ghost use Rattle.rb_syntax.specs.Backward.{Wrote};
+ghost use Rattle.rb_syntax.specs.inner.Backward.{Wrote};
 ghost use Rattle.rb_syntax.specs.Spelling.{ty_written, upper_written, lower_written, uint_written};
 
 mod expression;

@@ -6,7 +6,7 @@ ghost use Rattle.std.specs.Prelude.{◌≡◌, ◌∷◌, ℕ, suc, map, OnOk};
 ghost use Rattle.rb_core.specs.declared.expression.Op.{Op};
 ghost use Rattle.rb_syntax.specs.declared.token.Symbol.TheVariants as symbol;
 ghost use Rattle.rb_syntax.specs.declared.token.Word.TheVariants as word;
-ghost use Rattle.rb_syntax.specs.Backward.{Wrote};
+ghost use Rattle.rb_syntax.specs.inner.Backward.{Wrote};
 ghost use Rattle.rb_syntax.specs.Written as written;
 ghost use Rattle.rb_syntax.specs.Written.{any_with, some_with};
 ghost use Rattle.rb_syntax.specs.Spelling as spelling;

@@ -2,7 +2,7 @@
 
 ghost use Rattle.std.specs.Prelude.{ℕ, map, OnOk};
 ghost use Rattle.rb_syntax.specs.declared.token.Token.TheVariants as tok;
-ghost use Rattle.rb_syntax.specs.Backward.{Wrote};
+ghost use Rattle.rb_syntax.specs.inner.Backward.{Wrote};
 ghost use Rattle.rb_syntax.specs.Written.{Writing, each, each_behind, any_with};
 
 use crate::spell::put_symbol;

@@ -1,7 +1,7 @@
 //! Patterns.
 
 ghost use Rattle.std.specs.Prelude.{◌≡◌, ◌∷◌, ℕ, map, OnOk};
-ghost use Rattle.rb_syntax.specs.Backward.{Wrote};
+ghost use Rattle.rb_syntax.specs.inner.Backward.{Wrote};
 ghost use Rattle.rb_syntax.specs.Spelling.{pat_written, fields_written, at_level};
 
 use crate::spell::{put_lower, put_num, put_symbol, put_upper};

@@ -1,7 +1,8 @@
 use Rattle.std.proofs.Common.{◌∷◌, ◌++◌, [], ℕ, List, map, length, refl, ap, ◌∙◌}
 use Rattle.std.proofs.lemmas.Option.{slice_get_read}
 use Rattle.rb_layout.specs.Positions.{opens_below, opens_of}
-use Rattle.rb_layout.specs.Opens.{opens_at, under}
+use Rattle.rb_layout.specs.Opens.{opens_at}
+use Rattle.rb_layout.specs.inner.Opening.{under}
 use Rattle.rb_layout.proofs.OpenLemmas.{opens-more}
 use Rattle.rb_layout.proofs.opens.+opening.Goals as goal
 

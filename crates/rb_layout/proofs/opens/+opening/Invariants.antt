@@ -1,6 +1,7 @@
 use Rattle.std.proofs.Common.{◌≡◌, ◌++◌, map, drop}
 use Rattle.rb_layout.specs.Positions.{opens_below, opens_of}
-use Rattle.rb_layout.specs.Opens.{opens_at, under}
+use Rattle.rb_layout.specs.Opens.{opens_at}
+use Rattle.rb_layout.specs.inner.Opening.{under}
 use Rattle.rb_layout.proofs.opens.+opening.Given as goal
 
 abbrev pub invariant-add_below-loop-i : goal.invariant-add_below-loop-i
