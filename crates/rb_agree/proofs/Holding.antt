@@ -25,7 +25,8 @@ use Rattle.rb_agree.specs.declared.items.Item as D
 use Rattle.rb_layout.specs.declared.opens.OpenPosition.{OpenPosition}
 use Rattle.rb_layout.specs.Opens.{open_at, opens_at}
 use Rattle.rb_agree.specs.Written.{shown_item, shown_items, shown_part}
-use Rattle.rb_agree.specs.inner.Lists.{EachOf, SomeOf, FindsIn}
+use Rattle.rb_agree.specs.Lists.{SomeOf}
+use Rattle.rb_agree.specs.inner.Lists.{EachOf, FindsIn}
 use Rattle.rb_agree.specs.inner.Held.{AreOnce, FailsEach, FailsPath, FailsPlace, FailsUnits, HoldsPlace, IsOpenPath, block_runs, kind_runs, leaf_runs, part_paths, part_runs, run_if, times, word_runs}
 use Rattle.rb_agree.proofs.Lists.{each-first, each-map, each-none, some-first, some-map}
 

@@ -5,7 +5,8 @@ use Rattle.std.specs.List.{flat_map}
 use Rattle.std.proofs.lemmas.List.{drop_all}
 use Rattle.std.proofs.lemmas.Option.{same_Some, slice_get_within, slice_get-get_or}
 use Rattle.std.proofs.lemmas.Bool.{cases_lt}
-use Rattle.rb_agree.specs.inner.Lists.{EachOf, EachBefore, SomeOf, FindsIn}
+use Rattle.rb_agree.specs.Lists.{SomeOf}
+use Rattle.rb_agree.specs.inner.Lists.{EachOf, EachBefore, FindsIn}
 
 pub at-item : {A : Type 0} (xs : List A) (k : ℕ) (x : A) → k < length xs → x ≡ get_or xs k x → slice_get xs k ≡ Some x
 at-item xs k x lt is = slice_get-get_or xs k x lt ∙ ap Some (sym is)

@@ -17,7 +17,8 @@ use Rattle.rb_layout.specs.declared.evidence.Why.TheVariants as W
 use Rattle.rb_layout.specs.Words.{words_of_block, words_in}
 use Rattle.rb_layout.specs.Pointers.{PointsTo}
 use Rattle.rb_layout.specs.A9.{FailsNoPointer, FlattensNoPointer, HasPointerPart, cons_below, cons_below_root, pattern_cons, cons_step}
-use Rattle.rb_agree.specs.inner.Lists.{EachOf, SomeOf, FindsIn}
+use Rattle.rb_agree.specs.Lists.{SomeOf}
+use Rattle.rb_agree.specs.inner.Lists.{EachOf, FindsIn}
 use Rattle.rb_layout.specs.Graphs.{mark_in, mark_of}
 use Rattle.rb_agree.specs.Pointing.{AreMarks, LeafPoints, LeavesPoint, WordsPoint}
 use Rattle.rb_agree.specs.inner.Marks.{IsMarked, IsUnmarked}

@@ -14,7 +14,8 @@ use Rattle.rb_layout.specs.declared.evidence.Why.TheVariants.{BlockWord, BlockWo
 use Rattle.rb_layout.specs.Words.{words_of_block, words_in}
 use Rattle.rb_layout.specs.Pointers.{PointsTo}
 use Rattle.rb_layout.specs.A4.{FailsBlocks, HasBlocks, IsAlignment, IsBlockLength, IsWide}
-use Rattle.rb_agree.specs.inner.Lists.{EachOf, SomeOf}
+use Rattle.rb_agree.specs.Lists.{SomeOf}
+use Rattle.rb_agree.specs.inner.Lists.{EachOf}
 use Rattle.rb_agree.specs.inner.Blocks.{ArePointersFine, FailsBlock, FailsKind, FailsLength, FailsPointer, FailsPointers, FailsWidth, HasWidth, IsBlock, IsKind}
 
 -- Powers of two -----------------------------------------------------------------------------------

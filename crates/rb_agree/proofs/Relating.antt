@@ -20,7 +20,7 @@ use Rattle.rb_layout.specs.A10.{HoldsField}
 use Rattle.rb_layout.specs.Graphs.{Leads}
 use Rattle.rb_agree.specs.Graphs.{IsGraphOf}
 use Rattle.rb_agree.specs.inner.Rows.{below_types, flat_row, held_row, held_type, kind_holds, leaf_holds, leaf_types, part_holds, pattern_types, types_of_cons, word_holds}
-use Rattle.rb_agree.specs.inner.Lists.{SomeOf}
+use Rattle.rb_agree.specs.Lists.{SomeOf}
 use Rattle.rb_agree.proofs.Lists.{map-at}
 use Rattle.rb_agree.proofs.Marking.{cons-Con, below-Con}
 

@@ -10,7 +10,8 @@ use Rattle.rb_layout.specs.Cycles.{HasNoCycle, IsChain, IsCycleFrom}
 use Rattle.rb_agree.specs.declared.cycles.Way.{Way}
 use Rattle.rb_layout.specs.Graphs.{AreUnmarked, edges_of, HasEdge, HasNoEdge, Leads, mark_in, mark_of, row_in}
 use Rattle.rb_layout.proofs.GraphLemmas.{Reaches, chain-snoc, get-last, get-left, get-of, none-past, reach-more, set-here, set-keeps, set-length, set-only}
-use Rattle.rb_agree.specs.inner.Lists.{EachOf, SomeOf}
+use Rattle.rb_agree.specs.Lists.{SomeOf}
+use Rattle.rb_agree.specs.inner.Lists.{EachOf}
 use Rattle.rb_agree.specs.inner.Ways.{State, added, added_if, all_added, state}
 
 -- No number twice -----------------------------------------------------------------------------------------

@@ -19,7 +19,8 @@ use Rattle.rb_layout.specs.A7.{FailsTest, FailsTests, IsLiteral, MeetsTest, Meet
 use Rattle.rb_layout.proofs.FlatForms.{fold-Leaf, fold-Split, fold-Split-else}
 use Rattle.rb_agree.specs.declared.tests.Below.{Below}
 use Rattle.rb_agree.specs.declared.tests.Below.TheVariants.{Absent, Passes, Fails}
-use Rattle.rb_agree.specs.inner.Lists.{EachOf, SomeOf}
+use Rattle.rb_agree.specs.Lists.{SomeOf}
+use Rattle.rb_agree.specs.inner.Lists.{EachOf}
 use Rattle.rb_agree.specs.inner.Splits.{literals_in}
 use Rattle.rb_agree.specs.inner.Tests.{IsAfter, IsBelow, LeadsToLeaf, Misses, PassesRoute, FailsRoute, arms_routes, other_routes, both, status_of}
 use Rattle.rb_agree.proofs.Lists.{each-append, each-first, each-map, each-none, some-first, some-left, some-map, some-right, flat-next, flat-end, map-at}

@@ -1,5 +1,6 @@
 pub mod Answers
 pub mod Written
+pub mod Lists
 pub mod Pointing
 pub mod Graphs
 pub mod inner

@@ -7,7 +7,7 @@ use Rattle.rb_layout.specs.declared.layout.Block.{Block}
 use Rattle.rb_layout.specs.declared.layout.FlatWord.{FlatWord}
 use Rattle.rb_layout.specs.declared.layout.Part.{Part}
 use Rattle.rb_layout.specs.declared.layout.Kind.TheVariants.{Pointer}
-use Rattle.rb_agree.specs.inner.Lists.{SomeOf}
+use Rattle.rb_agree.specs.Lists.{SomeOf}
 
 -- a part is a pointer
 abbrev pub PartPoints : Part → Type 0

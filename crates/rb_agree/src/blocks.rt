@@ -20,7 +20,8 @@
 
 ghost use Rattle.std.specs.Prelude.{◌≡◌, ◌↔◌, ◌^◌, ◌≤◌, length, IfSome, IsTrue, MatchOption};
 ghost use Rattle.rb_layout.specs.A4.{FailsBlocks, HasBlocks, IsAlignment, IsBlockLength, IsBlockWidth, IsWide};
-ghost use Rattle.rb_agree.specs.inner.Lists.{EachOf, SomeOf};
+ghost use Rattle.rb_agree.specs.Lists.{SomeOf};
+ghost use Rattle.rb_agree.specs.inner.Lists.{EachOf};
 ghost use Rattle.rb_agree.specs.inner.Blocks.{FailsBlock, FailsInBlocks, FailsKind, FailsLength, FailsNear, FailsNearPart, FailsPointer, FailsWidth, HasWidth, IsBlock, IsKind, ArePartsFine, ArePointersFine, FailsPointerParts, FailsPointers, pointed_block};
 
 use rb_layout::evidence::Why;

@@ -11,7 +11,8 @@ use Rattle.rb_layout.specs.declared.layout.Kind.TheVariants.{Const, Bits, Word, 
 use Rattle.rb_layout.specs.declared.evidence.Why.{Why}
 use Rattle.rb_layout.specs.declared.evidence.Why.TheVariants.{BlockWord, BlockWords, Align, ShortPointer}
 use Rattle.rb_layout.specs.A4.{IsAlignment, IsBlockLength, IsBlockWidth, IsWide}
-use Rattle.rb_agree.specs.inner.Lists.{EachOf, SomeOf}
+use Rattle.rb_agree.specs.Lists.{SomeOf}
+use Rattle.rb_agree.specs.inner.Lists.{EachOf}
 
 -- how a pointer of l bits with this alignment fails: by the alignment, or by its bits with those that it saves
 abbrev pub FailsPointer : ℕ → ℕ → Why → Type 0

@@ -21,7 +21,7 @@ use Rattle.rb_layout.specs.A6.{times_held, units_of}
 use Rattle.rb_agree.specs.declared.runs.Run.{Run}
 use Rattle.rb_agree.specs.declared.items.Written.{Written}
 use Rattle.rb_agree.specs.Written.{shown_part}
-use Rattle.rb_agree.specs.inner.Lists.{SomeOf}
+use Rattle.rb_agree.specs.Lists.{SomeOf}
 
 -- whether a run has unit i
 abbrev pub has_unit : Run → ℕ → Bool

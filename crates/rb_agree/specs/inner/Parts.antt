@@ -12,7 +12,8 @@ use Rattle.rb_layout.specs.Items.{Number, WrittenPart, content_paths}
 use Rattle.rb_layout.specs.A3.{FailsParts, Fits, IsIn, IsOfItem, IsContentPlaced, LiesIn}
 use Rattle.rb_agree.specs.declared.items.Written.{Written}
 use Rattle.rb_agree.specs.Written.{shown_part}
-use Rattle.rb_agree.specs.inner.Lists.{EachOf, SomeOf}
+use Rattle.rb_agree.specs.Lists.{SomeOf}
+use Rattle.rb_agree.specs.inner.Lists.{EachOf}
 
 -- parts as they are written, as the rules speak of them, in order
 abbrev pub shown_parts : List Written → List WrittenPart

@@ -14,7 +14,8 @@ use Rattle.rb_layout.specs.Splits.{Test, IsNone, Route, under_test, arm_routes, 
 use Rattle.rb_layout.specs.A7.{FailsTest, MeetsTest}
 use Rattle.rb_agree.specs.declared.tests.Below.{Below}
 use Rattle.rb_agree.specs.declared.tests.Below.TheVariants.{Absent, Passes, Fails}
-use Rattle.rb_agree.specs.inner.Lists.{EachOf, SomeOf}
+use Rattle.rb_agree.specs.Lists.{SomeOf}
+use Rattle.rb_agree.specs.inner.Lists.{EachOf}
 
 -- the ways to leaves through these arms of a split, each behind the test for its arm's literal
 abbrev pub arms_routes : Loc → List FlatArm → List Route

@@ -2,7 +2,8 @@ use Rattle.std.proofs.Common.{subst, length}
 use Rattle.std.specs.Prelude.{MatchOption}
 use Rattle.rb_layout.specs.A4.{IsBlockLength}
 use Rattle.rb_agree.specs.inner.Blocks.{ArePointersFine, FailsLength, FailsPointers, HasWidth, FailsWidth}
-use Rattle.rb_agree.specs.inner.Lists.{EachOf, SomeOf}
+use Rattle.rb_agree.specs.Lists.{SomeOf}
+use Rattle.rb_agree.specs.inner.Lists.{EachOf}
 use Rattle.rb_agree.proofs.PointerParts.{length-fails, width-fails, in-block}
 use Rattle.rb_agree.proofs.blocks.block_fault.Goals as goal
 

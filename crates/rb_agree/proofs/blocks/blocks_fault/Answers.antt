@@ -2,7 +2,8 @@ use Rattle.std.proofs.Common.{subst, arith}
 use Rattle.std.specs.Prelude.{MatchOption}
 use Rattle.rb_layout.specs.declared.layout.Block.{Block}
 use Rattle.rb_agree.specs.inner.Blocks.{ArePointersFine, FailsPointers, FailsBlock, IsBlock}
-use Rattle.rb_agree.specs.inner.Lists.{EachOf, SomeOf}
+use Rattle.rb_agree.specs.Lists.{SomeOf}
+use Rattle.rb_agree.specs.inner.Lists.{EachOf}
 use Rattle.rb_agree.proofs.PointerParts.{block-fails, in-leaf}
 use Rattle.rb_agree.proofs.blocks.blocks_fault.Goals as goal
 
