@@ -1,6 +1,7 @@
 -- The places of faults, from what holds of the reader of a file's items.
 use Rattle.std.proofs.Common.{◌≡◌, ◌≢◌, ◌⊎◌, inl, inr, ℕ, zero, suc, ◌+◌, ◌-◌, ◌<◌, ◌≤◌, List, [], ◌∷◌, ◌++◌, map, length, take, Bool, true, false, nat_lt, if◌then◌else◌, Some, None, Result, Ok, Err, IfOk, refl, sym, ◌∙◌, ap, subst, arith, append_assoc, length-append}
 use Rattle.std.proofs.lemmas.Grind.{common_steps}
+use Rattle.rb_core.specs.Limits.{most_levels}
 use Rattle.rb_syntax.specs.declared.token.Token.{Token}
 use Rattle.rb_syntax.specs.declared.tree.ItemTree.{ItemTree}
 use Rattle.rb_syntax.specs.declared.tree.FileTree.{FileTree}
@@ -194,37 +195,37 @@ module _ (bars : Token → Bool) (reader : (total limit : ℕ) → Reader (List 
       subst (λ q. StopsAt ts q) p (subst (λ us. StopsAt us (length s.front)) (sym s.parts) r)
 
   -- The file of a prefix that is too deep has that node.
-  node-of : (ts : List Token) (file : FileTree) (m : ℕ) → IsTreeOf ts file → run 128 start ts ≡ too_deep m → HasNode (length ts) 129 (length ts - m) (file_written file)
+  node-of : (ts : List Token) (file : FileTree) (m : ℕ) → IsTreeOf ts file → run most_levels start ts ≡ too_deep m → HasNode (length ts) (suc most_levels) (length ts - m) (file_written file)
   unfolding run is_done end_of_tokens
-  node-of ts file m h r = by_again (again 128 ts file h) where
-    at_end : (x : ReadOutcome (List ItemTree)) → reader (length ts) 128 ts ≡ x → too_deep m ≡ goes 128 [] x
-    at_end x e = sym r ∙ (form (length ts) 128).follows ts [] ∙ ap (λ y. goes 128 [] y) e
+  node-of ts file m h r = by_again (again most_levels ts file h) where
+    at_end : (x : ReadOutcome (List ItemTree)) → reader (length ts) most_levels ts ≡ x → too_deep m ≡ goes most_levels [] x
+    at_end x e = sym r ∙ (form (length ts) most_levels).follows ts [] ∙ ap (λ y. goes most_levels [] y) e
 
-    by_again : Again (length ts) 128 (reader (length ts) 128) file.items (file_written file) [] → HasNode (length ts) 129 (length ts - m) (file_written file)
+    by_again : Again (length ts) most_levels (reader (length ts) most_levels) file.items (file_written file) [] → HasNode (length ts) (suc most_levels) (length ts - m) (file_written file)
     by_again (fits o e q) =
-        let w = at_end (Ok (file.items, [])) (subst (λ us. reader (length ts) 128 us ≡ Ok (file.items, [])) h.spells e) in
-        let v : run 128 [] [] ≡ whole = refl in cc
+        let w = at_end (Ok (file.items, [])) (subst (λ us. reader (length ts) most_levels us ≡ Ok (file.items, [])) h.spells e) in
+        let v : run most_levels [] [] ≡ whole = refl in cc
     by_again (exceeds k o e) =
-        let w : too_deep m ≡ too_deep k = at_end (Err (deep k)) (subst (λ us. reader (length ts) 128 us ≡ Err (deep k)) h.spells e) in
+        let w : too_deep m ≡ too_deep k = at_end (Err (deep k)) (subst (λ us. reader (length ts) most_levels us ≡ Err (deep k)) h.spells e) in
         let q : k ≡ m = cc in
-        subst (λ j. HasNode (length ts) 129 (length ts - j) (file_written file)) q (file-climbs (length ts) 128 file k o)
+        subst (λ j. HasNode (length ts) (suc most_levels) (length ts - j) (file_written file)) q (file-climbs (length ts) most_levels file k o)
 
   deep-parts : (front : List Token) (t : Token) (back : List Token) (last : List Open) (level : ℕ) (behind : List Open)
       → steps start front ≡ Some last → step last t ≡ Some (level, behind)
-      → ((us : List Token) → run 128 start (front ++ t ∷ us) ≡ too_deep (suc (length us))) → IsTooDeepAt (front ++ t ∷ back) (length front)
+      → ((us : List Token) → run most_levels start (front ++ t ∷ us) ≡ too_deep (suc (length us))) → IsTooDeepAt (front ++ t ∷ back) (length front)
   unfolding steps goes_to
   deep-parts front t back last level behind e b same =
       let one : steps last (t ∷ []) ≡ Some behind = rw b refl in
       let two : steps start (front ++ t ∷ []) ≡ Some behind = steps-append front (t ∷ []) start last behind e one in
       let pre : IsPrefix (front ++ t ∷ []) = prefix-open (front ++ t ∷ []) behind two in
       let all : List Token = (front ++ t ∷ []) ++ pre.0 in
-      let r : run 128 start all ≡ too_deep (suc (length pre.0)) = rw append_assoc (same pre.0) in
+      let r : run most_levels start all ≡ too_deep (suc (length pre.0)) = rw append_assoc (same pre.0) in
       let n : length all ≡ length (front ++ t ∷ []) + length pre.0 = length-append (front ++ t ∷ []) pre.0 in
       let k : length (front ++ t ∷ []) ≡ length front + 1 = length-append front (t ∷ []) in
       let p : length all - suc (length pre.0) ≡ length front = omega arith in
       let tree = renumbered all pre.1.0 pre.1.1 pre.1.2 in
-      let d : HasNode (length all) 129 (length front) (file_written tree.0) =
-      subst (λ q. HasNode (length all) 129 q (file_written tree.0)) p (node-of all tree.0 (suc (length pre.0)) tree.1 r) in
+      let d : HasNode (length all) (suc most_levels) (length front) (file_written tree.0) =
+      subst (λ q. HasNode (length all) (suc most_levels) q (file_written tree.0)) p (node-of all tree.0 (suc (length pre.0)) tree.1 r) in
       record {
         within = simp length-append (omega arith);
         more = pre.0;
@@ -234,8 +235,8 @@ module _ (bars : Token → Bool) (reader : (total limit : ℕ) → Reader (List 
         deep = rw take-front-one d;
       }
 
-  deep-at : (ts : List Token) (m : ℕ) → run 128 start ts ≡ too_deep m → IsTooDeepAt ts (length ts - m)
-  deep-at ts m e = let s : Deepens 128 start ts m = deepens 128 ts start m e in
+  deep-at : (ts : List Token) (m : ℕ) → run most_levels start ts ≡ too_deep m → IsTooDeepAt ts (length ts - m)
+  deep-at ts m e = let s : Deepens most_levels start ts m = deepens most_levels ts start m e in
       let n : length (s.front ++ s.token ∷ s.back) ≡ length s.front + suc (length s.back) = length-append s.front (s.token ∷ s.back) in
       let h : length ts ≡ length (s.front ++ s.token ∷ s.back) = ap length s.parts in
       let l : suc (length s.back) ≡ m = s.left in
@@ -245,20 +246,20 @@ module _ (bars : Token → Bool) (reader : (total limit : ℕ) → Reader (List 
 
   -- the run is too deep, at this place or before it
   abbrev DeepBy : List Token → ℕ → Type 0
-  DeepBy ts q = (m : ℕ) × (run 128 start ts ≡ too_deep m) × (length ts - m ≤ q)
+  DeepBy ts q = (m : ℕ) × (run most_levels start ts ≡ too_deep m) × (length ts - m ≤ q)
 
-  deep-run : (ts : List Token) (file : FileTree) (q : ℕ) → IsTreeOf ts file → HasNode (length ts) 129 q (file_written file) → DeepBy ts q
+  deep-run : (ts : List Token) (file : FileTree) (q : ℕ) → IsTreeOf ts file → HasNode (length ts) (suc most_levels) q (file_written file) → DeepBy ts q
   unfolding whole_file end_of
-  deep-run ts file q h d = by_again (node-over (length ts) 128 q (file_written file) d) (again 128 ts file h) where
-    by_again : OverBy (length ts) 128 q (file_written file) → Again (length ts) 128 (reader (length ts) 128) file.items (file_written file) [] → DeepBy ts q
+  deep-run ts file q h d = by_again (node-over (length ts) most_levels q (file_written file) d) (again most_levels ts file h) where
+    by_again : OverBy (length ts) most_levels q (file_written file) → Again (length ts) most_levels (reader (length ts) most_levels) file.items (file_written file) [] → DeepBy ts q
     by_again w (fits o e r) = let g : Some w.0 ≡ None = sym w.1 ∙ o in cc
     by_again w (exceeds k o e) =
         let g : w.0 ≡ k = cc in
-        let e' : reader (length ts) 128 ts ≡ Err (deep w.0) = rw g (subst (λ us. reader (length ts) 128 us ≡ Err (deep k)) h.spells e) in
-        let f : file_of (length ts) 128 ts ≡ Err (deep w.0) = rw e' refl in
-        (w.0, run-file (length ts) 128 ts ∙ ap end_of f, w.2)
+        let e' : reader (length ts) most_levels ts ≡ Err (deep w.0) = rw g (subst (λ us. reader (length ts) most_levels us ≡ Err (deep k)) h.spells e) in
+        let f : file_of (length ts) most_levels ts ≡ Err (deep w.0) = rw e' refl in
+        (w.0, run-file (length ts) most_levels ts ∙ ap end_of f, w.2)
 
-  deep-front : (ts front us : List Token) (t : Token) (q : ℕ) → ts ≡ front ++ t ∷ us → length front ≤ q → run 128 start (front ++ t ∷ us) ≡ too_deep (suc (length us)) → DeepBy ts q
+  deep-front : (ts front us : List Token) (t : Token) (q : ℕ) → ts ≡ front ++ t ∷ us → length front ≤ q → run most_levels start (front ++ t ∷ us) ≡ too_deep (suc (length us)) → DeepBy ts q
   deep-front ts front us t q e l r =
       let n : length (front ++ t ∷ us) ≡ length front + suc (length us) = length-append front (t ∷ us) in
       let h : length ts ≡ length (front ++ t ∷ us) = ap length e in
@@ -266,7 +267,7 @@ module _ (bars : Token → Bool) (reader : (total limit : ℕ) → Reader (List 
 
   deep-shared : (ts us : List Token) (q : ℕ) → q < length ts → DeepBy (take (suc q) ts ++ us) q → DeepBy ts q
   deep-shared ts us q l w =
-      let s : Deepens 128 start (take (suc q) ts ++ us) w.0 = deepens 128 (take (suc q) ts ++ us) start w.0 w.1 in
+      let s : Deepens most_levels start (take (suc q) ts ++ us) w.0 = deepens most_levels (take (suc q) ts ++ us) start w.0 w.1 in
       let n : length (s.front ++ s.token ∷ s.back) ≡ length s.front + suc (length s.back) = length-append s.front (s.token ∷ s.back) in
       let h : length (take (suc q) ts ++ us) ≡ length (s.front ++ s.token ∷ s.back) = ap length s.parts in
       let b : suc (length s.back) ≡ w.0 = s.left in
@@ -278,30 +279,30 @@ module _ (bars : Token → Bool) (reader : (total limit : ℕ) → Reader (List 
   deep-by : (ts : List Token) (q : ℕ) → IsTooDeepAt ts q → DeepBy ts q
   deep-by ts q d =
       let us : List Token = take (suc q) ts ++ d.more in
-      let r = renumbered us d.file d.spells d.formed in deep-shared ts d.more q d.within (deep-run us r.0 q r.1 (r.2 129 q d.deep))
+      let r = renumbered us d.file d.spells d.formed in deep-shared ts d.more q d.within (deep-run us r.0 q r.1 (r.2 (suc most_levels) q d.deep))
 
-  nowhere : (ts : List Token) (e : End) → run 128 start ts ≡ e → ((m : ℕ) → e ≢ too_deep m) → IsNowhereTooDeep ts
+  nowhere : (ts : List Token) (e : End) → run most_levels start ts ≡ e → ((m : ℕ) → e ≢ too_deep m) → IsNowhereTooDeep ts
   nowhere ts e r h q d = let w = deep-by ts q d in h w.0 (sym r ∙ w.1)
 
   -- The four theorems.
 
-  pub ok : (ts : List Token) (file : FileTree) → file_of (length ts) 128 ts ≡ Ok file → IsTreeOf ts file × AreWithin 128 (file_written file)
-  ok ts file e = let s = file-spells (length ts) 128 ts file e in (record { spells = s.spells; formed = s.formed; numbered = s.numbered }, s.small)
+  pub ok : (ts : List Token) (file : FileTree) → file_of (length ts) most_levels ts ≡ Ok file → IsTreeOf ts file × AreWithin most_levels (file_written file)
+  ok ts file e = let s = file-spells (length ts) most_levels ts file e in (record { spells = s.spells; formed = s.formed; numbered = s.numbered }, s.small)
 
-  pub ok-nowhere : (ts : List Token) (file : FileTree) → file_of (length ts) 128 ts ≡ Ok file → IsNowhereTooDeep ts
+  pub ok-nowhere : (ts : List Token) (file : FileTree) → file_of (length ts) most_levels ts ≡ Ok file → IsNowhereTooDeep ts
   unfolding end_of
-  ok-nowhere ts file e = nowhere ts whole (run-file (length ts) 128 ts ∙ ap end_of e) (λ m q. cc)
+  ok-nowhere ts file e = nowhere ts whole (run-file (length ts) most_levels ts ∙ ap end_of e) (λ m q. cc)
 
-  pub only : (ts : List Token) (file : FileTree) → IsTreeOf ts file → AreWithin 128 (file_written file) → file_of (length ts) 128 ts ≡ Ok file
-  only ts file h w = file-again 128 ts file h w
+  pub only : (ts : List Token) (file : FileTree) → IsTreeOf ts file → AreWithin most_levels (file_written file) → file_of (length ts) most_levels ts ≡ Ok file
+  only ts file h w = file-again most_levels ts file h w
 
-  pub is_stuck : (ts : List Token) (m : ℕ) → file_of (length ts) 128 ts ≡ Err (stuck m) → StopsAt ts (length ts - m) × IsNowhereTooDeep ts
+  pub is_stuck : (ts : List Token) (m : ℕ) → file_of (length ts) most_levels ts ≡ Err (stuck m) → StopsAt ts (length ts - m) × IsNowhereTooDeep ts
   unfolding end_of
-  is_stuck ts m e = let r : run 128 start ts ≡ stopped m = run-file (length ts) 128 ts ∙ ap end_of e in (stops-at 128 ts m r, nowhere ts (stopped m) r (λ k q. cc))
+  is_stuck ts m e = let r : run most_levels start ts ≡ stopped m = run-file (length ts) most_levels ts ∙ ap end_of e in (stops-at most_levels ts m r, nowhere ts (stopped m) r (λ k q. cc))
 
-  pub is_deep : (ts : List Token) (m : ℕ) → file_of (length ts) 128 ts ≡ Err (deep m) → IsFirstTooDeep ts (length ts - m)
+  pub is_deep : (ts : List Token) (m : ℕ) → file_of (length ts) most_levels ts ≡ Err (deep m) → IsFirstTooDeep ts (length ts - m)
   unfolding end_of
-  is_deep ts m e = let r : run 128 start ts ≡ too_deep m = run-file (length ts) 128 ts ∙ ap end_of e in record {
+  is_deep ts m e = let r : run most_levels start ts ≡ too_deep m = run-file (length ts) most_levels ts ∙ ap end_of e in record {
     too_deep = deep-at ts m r;
     is_first = λ q d. let w = deep-by ts q d in let same : too_deep w.0 ≡ too_deep m = sym w.1 ∙ r in let k : w.0 ≡ m = cc in subst (λ j. length ts - j ≤ q) k w.2;
   }

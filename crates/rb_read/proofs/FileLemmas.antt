@@ -1,5 +1,6 @@
 -- What the tokens are as a file, from what the readers give.
 use Rattle.std.proofs.Common.{◌≡◌, ℕ, ◌-◌, List, length, Result, Ok, Err, sym, subst}
+use Rattle.rb_core.specs.Limits.{most_levels}
 use Rattle.rb_syntax.specs.declared.token.Placed.{Placed}
 use Rattle.rb_syntax.specs.declared.tree.FileTree.{FileTree}
 use Rattle.rb_syntax.specs.Tokens.{tokens}
@@ -13,10 +14,10 @@ use Rattle.rb_read.proofs.Loops.{tokens-length}
 
 -- what the readers give on these tokens
 abbrev given : List Placed → Result FileTree Fault
-given ps = whole_file (file_items (length ps) 128 (tokens ps))
+given ps = whole_file (file_items (length ps) most_levels (tokens ps))
 
 counted-anew : (ps : List Placed) (r : Result FileTree Fault) → given ps ≡ r → file_of (tokens ps) ≡ r
-counted-anew ps r e = subst (λ n. whole_file (file_items n 128 (tokens ps)) ≡ r) (tokens-length ps) e
+counted-anew ps r e = subst (λ n. whole_file (file_items n most_levels (tokens ps)) ≡ r) (tokens-length ps) e
 
 pub given-file : (ps : List Placed) (file : FileTree) → given ps ≡ Ok file → IsFile (tokens ps) file
 given-file ps file e = let p = read-ok (tokens ps) file (counted-anew ps (Ok file) e) in record { tree = p.0; within = p.1 }

@@ -1,5 +1,6 @@
 -- What is open, on worked files: the check computes each end.
 use Rattle.std.proofs.Common.{◌≡◌, ℕ, zero, suc, List, [], ◌∷◌, ◌++◌, codes, refl}
+use Rattle.rb_core.specs.Limits.{most_levels}
 use Rattle.rb_syntax.specs.declared.token.Word.{Word}
 use Rattle.rb_syntax.specs.declared.token.Word.TheVariants.{Layout, Fun, Let, In, Match, Split, Else, Inline, Boxed, Add, To}
 use Rattle.rb_syntax.specs.declared.token.Word.TheVariants as word
@@ -55,24 +56,24 @@ abbrev types : List Token
 types = res word.Type ∷ up ∷ sym Equals ∷ up ∷ sym Bar ∷ up ∷ sym OpenParen ∷ token.Uint 8 ∷ sym Comma ∷ up ∷ sym CloseParen ∷ sym Semicolon
     ∷ res Layout ∷ up ∷ sym Equals ∷ res Boxed ∷ sym Semicolon ∷ []
 
-all-whole : run 128 start (types ++ layout ++ function) ≡ whole
+all-whole : run most_levels start (types ++ layout ++ function) ≡ whole
 unfolding run go_on step begins as_pattern form_of is_done end_of_tokens
 all-whole = refl
 
 -- fun x(x: u8,): u8 = x; has its fault at the first `)`, with six tokens left
-comma-last : run 128 start (res Fun ∷ low ∷ sym OpenParen ∷ low ∷ sym Colon ∷ token.Uint 8 ∷ sym Comma ∷ sym CloseParen ∷ sym Colon ∷ token.Uint 8
+comma-last : run most_levels start (res Fun ∷ low ∷ sym OpenParen ∷ low ∷ sym Colon ∷ token.Uint 8 ∷ sym Comma ∷ sym CloseParen ∷ sym Colon ∷ token.Uint 8
     ∷ sym Equals ∷ low ∷ sym Semicolon ∷ []) ≡ stopped 6
 unfolding run go_on step begins as_pattern form_of is_done end_of_tokens
 comma-last = refl
 
 -- type T = T | T; layout T <0> = split 0 [0:0] { 0 => T   is no whole file, and has no wrong token
-left-unfinished : run 128 start (res word.Type ∷ up ∷ sym Equals ∷ up ∷ sym Bar ∷ up ∷ sym Semicolon ∷ res Layout ∷ up ∷ sym Less ∷ num ∷ sym Greater ∷ sym Equals
+left-unfinished : run most_levels start (res word.Type ∷ up ∷ sym Equals ∷ up ∷ sym Bar ∷ up ∷ sym Semicolon ∷ res Layout ∷ up ∷ sym Less ∷ num ∷ sym Greater ∷ sym Equals
     ∷ res Split ∷ num ∷ range ++ sym OpenBrace ∷ num ∷ sym FatArrow ∷ up ∷ []) ≡ stopped 0
 unfolding run go_on step begins as_pattern form_of is_done end_of_tokens
 left-unfinished = refl
 
 -- behind the last item
-after-last : run 128 start (types ++ sym Semicolon ∷ []) ≡ stopped 1
+after-last : run most_levels start (types ++ sym Semicolon ∷ []) ≡ stopped 1
 unfolding run go_on step begins as_pattern form_of is_done end_of_tokens
 after-last = refl
 
@@ -84,11 +85,11 @@ nested (suc n) rest = res To ∷ token.Uint 8 ∷ sym OpenParen ∷ nested n (sy
 abbrev of_nested : ℕ → List Token
 of_nested n = res Fun ∷ low ∷ sym OpenParen ∷ sym CloseParen ∷ sym Colon ∷ token.Uint 8 ∷ sym Equals ∷ nested n (sym Semicolon ∷ [])
 
-level-128 : run 128 start (of_nested 127) ≡ whole
+level-128 : run most_levels start (of_nested 127) ≡ whole
 unfolding run go_on step begins as_pattern form_of is_done end_of_tokens
 level-128 = refl
 
 -- the number is at level 129, with the closing parentheses and the semicolon behind it
-level-129 : run 128 start (of_nested 128) ≡ too_deep 130
+level-129 : run most_levels start (of_nested 128) ≡ too_deep 130
 unfolding run go_on step begins as_pattern form_of is_done end_of_tokens
 level-129 = refl
