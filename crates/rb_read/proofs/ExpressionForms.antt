@@ -184,9 +184,16 @@ module _ (total limit l : ℕ) (small : nat_lt limit l ≡ false) {inside : Read
   args-form = iso-form (λ p. p.1) (λ es. (tt, es)) (λ es. refl) (λ p rest. refl)
       (before-any (symbol-part total limit symbol.OpenParen).form (any_closed-form expr-in symbol.CloseParen refl refl refl refl))
 
+  -- What stands behind the word of each form.
+
+  abbrev operands_written : Unit {0} × (ExprTree × (Unit {0} × (ExprTree × Unit {0}))) → Writing
+  operands_written (_, (first, (_, (second, _)))) rest = token (tok.Symbol symbol.OpenParen)
+      ∷ at_expr (suc l) first (token (tok.Symbol symbol.Comma)
+      ∷ at_expr (suc l) second (token (tok.Symbol symbol.CloseParen) ∷ rest))
+
   operands-form : IsForm total limit none
       (one (the symbol.OpenParen) ∷ one (open_at.expr (suc l)) ∷ one (the symbol.Comma) ∷ one (open_at.expr (suc l)) ∷ one (the symbol.CloseParen) ∷ [])
-      (λ p rest. token (tok.Symbol symbol.OpenParen) ∷ at_expr (suc l) p.1.0 (token (tok.Symbol symbol.Comma) ∷ at_expr (suc l) p.1.1.1.0 (token (tok.Symbol symbol.CloseParen) ∷ rest)))
+      operands_written
       (pair (expect symbol.OpenParen) (pair inner (pair (expect symbol.Comma) (pair inner (expect symbol.CloseParen)))))
   operands-form =
       before-any (symbol-part total limit symbol.OpenParen).form
@@ -195,19 +202,27 @@ module _ (total limit l : ℕ) (small : nat_lt limit l ≡ false) {inside : Read
       (pair-form expr-in.form (symbol-part total limit symbol.CloseParen).form
       (λ b rest c. refl))) (λ b rest c. refl))
 
+  abbrev conversion_written : ℕ × (Unit {0} × (ExprTree × Unit {0})) → Writing
+  conversion_written (bits, (_, (converted, _))) rest = uint_written bits (token (tok.Symbol symbol.OpenParen)
+      ∷ at_expr (suc l) converted (token (tok.Symbol symbol.CloseParen) ∷ rest))
+
   conversion-form : IsForm total limit none
       (one a_width ∷ one (the symbol.OpenParen) ∷ one (open_at.expr (suc l)) ∷ one (the symbol.CloseParen) ∷ [])
-      (λ p rest. uint_written p.0 (token (tok.Symbol symbol.OpenParen) ∷ at_expr (suc l) p.1.1.0 (token (tok.Symbol symbol.CloseParen) ∷ rest)))
+      conversion_written
       (pair width (pair (expect symbol.OpenParen) (pair inner (expect symbol.CloseParen))))
   conversion-form =
       before-any (width-part total limit).form
       (before-any (symbol-part total limit symbol.OpenParen).form
       (pair-form expr-in.form (symbol-part total limit symbol.CloseParen).form (λ b rest c. refl)))
 
+  abbrev binding_written : NameTree × (Unit {0} × (TyTree × (Unit {0} × (ExprTree × (Unit {0} × ExprTree))))) → Writing
+  binding_written (name, (_, (ty, (_, (bound, (_, body)))))) rest = lower_written name (token (tok.Symbol symbol.Colon)
+      ∷ ty_written ty (token (tok.Symbol symbol.Equals)
+      ∷ at_expr (suc l) bound (token (tok.Reserved word.In) ∷ at_expr (suc l) body rest)))
+
   binding-form : IsForm total limit opens_paren
       (one a_lower ∷ one (the symbol.Colon) ∷ one a_type ∷ one (the symbol.Equals) ∷ one (open_at.expr (suc l)) ∷ one (the_word word.In) ∷ one (open_at.expr (suc l)) ∷ [])
-      (λ p rest. lower_written p.0 (token (tok.Symbol symbol.Colon) ∷ ty_written p.1.1.0 (token (tok.Symbol symbol.Equals)
-      ∷ at_expr (suc l) p.1.1.1.1.0 (token (tok.Reserved word.In) ∷ at_expr (suc l) p.1.1.1.1.1.1 rest))))
+      binding_written
       (pair (lower_name total) (pair (expect symbol.Colon) (pair (type_tree total) (pair (expect symbol.Equals) (pair inner (pair (expect_word word.In) inner))))))
   binding-form =
       before-any (lower-part total limit).form
@@ -229,10 +244,14 @@ module _ (total limit l : ℕ) (small : nat_lt limit l ≡ false) {inside : Read
     strict = into-strict _ _ (first-strict pat-in.form (before-any (symbol-part total limit symbol.FatArrow).form expr-in.form) pat-in.strict);
   }
 
+  abbrev matching_written : ExprTree × (Unit {0} × List ClauseTree) → Writing
+  matching_written (matched, (_, clauses)) rest = at_expr (suc l) matched (token (tok.Symbol symbol.OpenBrace)
+      ∷ some_with (tok.Symbol symbol.Comma) (map (at_clause (suc l)) clauses)
+      (token (tok.Symbol symbol.CloseBrace) ∷ rest))
+
   matching-form : IsForm total limit none
       (one (open_at.expr (suc l)) ∷ one (the symbol.OpenBrace) ∷ one (open_at.clause (suc l)) ∷ next (open_at.clause (suc l)) symbol.Comma symbol.CloseBrace ∷ [])
-      (λ p rest. at_expr (suc l) p.0 (token (tok.Symbol symbol.OpenBrace)
-      ∷ some_with (tok.Symbol symbol.Comma) (map (at_clause (suc l)) p.1.1) (token (tok.Symbol symbol.CloseBrace) ∷ rest)))
+      matching_written
       (pair inner (pair (expect symbol.OpenBrace) (some_closed one_clause symbol.Comma symbol.CloseBrace)))
   matching-form =
       pair-form expr-in.form
@@ -267,13 +286,17 @@ module _ (total limit l : ℕ) (small : nat_lt limit l ≡ false) {inside : Read
   form-at : (w : Word) (f : Form) → form_of w ≡ f → IsWordOf f w → AtToken total limit (open_at.expr l) (at_expr l) this (tok.Reserved w)
   unfolding begins expression_one reading.expression_from reading.from_form reading.operation reading.conversion reading.binding reading.matching reading.clause_tree
   form-at w (form.Operation o) e h = node-at operands-form l (rw e refl) small (λ at. operation_of at o) (λ ts. rw e refl) marks
-      (λ at. tt) (λ at. (refl, tt)) (λ at. rw small refl) (λ at p rest. rw h (expr-Binary at o p.1.0 p.1.1.1.0 l rest))
+      (λ at. tt) (λ at. (refl, tt)) (λ at. rw small refl)
+      (λ at (_, (first, (_, (second, _)))) rest. rw h (expr-Binary at o first second l rest))
   form-at w form.Conversion e h = node-at conversion-form l (rw e refl) small (λ at. conversion_of at) (λ ts. rw e refl) marks
-      (λ at. tt) (λ at. (refl, tt)) (λ at. rw small refl) (λ at p rest. rw h (expr-To at p.0 p.1.1.0 l rest))
+      (λ at. tt) (λ at. (refl, tt)) (λ at. rw small refl)
+      (λ at (bits, (_, (converted, _))) rest. rw h (expr-To at bits converted l rest))
   form-at w form.Binding e h = node-at binding-form l (rw e refl) small (λ at. binding_of at) (λ ts. rw e refl) marks
-      (λ at. tt) (λ at. (refl, tt)) (λ at. rw small refl) (λ at p rest. rw h (expr-Let at p.0 p.1.1.0 p.1.1.1.1.0 p.1.1.1.1.1.1 l rest))
+      (λ at. tt) (λ at. (refl, tt)) (λ at. rw small refl)
+      (λ at (name, (_, (ty, (_, (bound, (_, body)))))) rest. rw h (expr-Let at name ty bound body l rest))
   form-at w form.Matching e h = node-at matching-form l (rw e refl) small (λ at. matching_of at) (λ ts. rw e refl) marks
-      (λ at. tt) (λ at. (refl, tt)) (λ at. rw small refl) (λ at p rest. rw h (match-written at p.0 p.1.1 l rest))
+      (λ at. tt) (λ at. (refl, tt)) (λ at. rw small refl)
+      (λ at (matched, (_, clauses)) rest. rw h (match-written at matched clauses l rest))
   form-at w form.Other e h = none-at (rw e refl) (λ ts. rw e refl)
 
   expression-on : (t : Token) → AtToken total limit (open_at.expr l) (at_expr l) this t

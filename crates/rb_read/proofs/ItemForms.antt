@@ -7,6 +7,11 @@ use Rattle.rb_syntax.specs.declared.token.Symbol.TheVariants as symbol
 use Rattle.rb_syntax.specs.declared.token.Token.{Token}
 use Rattle.rb_syntax.specs.declared.token.Token.TheVariants as tok
 use Rattle.rb_syntax.specs.declared.tree.NameTree.{NameTree}
+use Rattle.rb_syntax.specs.declared.tree.TyTree.{TyTree}
+use Rattle.rb_syntax.specs.declared.tree.ConTree.{ConTree}
+use Rattle.rb_syntax.specs.declared.tree.ParamTree.{ParamTree}
+use Rattle.rb_syntax.specs.declared.tree.ExprTree.{ExprTree}
+use Rattle.rb_syntax.specs.declared.tree.SplitTree.{SplitTree}
 use Rattle.rb_syntax.specs.declared.tree.ItemTree.{ItemTree}
 use Rattle.rb_syntax.specs.declared.tree.ItemTree.TheVariants as top
 use Rattle.rb_syntax.specs.Written.{Written, Writing, token, number, tokens_in, each, some_with, any_with}
@@ -56,8 +61,14 @@ rest_written (laid_out shape tree) rest = token (tok.Symbol symbol.Less) ∷ som
 rest_written (reading.derived a) rest = token (tok.Symbol symbol.Equals) ∷ auto_written a (token (tok.Symbol symbol.Semicolon) ∷ rest)
 
 module _ (total limit : ℕ) where
+  -- what stands behind `<`
+  abbrev laid_out_written : List ℕ × (Unit {0} × (SplitTree × Unit {0})) → Writing
+  laid_out_written (shape, (_, (tree, _))) rest = some_with (tok.Symbol symbol.Comma) (map width_written shape)
+      (token (tok.Symbol symbol.Greater) ∷ token (tok.Symbol symbol.Equals)
+      ∷ at_tree 1 tree (token (tok.Symbol symbol.Semicolon) ∷ rest))
+
   laid_out-form : IsForm total limit none (one a_number ∷ next a_number symbol.Comma symbol.Greater ∷ one (the symbol.Equals) ∷ one (open_at.tree 1) ∷ one (the symbol.Semicolon) ∷ [])
-      (λ p rest. some_with (tok.Symbol symbol.Comma) (map width_written p.0) (token (tok.Symbol symbol.Greater) ∷ token (tok.Symbol symbol.Equals) ∷ at_tree 1 p.1.1.0 (token (tok.Symbol symbol.Semicolon) ∷ rest)))
+      laid_out_written
       (pair (some_closed tokens.number symbol.Comma symbol.Greater) (pair (expect symbol.Equals) (pair (layout_tree limit total) (expect symbol.Semicolon))))
   laid_out-form =
       before-any (some_closed-form (number-part total limit) symbol.Comma symbol.Greater refl refl refl)
@@ -86,8 +97,13 @@ module _ (total limit : ℕ) where
 
   -- Items.
 
+  -- what stands behind `type`
+  abbrev type_written : NameTree × (Unit {0} × List ConTree) → Writing
+  type_written (name, (_, cons)) rest = upper_written name (token (tok.Symbol symbol.Equals)
+      ∷ some_with (tok.Symbol symbol.Bar) (map con_written cons) (token (tok.Symbol symbol.Semicolon) ∷ rest))
+
   type-form : IsForm total limit none (one an_upper ∷ one (the symbol.Equals) ∷ one a_con ∷ next a_con symbol.Bar symbol.Semicolon ∷ [])
-      (λ p rest. upper_written p.0 (token (tok.Symbol symbol.Equals) ∷ some_with (tok.Symbol symbol.Bar) (map con_written p.1.1) (token (tok.Symbol symbol.Semicolon) ∷ rest)))
+      type_written
       (pair (upper_name total) (pair (expect symbol.Equals) (some_closed (con_tree total) symbol.Bar symbol.Semicolon)))
   type-form =
       before-any (upper-part total limit).form
@@ -96,10 +112,18 @@ module _ (total limit : ℕ) where
   layout-form : IsForm total limit none (one an_upper ∷ one layout_rest ∷ []) (λ p rest. upper_written p.0 (rest_written p.1 rest)) (pair (upper_name total) (reading.layout_rest limit total))
   layout-form = before-any (upper-part total limit).form rest-part.form
 
+  -- what stands behind `fun`
+  abbrev fun_written : NameTree × (Unit {0} × (List ParamTree × (Unit {0} × (TyTree × (Unit {0}
+      × (ExprTree × Unit {0})))))) → Writing
+  fun_written (name, (_, (params, (_, (result, (_, (body, _))))))) rest = lower_written name
+      (token (tok.Symbol symbol.OpenParen) ∷ any_with (tok.Symbol symbol.Comma) (map param_written params)
+      (token (tok.Symbol symbol.CloseParen) ∷ token (tok.Symbol symbol.Colon)
+      ∷ ty_written result (token (tok.Symbol symbol.Equals)
+      ∷ spelling.expr_written body 1 (token (tok.Symbol symbol.Semicolon) ∷ rest))))
+
   fun-form : IsForm total limit none (one a_lower ∷ one (the symbol.OpenParen) ∷ first a_param symbol.CloseParen
       ∷ one (the symbol.Colon) ∷ one a_type ∷ one (the symbol.Equals) ∷ one (open_at.expr 1) ∷ one (the symbol.Semicolon) ∷ [])
-      (λ p rest. lower_written p.0 (token (tok.Symbol symbol.OpenParen) ∷ any_with (tok.Symbol symbol.Comma) (map param_written p.1.1.0) (token (tok.Symbol symbol.CloseParen)
-      ∷ token (tok.Symbol symbol.Colon) ∷ ty_written p.1.1.1.1.0 (token (tok.Symbol symbol.Equals) ∷ spelling.expr_written p.1.1.1.1.1.1.0 1 (token (tok.Symbol symbol.Semicolon) ∷ rest)))))
+      fun_written
       (pair (lower_name total) (pair (expect symbol.OpenParen) (pair (any_closed (param_tree total) symbol.CloseParen)
       (pair (expect symbol.Colon) (pair (type_tree total) (pair (expect symbol.Equals) (pair (expression limit total) (expect symbol.Semicolon))))))))
   unfolding begins

@@ -67,6 +67,11 @@ more_fields-form total limit = each-form (field_in-part total limit) opens_dot (
 abbrev pub opens_arrow : Token → Bool
 opens_arrow t = is_symbol symbol.Arrow t
 
+-- a step behind its arrow
+abbrev step_rest_written : ℕ × (Unit {0} × (ℕ × (Unit {0} × (ℕ × (ℕ × ℕ))))) → Writing
+step_rest_written (align, (_, (byte, (_, (width, (first, bits)))))) rest = num align ∷ token (tok.Symbol symbol.At)
+    ∷ num byte ∷ token (tok.Symbol symbol.Colon) ∷ num width ∷ range_written first bits rest
+
 pub loc_step-part : (total limit : ℕ) → IsPart total limit (λ _. false) open_at.loc_step loc_step_written reading.loc_step
 unfolding begins reading.loc_step
 loc_step-part total limit = record {
@@ -76,7 +81,7 @@ loc_step-part total limit = record {
   strict = into-strict _ _ (first-strict (symbol-part total limit symbol.Arrow).form behind (symbol-part total limit symbol.Arrow).strict);
 } where
   behind : IsForm total limit (λ _. false) (one a_number ∷ one (the symbol.At) ∷ one a_number ∷ one (the symbol.Colon) ∷ one a_number ∷ one a_range ∷ [])
-      (λ p rest. num p.0 ∷ token (tok.Symbol symbol.At) ∷ num p.1.1.0 ∷ token (tok.Symbol symbol.Colon) ∷ num p.1.1.1.1.0 ∷ range_written p.1.1.1.1.1.0 p.1.1.1.1.1.1 rest)
+      step_rest_written
       (pair number (pair (expect symbol.At) (pair number (pair (expect symbol.Colon) (pair number range)))))
   behind =
       before-any (number-part total limit).form

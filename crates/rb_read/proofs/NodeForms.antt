@@ -6,15 +6,16 @@
 -- `whole-again` or `deep-again`. Each line names what is made of what stands behind, with the number of the node's place, and the
 -- marks in front of the token; what is left to prove is `refl` or the equation of the form's spelling. So an addition is
 --
---     on (tok.Reserved word.Add) = node-at operands l refl small (λ at p. X.Binary at op.Add p.1.0 p.1.1.1.0) (λ ts. refl)
+--     on (tok.Reserved word.Add) = node-at operands l refl small (λ at. operation_of at op.Add) (λ ts. refl)
 --         (λ at. node l ∷ number at ∷ []) (λ at. tt) (λ at. (refl, tt)) (λ at. rw small refl)
---         (λ at p rest. expr-Binary at op.Add p.1.0 p.1.1.1.0 l rest)
+--         (λ at (_, (first, (_, (second, _)))) rest. expr-Binary at op.Add first second l rest)
 --
---     add at a b = node-again operands (tok.Reserved word.Add) (λ at p. X.Binary at op.Add p.1.0 p.1.1.1.0) (λ ts. refl)
+--     add at a b = node-again operands (tok.Reserved word.Add) (λ at. operation_of at op.Add) (λ ts. refl)
 --         (node l ∷ number at ∷ []) tt (rw small refl) (X.Binary at op.Add a b) (tt, (a, (tt, (b, tt)))) rest _
 --         (expr-Binary at op.Add a b l rest) (λ m h. rw h.0 refl) i c
 --
--- where `operands` is the form of `(a, b)`, by `pair-form` of forms of its symbols and of the expressions one level below.
+-- where `operands` is the form of `(a, b)`, by `pair-form` of forms of its symbols and of the expressions one level below, and
+-- `operation_of` makes a tree of its parts.
 use Rattle.std.proofs.Common.{◌≡◌, ℕ, suc, ◌-◌, ◌≤◌, List, [], ◌∷◌, ◌++◌, length, Bool, true, false, nat_lt, if◌then◌else◌, Some, None, Err, IfOk, refl, sym, ◌∙◌, ap, subst, arith}
 use Rattle.std.proofs.lemmas.Grind.{common_steps}
 use Rattle.rb_syntax.specs.declared.token.Token.{Token}

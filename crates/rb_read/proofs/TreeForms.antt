@@ -186,9 +186,14 @@ module _ (total limit l n : ℕ) (fits : l + suc n ≡ suc limit) {inner : Reade
   unfolding begins
   other-form = optional-form else-part is_else (λ t. is-so (is_word word.Else t) _) (λ t h. refl)
 
+  -- what stands behind `split`
+  abbrev split_parts_written : Loc × (Unit {0} × (List ArmTree × (Option SplitTree × Unit {0}))) → Writing
+  split_parts_written (loc, (_, (arms, (other, _)))) rest = loc_written loc (token (tok.Symbol symbol.OpenBrace)
+      ∷ each (map (at_arm (suc l)) arms) (perhaps (else_behind (suc l)) other (token (tok.Symbol symbol.CloseBrace) ∷ rest)))
+
   split-form : IsForm total limit none (one a_number ∷ one a_range ∷ many open_at.loc_step ∷ one (the symbol.OpenBrace)
       ∷ many (open_at.arm (suc l)) ∷ maybe (open_at.other (suc l)) ∷ one (the symbol.CloseBrace) ∷ [])
-      (λ p rest. loc_written p.0 (token (tok.Symbol symbol.OpenBrace) ∷ each (map (at_arm (suc l)) p.1.1.0) (perhaps (else_behind (suc l)) p.1.1.1.0 (token (tok.Symbol symbol.CloseBrace) ∷ rest))))
+      split_parts_written
       (pair location (pair (expect symbol.OpenBrace) (pair (each_of is_number (arm_tree inner)) (pair (optional is_else (else_tree inner)) (expect symbol.CloseBrace)))))
   split-form =
       pair-form (location-form total limit)
@@ -215,7 +220,11 @@ module _ (total limit l n : ℕ) (fits : l + suc n ≡ suc limit) {inner : Reade
   leaf-behind = before-any (symbol-part total limit symbol.Colon).form (before-any (symbol-part total limit symbol.OpenBrace).form
       (some_closed-form (item-part total limit n (suc l) (omega (arith, fits))) symbol.Comma symbol.CloseBrace refl refl refl))
 
-  leaf-form : IsForm total limit none (one (open_at.prov (suc l)) ∷ os) (λ p rest. prov_written p.0 (suc l) (items_written (suc l) p.1.1.1 rest)) leaf_reader
+  -- a leaf by its parts
+  abbrev leaf_parts_written : PatTree × (Unit {0} × (Unit {0} × List LayItem)) → Writing
+  leaf_parts_written (provenance, (_, (_, items))) rest = prov_written provenance (suc l) (items_written (suc l) items rest)
+
+  leaf-form : IsForm total limit none (one (open_at.prov (suc l)) ∷ os) leaf_parts_written leaf_reader
   leaf-form = pair-form provenance-in.form leaf-behind (λ b rest c. refl)
 
   abbrev this : Reader SplitTree
@@ -224,9 +233,11 @@ module _ (total limit l n : ℕ) (fits : l + suc n ≡ suc limit) {inner : Reade
   tree-on : (t : Token) → AtToken total limit (open_at.tree l) (at_tree l) this t
   unfolding begins tree_by split_rest leaf
   tree-on (tok.Reserved word.Split) = node-at split-form l refl small (λ at. split_of) (λ ts. refl) (λ at. node l ∷ [])
-      (λ at. tt) (λ at. tt) (λ at. rw small refl) (λ at p rest. split-written p.0 p.1.1.0 p.1.1.1.0 l rest)
+      (λ at. tt) (λ at. tt) (λ at. rw small refl)
+      (λ at (loc, (_, (arms, (other, _)))) rest. split-written loc arms other l rest)
   tree-on (tok.Upper x) = whole-at leaf-form refl (λ at. leaf_of at) (λ ts. refl) (first-strict provenance-in.form leaf-behind provenance-in.strict) (λ at. node l ∷ number at ∷ [])
-      (λ at. tt) (λ at. (refl, tt)) (λ at. rw small refl) (λ at p rest. leaf-written at p.0 p.1.1.1 l rest)
+      (λ at. tt) (λ at. (refl, tt)) (λ at. rw small refl)
+      (λ at (provenance, (_, (_, items))) rest. leaf-written at provenance items l rest)
   tree-on _ = none-at refl (λ ts. refl)
 
   leaf-again : (rest : List Written) → (at : ℕ) (p : PatTree) (items : List LayItem) → IsRight total (at_tree l (S.Leaf at p items) rest)
