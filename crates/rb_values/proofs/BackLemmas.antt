@@ -1,9 +1,9 @@
 -- The text of a value of a type spells a term that fits the type and names that value.
-use Rattle.std.proofs.Common.{◌≡◌, ℕ, zero, suc, ◌+◌, ◌<◌, ◌≤◌, ◌^◌, List, [], ◌∷◌, ◌++◌, length, map, codes, nat_lt, nat_le, Bool, true, false, not, ◌&&◌, ◌||◌, ◌==◌, Option, Some, None, option_map, Ok, slice_get, refl, sym, ◌∙◌, ap, subst, arith, length-append, append_assoc, append-nil, pow_mono}
+use Rattle.std.proofs.Common.{◌≡◌, ℕ, zero, suc, ◌+◌, ◌<◌, ◌≤◌, ◌^◌, List, [], ◌∷◌, ◌++◌, length, map, codes, nat_lt, nat_le, Bool, true, false, not, ◌&&◌, ◌==◌, Option, Some, None, option_map, Ok, slice_get, refl, sym, ◌∙◌, ap, subst, arith, length-append, append_assoc, append-nil, pow_mono}
 use Rattle.std.specs.Fmt.{decimal}
 use Rattle.std.specs.List.{list_all, list_any, flat_map, prefix_len}
 use Rattle.std.specs.Str.{bytes_eq}
-use Rattle.std.proofs.lemmas.Bool.{ltb-true, leb-true, lt-ltb, eq-eqb}
+use Rattle.std.proofs.lemmas.Bool.{ltb-true, leb-true, lt-ltb, eq-eqb, and_parts, or_parts, not-true}
 use Rattle.std.proofs.lemmas.Bool.Decides.{Decides-eqb}
 use Rattle.std.proofs.lemmas.Option.{get_or_from_slice_get}
 use Rattle.std.proofs.lemmas.Slice.Eq.{slice_eq-Decides}
@@ -30,23 +30,11 @@ use Rattle.rb_values.proofs.FittingLemmas.{as-many}
 use Rattle.rb_values.proofs.AnswerLemmas.{one-answer}
 use Rattle.rb_values.proofs.CuttingLemmas.{Shows, shows-end, shows-open, shows-close, shows-comma, Stops, shows-name, shows-number}
 
-both : (a b : Bool) → (a && b) ≡ true → (a ≡ true) × (b ≡ true)
-both true b e = (refl, e)
-both false b e = cc
-
-not-true : (b : Bool) → not b ≡ true → b ≡ false
-not-true true e = cc
-not-true false e = refl
-
-neither : (a b : Bool) → (a || b) ≡ false → (a ≡ false) × (b ≡ false)
-neither true b e = cc
-neither false b e = (refl, e)
-
 -- what holds of all items holds of each
 all-at : {A : Type 0} (p : A → Bool) (xs : List A) (k : ℕ) (x : A) → list_all p xs ≡ true → slice_get xs k ≡ Some x → p x ≡ true
 all-at p [] k x all e = cc
-all-at p (y ∷ ys) zero x all e = let same : y ≡ x = cc in ap p (sym same) ∙ (both (p y) (list_all p ys) all).0
-all-at p (y ∷ ys) (suc k) x all e = all-at p ys k x (both (p y) (list_all p ys) all).1 e
+all-at p (y ∷ ys) zero x all e = let same : y ≡ x = cc in ap p (sym same) ∙ (and_parts (p y) (list_all p ys) all).0
+all-at p (y ∷ ys) (suc k) x all e = all-at p ys k x (and_parts (p y) (list_all p ys) all).1 e
 
 -- Names of constructors ---------------------------------------------------------------------------
 
@@ -59,14 +47,14 @@ Distinct names = is_distinct bytes_eq names ≡ true
 any-in : (x : List ℕ) (xs ys : List (List ℕ)) → list_any (bytes_eq x) (xs ++ ys) ≡ false → (list_any (bytes_eq x) xs ≡ false) × (list_any (bytes_eq x) ys ≡ false)
 any-in x [] ys e = (refl, e)
 any-in x (z ∷ xs) ys e =
-    let h = neither (bytes_eq x z) (list_any (bytes_eq x) (xs ++ ys)) e in
+    let h = or_parts (bytes_eq x z) (list_any (bytes_eq x) (xs ++ ys)) e in
     let r = any-in x xs ys h.1 in
     (rw h.0 r.0, r.1)
 
 distinct-parts : (xs ys : List (List ℕ)) → Distinct (xs ++ ys) → Distinct xs × Distinct ys
 distinct-parts [] ys e = (refl, e)
 distinct-parts (x ∷ xs) ys e =
-    let h = both (not (list_any (bytes_eq x) (xs ++ ys))) (is_distinct bytes_eq (xs ++ ys)) e in
+    let h = and_parts (not (list_any (bytes_eq x) (xs ++ ys))) (is_distinct bytes_eq (xs ++ ys)) e in
     let a = any-in x xs ys (not-true (list_any (bytes_eq x) (xs ++ ys)) h.0) in
     let r = distinct-parts xs ys h.1 in
     (rw a.0 r.0, r.1)
@@ -80,8 +68,8 @@ of-type (x ∷ types) (suc t) d e at = of-type types t d (distinct-parts (con_na
 other-name : (x : List ℕ) (cons : List Con) (k : ℕ) (c : Con) → list_any (bytes_eq x) (map (λ c. c.name) cons) ≡ false → slice_get cons k ≡ Some c → bytes_eq x c.name ≡ false
 other-name x [] k c e at = cc
 other-name x (d ∷ cons) zero c e at =
-    let same : d ≡ c = cc in ap (λ (c : Con). bytes_eq x c.name) (sym same) ∙ (neither (bytes_eq x d.name) (list_any (bytes_eq x) (map (λ c. c.name) cons)) e).0
-other-name x (d ∷ cons) (suc k) c e at = other-name x cons k c (neither (bytes_eq x d.name) (list_any (bytes_eq x) (map (λ c. c.name) cons)) e).1 at
+    let same : d ≡ c = cc in ap (λ (c : Con). bytes_eq x c.name) (sym same) ∙ (or_parts (bytes_eq x d.name) (list_any (bytes_eq x) (map (λ c. c.name) cons)) e).0
+other-name x (d ∷ cons) (suc k) c e at = other-name x cons k c (or_parts (bytes_eq x d.name) (list_any (bytes_eq x) (map (λ c. c.name) cons)) e).1 at
 
 -- a constructor is the first of its name
 first-of : (cons : List Con) (k : ℕ) (c : Con) → Distinct (map (λ c. c.name) cons) → slice_get cons k ≡ Some c
@@ -92,7 +80,7 @@ first-of (d ∷ cons) zero c e at =
     let equal : bytes_eq d.name c.name ≡ true = ap (λ (c : Con). bytes_eq d.name c.name) (sym same) ∙ same-bytes d.name in
     (rw equal refl, omega arith)
 first-of (d ∷ cons) (suc k) c e at =
-    let h = both (not (list_any (bytes_eq d.name) (map (λ c. c.name) cons))) (is_distinct bytes_eq (map (λ c. c.name) cons)) e in
+    let h = and_parts (not (list_any (bytes_eq d.name) (map (λ c. c.name) cons))) (is_distinct bytes_eq (map (λ c. c.name) cons)) e in
     let differs : bytes_eq d.name c.name ≡ false = other-name d.name cons k c (not-true _ h.0) at in
     let r = first-of cons k c h.1 at in
     (rw differs (omega (arith, r.0)), omega (arith, r.1))
@@ -203,8 +191,8 @@ module _ (types : List DataDecl) where
   behind [] es (t ∷ ts) f j at some from known e = cc
   behind (v ∷ vs) es [] f j at some from known e = cc
   behind (v ∷ vs) es (t ∷ ts) f j at some from known e =
-      let of = both (is_of_type types v t) (all_of_types (map (is_of_type types) vs) ts) e in
-      let in_types = both (is_type types t) (list_all (is_type types) ts) known in
+      let of = and_parts (is_of_type types v t) (all_of_types (map (is_of_type types) vs) ts) e in
+      let in_types = and_parts (is_type types t) (list_all (is_type types) ts) known in
       let more : List ℕ = fields_text f (j + 1) (map (text_of types) vs) in
       let s : IsSpelled t (at + 2) v = es.0 t in_types.0 of.0 (at + 2) in
       let r : AreSpelled ts (at + 2 + length (text_of types v t)) vs more others =
@@ -235,8 +223,8 @@ module _ (types : List DataDecl) where
   parens [] es (t ∷ ts) f at from known e = cc
   parens (v ∷ vs) es [] f at from known e = cc
   parens (v ∷ vs) es (t ∷ ts) f at from known e =
-      let of = both (is_of_type types v t) (all_of_types (map (is_of_type types) vs) ts) e in
-      let in_types = both (is_type types t) (list_all (is_type types) ts) known in
+      let of = and_parts (is_of_type types v t) (all_of_types (map (is_of_type types) vs) ts) e in
+      let in_types = and_parts (is_type types t) (list_all (is_type types) ts) known in
       let more : List ℕ = fields_text f (0 + 1) (map (text_of types) vs) in
       let s : IsSpelled t (at + 1) v = es.0 t in_types.0 of.0 (at + 1) in
       let r : AreSpelled ts (at + 1 + length (text_of types v t)) vs more others =
@@ -256,7 +244,7 @@ module _ (types : List DataDecl) where
 
   number-spelled : (n : ℕ) → Claim (Num n)
   number-spelled n (Int bits) known e at =
-      let wide = both (nat_le 1 bits) (nat_le bits 64) known in
+      let wide = and_parts (nat_le 1 bits) (nat_le bits 64) known in
       let held : type_holds (Int bits) n ≡ true = sym (is_of_type-Num types n (Int bits)) ∙ e in
       let small : n < 2 ^ 64 = omega (arith, ltb-true n (2 ^ bits) held, pow_mono (leb-true bits 64 wide.1)) in
       record {
@@ -291,15 +279,15 @@ module _ (types : List DataDecl) where
       con-numbered : con_is_numbered types b.con ≡ true
       con-numbered =
           let d = all-at (type_is_numbered types) types t b.data_type declared.numbered b.is_type in
-          let counts = both (is_upper b.data_type.name) (is_between 1 256 (length b.data_type.cons) && list_all (con_is_numbered types) b.data_type.cons) d in
-          all-at (con_is_numbered types) b.data_type.cons k b.con (both (is_between 1 256 (length b.data_type.cons)) (list_all (con_is_numbered types) b.data_type.cons) counts.1).1 b.is_con
+          let counts = and_parts (is_upper b.data_type.name) (is_between 1 256 (length b.data_type.cons) && list_all (con_is_numbered types) b.data_type.cons) d in
+          all-at (con_is_numbered types) b.data_type.cons k b.con (and_parts (is_between 1 256 (length b.data_type.cons)) (list_all (con_is_numbered types) b.data_type.cons) counts.1).1 b.is_con
 
       named : is_upper b.con.name ≡ true
-      named = (both (is_upper b.con.name) (nat_le (length b.con.fields) 32 && list_all (is_type types) b.con.fields) con-numbered).0
+      named = (and_parts (is_upper b.con.name) (nat_le (length b.con.fields) 32 && list_all (is_type types) b.con.fields) con-numbered).0
 
       field-types : list_all (is_type types) b.con.fields ≡ true
-      field-types = (both (nat_le (length b.con.fields) 32) (list_all (is_type types) b.con.fields)
-          (both (is_upper b.con.name) (nat_le (length b.con.fields) 32 && list_all (is_type types) b.con.fields) con-numbered).1).1
+      field-types = (and_parts (nat_le (length b.con.fields) 32) (list_all (is_type types) b.con.fields)
+          (and_parts (is_upper b.con.name) (nat_le (length b.con.fields) 32 && list_all (is_type types) b.con.fields) con-numbered).1).1
 
       con-is : con_of types t k ≡ Some b.con
       con-is = ap (λ (d : Option DataDecl). text_con_in d k) b.is_type ∙ b.is_con

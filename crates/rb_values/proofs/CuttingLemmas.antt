@@ -1,10 +1,10 @@
 -- The signs of a text that is put together from pieces: names, numbers and what stands between them.
-use Rattle.std.proofs.Common.{◌≡◌, ℕ, zero, suc, ◌+◌, ◌-◌, ◌<◌, ◌≤◌, ◌^◌, List, [], ◌∷◌, ◌++◌, length, drop, take, codes, take_while, nat_le, Bool, true, false, ◌&&◌, ◌||◌, ◌==◌, Some, None, refl, ◌∙◌, ap, subst, arith, length-append, eqb-true}
+use Rattle.std.proofs.Common.{◌≡◌, ℕ, zero, suc, ◌+◌, ◌-◌, ◌<◌, ◌≤◌, ◌^◌, List, [], ◌∷◌, ◌++◌, length, drop, take, codes, take_while, nat_le, Bool, true, false, ◌&&◌, ◌==◌, Some, None, refl, ◌∙◌, ap, subst, arith, length-append, eqb-true}
 use Rattle.std.specs.Fmt.{decimal}
 use Rattle.std.specs.Char.{is_ascii_digit, is_ascii_uppercase, is_ascii_alphabetic}
 use Rattle.std.specs.Int.{is_in_range}
 use Rattle.std.specs.List.{list_all, prefix_len}
-use Rattle.std.proofs.lemmas.Bool.{leb-true}
+use Rattle.std.proofs.lemmas.Bool.{leb-true, and_parts, and_from, or_left}
 use Rattle.std.proofs.lemmas.Grind.{common_steps}
 use Rattle.rb_core.specs.Decimal.{is_numeral, number_in}
 use Rattle.rb_core.specs.WellNumbered.{is_upper, is_capital, is_word_byte, either}
@@ -25,14 +25,6 @@ use Rattle.rb_values.specs.Terms.{sign_of, signs}
 
 clash : {P : Type 0} → true ≡ false → P
 clash e = cc
-
-both : (a b : Bool) → (a && b) ≡ true → (a ≡ true) × (b ≡ true)
-both true b e = (refl, e)
-both false b e = cc
-
-joined : (a b : Bool) → a ≡ true → b ≡ true → (a && b) ≡ true
-joined true b d e = e
-joined false b d e = cc
 
 -- Pieces one after the other -------------------------------------------------------------------
 
@@ -140,7 +132,7 @@ abbrev pub Stops : List ℕ → Type 0
 Stops rest = prefix_len is_word_byte rest ≡ 0
 
 in-range : (low high b : ℕ) → is_in_range low high b ≡ true → low ≤ b
-in-range low high b e = leb-true low b (both (nat_le low b) (nat_le b high) e).0
+in-range low high b e = leb-true low b (and_parts (nat_le low b) (nat_le b high) e).0
 
 four-cases : (u l d x : Bool) (P : Type 0) → (u ≡ true → P) → (l ≡ true → P) → (d ≡ true → P) → (x ≡ true → P)
     → either u (either l (either d x)) ≡ true → P
@@ -163,7 +155,7 @@ no-blank b h = rw (other b 9 (omega arith), other b 10 (omega arith), other b 13
 run-length : (run rest : List ℕ) → list_all is_word_byte run ≡ true → Stops rest → prefix_len is_word_byte (run ++ rest) ≡ length run
 run-length [] rest all stops = stops
 run-length (b ∷ bs) rest all stops =
-    let h = both (is_word_byte b) (list_all is_word_byte bs) all in
+    let h = and_parts (is_word_byte b) (list_all is_word_byte bs) all in
     let i : prefix_len is_word_byte (bs ++ rest) ≡ length bs = run-length bs rest h.1 stops in
     rw h.0 (omega (arith, i))
 
@@ -177,25 +169,21 @@ first-run b bytes e f = rw (e, f) refl
 run-at : (b : ℕ) (bs rest : List ℕ) → list_all is_word_byte (b ∷ bs) ≡ true → Stops rest → piece_at ((b ∷ bs) ++ rest) ≡ run_piece b (b ∷ bs)
 unfolding piece_at
 run-at b bs rest all stops =
-    let word = (both (is_word_byte b) (list_all is_word_byte bs) all).0 in
+    let word = (and_parts (is_word_byte b) (list_all is_word_byte bs) all).0 in
     first-run b ((b ∷ bs) ++ rest) (no-blank b (word-high b word)) word ∙ ap (run_piece b) (run-front (b ∷ bs) rest all stops)
-
-or-left : (a b : Bool) → a ≡ true → (a || b) ≡ true
-or-left true b e = refl
-or-left false b e = cc
 
 capital-piece : (b : ℕ) (bs : List ℕ) → is_capital b ≡ true → run_piece b (b ∷ bs) ≡ piece.Token (tok.Upper (b ∷ bs)) (length (b ∷ bs))
 unfolding run_piece name_token
-capital-piece b bs e = let letter : is_ascii_alphabetic b ≡ true = or-left (is_in_range 65 90 b) (is_in_range 97 122 b) e in
+capital-piece b bs e = let letter : is_ascii_alphabetic b ≡ true = or_left (is_in_range 65 90 b) (is_in_range 97 122 b) e in
     let capital : is_ascii_uppercase b ≡ true = e in rw (letter, capital) refl
 
 pub shows-name : (at from : ℕ) (name rest : List ℕ) (ss : List Sign) → is_upper name ≡ true → Stops rest → from ≡ at + length name → Shows from rest ss
     → Shows at (name ++ rest) (sign.Name at name ∷ ss)
 shows-name at from [] rest ss e stops f next = cc
 shows-name at from (b ∷ bs) rest ss e stops f next =
-    let h = both (is_capital b) (list_all is_word_byte bs) e in
-    let letter : is_ascii_alphabetic b ≡ true = or-left (is_in_range 65 90 b) (is_in_range 97 122 b) h.0 in
-    let all : list_all is_word_byte (b ∷ bs) ≡ true = joined (is_word_byte b) (list_all is_word_byte bs) (letter-word b letter) h.1 in
+    let h = and_parts (is_capital b) (list_all is_word_byte bs) e in
+    let letter : is_ascii_alphabetic b ≡ true = or_left (is_in_range 65 90 b) (is_in_range 97 122 b) h.0 in
+    let all : list_all is_word_byte (b ∷ bs) ≡ true = and_from (is_word_byte b) (list_all is_word_byte bs) (letter-word b letter) h.1 in
     shows-token at (length (b ∷ bs)) (b ∷ bs) rest ss (omega arith) refl (shows-from (at + length (b ∷ bs)) from rest ss f next)
     (tok.Upper (b ∷ bs)) (sign.Name at (b ∷ bs)) refl (run-at b bs rest all stops ∙ capital-piece b bs h.0)
 
@@ -204,11 +192,11 @@ shows-name at from (b ∷ bs) rest ss e stops f next =
 digit-words : (bs : List ℕ) → list_all is_ascii_digit bs ≡ true → list_all is_word_byte bs ≡ true
 digit-words [] e = refl
 digit-words (b ∷ bs) e =
-    let h = both (is_ascii_digit b) (list_all is_ascii_digit bs) e in
-    joined (is_word_byte b) (list_all is_word_byte bs) (digit-word b h.0) (digit-words bs h.1)
+    let h = and_parts (is_ascii_digit b) (list_all is_ascii_digit bs) e in
+    and_from (is_word_byte b) (list_all is_word_byte bs) (digit-word b h.0) (digit-words bs h.1)
 
 digit-range : (b : ℕ) → is_ascii_digit b ≡ true → (48 ≤ b) × (b ≤ 57)
-digit-range b e = let h = both (nat_le 48 b) (nat_le b 57) e in (leb-true 48 b h.0, leb-true b 57 h.1)
+digit-range b e = let h = and_parts (nat_le 48 b) (nat_le b 57) e in (leb-true 48 b h.0, leb-true b 57 h.1)
 
 no-letter : (b : ℕ) → is_ascii_digit b ≡ true → is_ascii_alphabetic b ≡ false
 no-letter b e =
@@ -228,7 +216,7 @@ number-run run n e = ap (λ o. number_or_fault o run) e
 digits-piece : (d : ℕ) (ds : List ℕ) (n : ℕ) → is_numeral (d ∷ ds) ≡ true → number_in 0 (2 ^ 64 - 1) (d ∷ ds) ≡ Some n
     → run_piece d (d ∷ ds) ≡ piece.Token (tok.Num n) (length (d ∷ ds))
 digits-piece d ds n e v =
-    let digit : is_ascii_digit d ≡ true = (both (is_ascii_digit d) (list_all is_ascii_digit ds) (digits-numeral (d ∷ ds) e)).0 in
+    let digit : is_ascii_digit d ≡ true = (and_parts (is_ascii_digit d) (list_all is_ascii_digit ds) (digits-numeral (d ∷ ds) e)).0 in
     digit-run d (d ∷ ds) (no-letter d digit) digit ∙ number-run (d ∷ ds) n v
 
 numeral-piece : (ds rest : List ℕ) (n : ℕ) → is_numeral ds ≡ true → number_in 0 (2 ^ 64 - 1) ds ≡ Some n → Stops rest

@@ -1,6 +1,6 @@
 -- A term that fits a type names a value of that type with as many nodes.
-use Rattle.std.proofs.Common.{◌≡◌, ℕ, ◌+◌, ◌≤◌, List, [], ◌∷◌, ◌++◌, length, map, sum, Bool, true, false, ◌==◌, ◌&&◌, if◌then◌else◌, Option, Some, None, Result, Ok, Err, IfOk, option_map, slice_get, refl, ◌∙◌, ap, arith}
-use Rattle.std.proofs.lemmas.Bool.Decides.{nat_tests}
+use Rattle.std.proofs.Common.{◌≡◌, ℕ, ◌+◌, ◌≤◌, List, [], ◌∷◌, ◌++◌, length, map, sum, Bool, true, false, ◌==◌, if◌then◌else◌, Option, Some, None, Result, Ok, Err, IfOk, option_map, slice_get, refl, ◌∙◌, ap, arith}
+use Rattle.std.proofs.lemmas.Bool.{eqb-true, and_from}
 use Rattle.rb_core.specs.declared.value.Value.{Value, Num}
 use Rattle.rb_core.specs.declared.value.Value as val
 use Rattle.rb_core.specs.declared.types.Ty.{Ty}
@@ -24,19 +24,13 @@ fits-both : (xs ys : List ℕ) → xs ++ ys ≡ [] → (xs ≡ []) × (ys ≡ []
 fits-both [] ys e = (refl, e)
 fits-both (x ∷ xs) ys e = cc
 
-both : (a b : Bool) → a ≡ true → b ≡ true → (a && b) ≡ true
-both a b h g = rw (h, g) refl
-
-same-count : (n m : ℕ) → (n == m) ≡ true → n ≡ m
-same-count n m h = grind (arith, nat_tests, h)
-
 -- a name that fits has a constructor with so many fields, which fit theirs
 fits-name : (at count : ℕ) (each : List Ty → List ℕ) (o : Option (List Ty)) → misfits_of at count each o ≡ []
     → (tys : List Ty) × (o ≡ Some tys) × (count ≡ length tys) × (each tys ≡ [])
 fits-name at count each None e = cc
 fits-name at count each (Some tys) e =
     let r = fits-one (count == length tys) at (each tys) e in
-    (tys, refl, same-count count (length tys) r.0, r.1)
+    (tys, refl, eqb-true count (length tys) r.0, r.1)
 
 known-con : (types : List DataDecl) (o : Option ConRef) (tys : List Ty) → con_fields types o ≡ Some tys → (c : ConRef) × (o ≡ Some c) × (fields_of types c ≡ Some tys)
 known-con types None tys e = cc
@@ -104,7 +98,7 @@ module _ (types : List DataDecl) where
     are-of_types (also t ts) [] h e = absurd (omega (arith, h))
     are-of_types (also t ts) (ty ∷ tys) h e =
         let b = fits-both (misfits types t ty) (misfits_each types ts tys) e in
-        both _ _ (is-of_type t ty b.0) (are-of_types ts tys (omega (arith, h)) b.1)
+        and_from _ _ (is-of_type t ty b.0) (are-of_types ts tys (omega (arith, h)) b.1)
 
   mutual
     pub as-many : (t : Term) (ty : Ty) → misfits types t ty ≡ [] → node_count (value_of types t ty) ≡ term_nodes t
