@@ -161,7 +161,8 @@ module _ (plan : Plan) where
         let first : Straight plan a.slots b b1 P0 P1 =
         straight_fewer b.slots a.slots b b1 P0 P1 le
         (straight_weaken plan b.slots b b1 (λ s m. P0 s m × (unit ≡ unit)) P0 (λ s m. P0 s m × (slice_index s b.slots ≡ unit)) P1
-        (λ s m h. (h, refl)) (λ s m h. ap (λ y. y * slice_index s b.slots % 2 ^ 64) h.0.1 ∙ ap (λ y. w * y % 2 ^ 64) h.1 ∙ h.0.0.1)
+        (λ s m h. (h, refl))
+        (λ s m (((_, product_is), read), one). ap (λ y. y * slice_index s b.slots % 2 ^ 64) read ∙ ap (λ y. w * y % 2 ^ 64) one ∙ product_is)
         (straight_frame plan b.slots b b1 P0 (λ s m. unit ≡ unit) (λ s m. slice_index s b.slots ≡ unit) (λ s s' m kept h. (h.0, kept.same xs made.given ∙ h.1))
         (straight_const plan b.slots b (omega arith) (λ y m. y ≡ unit) unit small))) in
         let last : Straight plan a.slots b1 b2 P1 P2 = straight_alu plan a.slots b1 (omega (arith, le)) (λ y m. y ≡ x) Mul 64 xs b.slots (omega arith) (omega arith) (omega (arith, made.given)) (omega arith) in
@@ -216,7 +217,7 @@ module _ (plan : Plan) where
         straight_fewer b.slots a.slots b m1 P0 P1 le
         (straight_weaken plan b.slots b m1 (λ s m. P0 s m × (mask_of o l ≡ mask_of o l)) P0 (λ s m. P0 s m × (slice_index s b.slots ≡ mask_of o l)) P1
         (λ s m p. (p, refl))
-        (λ s m p. ap (λ y. bit_and y (slice_index s b.slots) % 2 ^ 64) p.0.1 ∙ ap (λ y. bit_and w y % 2 ^ 64) p.1 ∙ ap (λ y. y % 2 ^ 64) (masked w o l) ∙ p.0.0.1)
+        (λ s m (((_, masked_is), read), mask_is). ap (λ y. bit_and y (slice_index s b.slots) % 2 ^ 64) read ∙ ap (λ y. bit_and w y % 2 ^ 64) mask_is ∙ ap (λ y. y % 2 ^ 64) (masked w o l) ∙ masked_is)
         (straight_frame plan b.slots b m1 P0 (λ s m. mask_of o l ≡ mask_of o l) (λ s m. slice_index s b.slots ≡ mask_of o l) (λ s s' m kept p. (p.0, kept.same xs made.given ∙ p.1))
         (straight_const plan b.slots b (omega arith) (λ y m. y ≡ mask_of o l) (mask_of o l) (mask_fits o l range)))) in
         let last : Straight plan a.slots m1 m2 P1 P2 = straight_alu plan a.slots m1 (omega (arith, le)) (λ y m. y ≡ x) And 64 xs b.slots (omega arith) (omega arith) (omega (arith, made.given)) (omega arith) in
@@ -299,15 +300,15 @@ module _ (plan : Plan) where
           let third : Straight plan d c1 c2 Mid2 To =
           straight_write plan d c1 (Put d b.slots p.a p.l) d Mid2 To (omega (arith, lt, up)) (omega arith)
           (record { bounded = ranges.1; slots_fit = (omega (arith, lt, up), omega arith); targets = tt; calls = tt })
-          (λ next callee pc s w1 long pre.
+          (λ next callee pc s w1 long (((good, holds), comes), read).
           let word = put_of (slice_index s d) p.a p.l (slice_index s b.slots % 2 ^ p.l) in
           let s' = slice_set s d word in
-          let same : slice_index s b.slots % 2 ^ p.l ≡ part = ap (λ y. y % 2 ^ p.l) pre.1 ∙ mod-eq_of_lt (take_fits w p.o p.l) in
-          let is : word ≡ put_of wv.1 p.a p.l part = ap (λ y. put_of y p.a p.l (slice_index s b.slots % 2 ^ p.l)) pre.0.0.1 ∙ ap (λ y. put_of wv.1 p.a p.l y) same in
+          let same : slice_index s b.slots % 2 ^ p.l ≡ part = ap (λ y. y % 2 ^ p.l) read ∙ mod-eq_of_lt (take_fits w p.o p.l) in
+          let is : word ≡ put_of wv.1 p.a p.l part = ap (λ y. put_of y p.a p.l (slice_index s b.slots % 2 ^ p.l)) holds ∙ ap (λ y. put_of wv.1 p.a p.l y) same in
           let now : slice_index s' d ≡ put_of wv.1 p.a p.l part = set_same s d word (omega (arith, long, lt, up)) ∙ is in
           let ends : joined_over (slice_index s' d) (map meant_of rest) s' w1.memory ≡ Some x =
-          ap (λ y. joined_over y (map meant_of rest) s' w1.memory) now ∙ over-kept k s s' w1.memory (Keeps-set k s d word le) rest fits_rest (put_of wv.1 p.a p.l part) ∙ pre.0.1 in
-          (word, refl, (pre.0.0.0, ends))) in
+          ap (λ y. joined_over y (map meant_of rest) s' w1.memory) now ∙ over-kept k s s' w1.memory (Keeps-set k s d word le) rest fits_rest (put_of wv.1 p.a p.l part) ∙ comes in
+          (word, refl, (good, ends))) in
           straight_seq plan d a b c2 (λ s m. F wv s m × (IsGood m × (mean p.read s m ≡ Some w))) Mid1 To first (straight_seq plan d b c1 c2 Mid1 Mid2 To second third))
 
     pub put_share : PutsOne plan p k d a c2
