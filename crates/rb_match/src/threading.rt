@@ -20,7 +20,8 @@
 //! to be.
 
 ghost use Rattle.std.specs.Prelude.{◌≡◌, IfOk, IfSome, OnOk, true};
-ghost use Rattle.rb_match.specs.inner.Threading.{AllFollow, Ascend, AreThreaded, AreWild, TellsConstructor, Covers, HasSub, IsAtLeaf, IsDecided, IsFirst, IsLeafOfAll, IsThreaded, IsWild, LeadsOn, ShowTogether, Tells, TellTogether, Threads};
+ghost use Rattle.rb_matrix.specs.Covering.{Covers};
+ghost use Rattle.rb_match.specs.inner.Threading.{AllFollow, Ascend, AreThreaded, AreWild, TellsConstructor, HasSub, IsAtLeaf, IsDecided, IsFirst, IsLeafOfAll, IsThreaded, IsWild, LeadsOn, ShowTogether, Tells, TellTogether, Threads};
 
 use crate::asking::{link_of, mark_tested_below};
 use crate::knowledge::{Edge, Known, copy_known, position_below};

@@ -1,5 +1,6 @@
 pub mod Apart
 pub mod Counts
+pub mod Covering
 pub mod Exhaust
 pub mod FirstHead
 pub mod Heads

@@ -78,10 +78,6 @@ IsWild p = (v : Value) → matches_of p v ≡ true
 abbrev pub AreWild : List Pat → Type 0
 AreWild pats = (n : ℕ) (p : Pat) → slice_get pats n ≡ Some p → IsWild p
 
--- pattern p matches all values that pattern q does
-abbrev pub Covers : Pat → Pat → Type 0
-Covers p q = (v : Value) → matches_of q v ≡ true → matches_of p v ≡ true
-
 -- each value that the pattern matches has the leaf with this number among some leaves: it is the first of them whose
 -- provenance, the pattern of a leaf's values, matches the value
 abbrev pub IsFirst : List Leaf → Pat → ℕ → Type 0

@@ -6,6 +6,7 @@ use Rattle.rb_core.specs.declared.value.Value.{Value}
 use Rattle.rb_core.specs.declared.pattern.Pat.{Pat}
 use Rattle.rb_core.specs.Matching.{matches_of, clause_matches}
 use Rattle.rb_matrix.specs.Apart.{PatternsAreApart}
+pub use Rattle.rb_matrix.specs.Covering.{Covers}
 use Rattle.rb_matrix.specs.Rows.{row_matches, any_row}
 use Rattle.rb_matrix.specs.inner.OneColumn.{any_matches}
 
@@ -13,10 +14,6 @@ use Rattle.rb_matrix.specs.inner.OneColumn.{any_matches}
 abbrev pub HaveApart : List Pat → List Pat → Type 0
 HaveApart ps qs =
     (i : ℕ) × (p : Pat) × (q : Pat) × (slice_get ps i ≡ Some p) × (slice_get qs i ≡ Some q) × PatternsAreApart p q
-
--- p matches each value that q matches
-abbrev pub Covers : Pat → Pat → Type 0
-Covers p q = (v : Value) → matches_of q v ≡ true → matches_of p v ≡ true
 
 -- row ps matches each vector that row qs matches
 abbrev pub CoverEach : List Pat → List Pat → Type 0
