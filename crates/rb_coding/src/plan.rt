@@ -4,7 +4,7 @@
 //! to visit words, whose value is to be found, or to join the last values to a construction. The
 //! last step is done first.
 
-ghost use Rattle.std.specs.Prelude.{◌≡◌, ◌<◌, ◌∷◌, [], ◌++◌, IfOk, OnOk, map};
+ghost use Rattle.std.specs.Prelude.{◌≡◌, ◌++◌, IfOk, OnOk, map};
 ghost use Rattle.rb_coding.specs.inner.Gathering.{field_words};
 ghost use Rattle.rb_coding.specs.inner.Planning.{fields_plan};
 ghost use Rattle.rb_coding.specs.FewFields.{AreFew, HaveFewFields};
@@ -12,6 +12,7 @@ ghost use Rattle.rb_coding.specs.inner.Opening.{steps_of, words_of};
 
 use crate::gather::field_words;
 use crate::node::one_word;
+use crate::paths::path_below;
 use crate::posts::field_list;
 use crate::todo::Step;
 use rb_core::pattern::Pat;
@@ -46,16 +47,6 @@ impl<'a> Opening<'a> {
             path,
         )
     }
-}
-
-// A path with one field number more, at its end.
-fn below(alloc: Global, path: &[u32], field: usize) -> Result<Seq<u32>, AllocError>
-    requires { field < 4294967296 }
-    ensures { IfOk result (λ found. found ≡ path.now ++ field ∷ []) }
-{
-    let mut found = Seq::from_vec(Vec::from_slice(alloc, path)?);
-    found.push(field as u32)?;
-    Ok(found)
 }
 
 /// Adds to `todo` the steps of `prov`, the part of the provenance of the opened value that stands
@@ -115,7 +106,7 @@ fn plan_fields(
         tys.len()
     };
     for i in (0..count).rev() {
-        let field = below(alloc, path, i)?;
+        let field = path_below(alloc, path, i)?;
         plan(alloc, opening, &pats[i], tys[i], field.as_slice(), todo)?;
     }
     Ok(())

@@ -6,7 +6,7 @@
 //! is of. In all that follows `path` is a path in the leaf, and `places` the list to which is
 //! added.
 
-ghost use Rattle.std.specs.Prelude.{◌≡◌, ◌<◌, ◌++◌, ◌∷◌, [], map, IfOk, OnOk};
+ghost use Rattle.std.specs.Prelude.{◌≡◌, ◌++◌, map, IfOk, OnOk};
 ghost use Rattle.rb_core.specs.Values.{fields_of};
 ghost use Rattle.rb_layout.specs.Positions.{opens_below, opens_of, types_or_none};
 ghost use Rattle.rb_coding.specs.FewFields.{AreFew, HaveFewFields};
@@ -19,9 +19,9 @@ use crate::kept::{Kept, Place};
 use crate::order::Spot;
 use crate::parts::kept_at;
 use crate::splits::range_of;
+use rb_coding::paths::path_below;
 use rb_core::inference::types_of_fields;
 use rb_core::pattern::Pat;
-use rb_core::seq::Seq;
 use rb_core::types::{ConRef, DataDecl, Ty};
 use rb_image_text::image::ImageBlock;
 use rb_layout::layout::{Kind, Layout};
@@ -83,16 +83,6 @@ impl<'a> Examined<'a> {
         }
         Ok(words)
     }
-}
-
-/// A copy of a path with one field more at its end.
-pub(crate) fn longer(alloc: Global, path: &[u32], field: usize) -> Result<Seq<u32>, AllocError>
-    requires { field < 4294967296 }
-    ensures { IfOk result (λ found. found ≡ path.now ++ field ∷ []) }
-{
-    let mut found = Seq::from_vec(Vec::from_slice(alloc, path)?);
-    found.push(field as u32)?;
-    Ok(found)
 }
 
 // Adds the place at an open position of the type `ty`, if that is a data type; none for an integer.
@@ -169,7 +159,7 @@ fn add_fields(
         if i >= tys.len() {
             return Ok(());
         }
-        let field = longer(alloc, path, i)?;
+        let field = path_below(alloc, path, i)?;
         add_places(alloc, examined, pat, tys[i], field.as_slice(), places)?;
     }
     Ok(())

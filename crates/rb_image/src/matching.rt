@@ -16,9 +16,9 @@ ghost use Rattle.rb_image_text.specs.Places.{AreInPlace};
 ghost use Rattle.rb_image_text.specs.declared.fault.ImageFault.TheVariants.{Memory};
 
 use crate::arrival::take_apart;
-use crate::below::longer;
 use crate::view::View;
 use crate::walk::open_data;
+use rb_coding::paths::path_below;
 use rb_core::pattern::Pat;
 use rb_core::types::ConRef;
 use rb_image_text::fault::ImageFault;
@@ -113,7 +113,7 @@ fn match_fields(
     let types = agreed.covered().program().types.as_slice();
     for (i, pat) in pats.iter().enumerate() {
         let field = number_of(i)?;
-        let at = longer(alloc, view.at, field as usize)?;
+        let at = path_below(alloc, view.at, field as usize)?;
         let Some(below) = view.down(image, types, at.as_slice(), field) else {
             return Ok(false);
         };

@@ -35,8 +35,8 @@ plan_fields-loop-i-preserved t c =
     c.args.todo.now.items c.loop-i.todo.items c.plan.new.todo.items c.loop-i.invariant
     (rw (c.as_slice.ensures, c.in_ok-field.ensures) at c.in_ok-plan.ensures)
 
-pub plan_fields-below-requires : goal.plan_fields-below-requires
-plan_fields-below-requires t c =
+pub plan_fields-path_below-requires : goal.plan_fields-path_below-requires
+plan_fields-path_below-requires t c =
     let most = c.requires.types in
     let few : c.if-pats-tys.count ≤ length c.args.tys.now = elim c.if-pats-tys.branch [
       | plan_fields-then-pats-tys w ↦ omega (arith, w.count-is, w.if-pats-tys.true)

@@ -17,8 +17,8 @@ add_fields-returns t c =
     let before = ats_of c.loop-i.places.items in
     sym (c.loop-i.invariant ∙ ap (λ ys. before ++ ys) (fields_end c.args.examined.now c.args.pats.now c.args.tys.now c.args.path.now c.loop-i.i c.loop-i-test.false) ∙ append-nil before)
 
-pub add_fields-longer-requires : goal.add_fields-longer-requires
-add_fields-longer-requires t c = let few = c.requires.types in omega (arith, c.if-i-tys.false, few)
+pub add_fields-path_below-requires : goal.add_fields-path_below-requires
+add_fields-path_below-requires t c = let few = c.requires.types in omega (arith, c.if-i-tys.false, few)
 
 pub add_fields-loop-i-preserved : goal.add_fields-loop-i-preserved
 add_fields-loop-i-preserved t c =
