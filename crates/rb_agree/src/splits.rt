@@ -5,9 +5,10 @@
 
 ghost use Rattle.std.specs.Prelude.{◌≡◌, ◌<◌, ◌^◌, IfOk, MatchOption};
 ghost use Rattle.rb_layout.specs.Splits.{splits_of};
+ghost use Rattle.rb_layout.specs.A7.{IsLiteral};
 ghost use Rattle.rb_layout.specs.A8.{AllSplitWell, FailsSplits, SplitsWell, length_of};
 ghost use Rattle.rb_agree.specs.inner.Lists.{FindsIn};
-ghost use Rattle.rb_agree.specs.inner.Splits.{AreDistinct, AreFit, FailsSplit, IsAmong, IsTwice, arm_splits, literals_in, split_of};
+ghost use Rattle.rb_agree.specs.inner.Splits.{AreDistinct, AreFit, FailsSplit, IsTwice, arm_splits, literals_in, split_of};
 
 use crate::numbers::fits;
 use rb_core::layout_decl::Loc;
@@ -40,7 +41,7 @@ fn literals_of(alloc: Global, arms: &[FlatArm]) -> Result<Seq<u64>, AllocError>
 
 // The first literal that has more than so many bits; None where there is none.
 fn wide_literal(literals: &[u64], bits: u64) -> Option<u64>
-    ensures { MatchOption result (AreFit bits literals.now) (λ c. IsAmong literals.now c × (c < 2 ^ bits → ⊥)) }
+    ensures { MatchOption result (AreFit bits literals.now) (λ c. IsLiteral literals.now c × (c < 2 ^ bits → ⊥)) }
 {
     for k in 0..literals.len() {
         if !fits(literals[k], bits) {

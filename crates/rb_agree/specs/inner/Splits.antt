@@ -8,6 +8,7 @@ use Rattle.rb_layout.specs.declared.layout.FlatArm.{FlatArm}
 use Rattle.rb_layout.specs.declared.evidence.Why.{Why}
 use Rattle.rb_layout.specs.declared.evidence.Why.TheVariants.{LiteralWide, LiteralTwice, NoArm}
 use Rattle.rb_layout.specs.Splits.{SplitAt, splits_under}
+use Rattle.rb_layout.specs.A7.{IsLiteral}
 use Rattle.rb_layout.specs.A8.{HasArm, length_of}
 
 -- the literals of arms, in their order
@@ -21,10 +22,6 @@ split_of loc arms other = record { loc = loc; literals = literals_in arms; other
 -- the splits in the trees below these arms, arm by arm
 abbrev pub arm_splits : List FlatArm → List SplitAt
 arm_splits arms = flat_map (λ (a : FlatArm). (splits_under a).of) arms
-
--- c is one of these literals
-abbrev pub IsAmong : List ℕ → ℕ → Type 0
-IsAmong cs c = (k : ℕ) × (slice_get cs k ≡ Some c)
 
 -- c stands in two places among these literals
 abbrev pub IsTwice : List ℕ → ℕ → Type 0
@@ -41,7 +38,7 @@ AreDistinct cs = (j k c : ℕ) → j < k → slice_get cs j ≡ Some c → slice
 -- a split fails as `why` says: a literal has more bits than its range, a literal stands twice, or it has no arm and
 -- no `else`
 abbrev pub FailsSplit : SplitAt → Why → Type 0
-FailsSplit split (LiteralWide loc c) = (split.loc ≡ loc) × IsAmong split.literals c × (c < 2 ^ length_of loc → ⊥)
+FailsSplit split (LiteralWide loc c) = (split.loc ≡ loc) × IsLiteral split.literals c × (c < 2 ^ length_of loc → ⊥)
 FailsSplit split (LiteralTwice loc c) = (split.loc ≡ loc) × IsTwice split.literals c
 FailsSplit split (NoArm loc) = (split.loc ≡ loc) × (HasArm split → ⊥)
 FailsSplit split why = ⊥
