@@ -185,7 +185,8 @@ module _ (p : Program) (decls : List LayoutDecl) (rooms : List Room) (all : List
   -- the words stand one after the other, and their parts fit
   words-stacked : (o to : ℕ) (ws : List FieldWord) → Each WordFits ws → o + total ws ≤ to → Stacked o to (written_from o ws)
   words-stacked o to [] h le = omega (arith, le)
-  words-stacked o to (w ∷ ws) h le = (refl, h.0.0.0, words-stacked (o + w.width) to ws h.1 (omega (arith, le)))
+  words-stacked o to (w ∷ ws) ((is_width, _), fits) le =
+      (refl, is_width.0, words-stacked (o + w.width) to ws fits (omega (arith, le)))
 
   abbrev PartFits : WrittenPart → Type 0
   PartFits q = Fits decls opens q.l q.content
