@@ -1,6 +1,7 @@
 -- A completed program: it has what is derived for each type that is left to the compiler, and is well numbered.
 use Rattle.std.proofs.Common.{◌≡◌, ℕ, zero, suc, ◌+◌, ◌<◌, Bool, true, false, ◌||◌, cond, not, List, [], ◌∷◌, ◌++◌, map, length, nat_eq, nat_lt, Option, Some, None, Ok, Err, IfOk, Result, refl, sym, ◌∙◌, ap, subst, arith, slice_get, codes}
-use Rattle.std.proofs.lemmas.Bool.{eq-eqb, ltb-true}
+use Rattle.std.proofs.lemmas.Result.{IfOk-weaker}
+use Rattle.std.proofs.lemmas.Bool.{eq-eqb, ltb-true, and_parts, and_from, or_parts, not-true}
 use Rattle.std.proofs.lemmas.List.{append_assoc, map-append}
 use Rattle.std.proofs.lemmas.Option.{same_Some}
 use Rattle.std.specs.List.{list_any, list_all}
@@ -28,9 +29,9 @@ use Rattle.rb_names.specs.Completing.{AreDerived, IsCompleted, IsCompletion, fir
 use Rattle.rb_names.specs.inner.Deriving.{IsAllDerived, IsWith}
 use Rattle.rb_names.proofs.Inverting.{then-ok, ok-is}
 use Rattle.rb_names.proofs.DistinctNumbers.{AreDistinct, IsIn, IsNotIn, apart-from-front, other-way, without-distinct}
-use Rattle.rb_names.proofs.WellLists.{Each, both}
+use Rattle.rb_names.proofs.WellLists.{Each}
 use Rattle.rb_names.proofs.WellNames as names
-use Rattle.rb_names.proofs.WellNames.{both-false, both-true, bytes-symm, not-true}
+use Rattle.rb_names.proofs.WellNames.{bytes-symm}
 use Rattle.rb_names.proofs.WellDerived.{derived-well}
 use Rattle.rb_names.proofs.WellProgram.{once-ok}
 
@@ -79,7 +80,7 @@ module _ (p : Program) (kinds : List (Option Auto)) where
     all-numbered [] [] are below = refl
     all-numbered [] (r ∷ rs) are below = absurd are
     all-numbered (t ∷ ts) [] are below = absurd are
-    all-numbered (t ∷ ts) (Ok d ∷ rs) are below = both _ _ (derived-numbered t d below.0 are.0) (all-numbered ts rs are.1 below.1)
+    all-numbered (t ∷ ts) (Ok d ∷ rs) are below = and_from _ _ (derived-numbered t d below.0 are.0) (all-numbered ts rs are.1 below.1)
     all-numbered (t ∷ ts) (Err f ∷ rs) are below = all-numbered ts rs are.1 below.1
 
 -- Layouts of types --------------------------------------------------------------------------------
@@ -101,7 +102,7 @@ layout-found (x ∷ ds) t is = by (x.ty == t) refl (λ e. layout-found ds t (res
 
 no-layout : (ds : List LayoutDecl) (t : ℕ) → IsNotIn t (types_of ds) → decl_of ds t ≡ None
 no-layout [] t is = refl
-no-layout (x ∷ ds) t is = let h = both-false (nat_eq t x.ty) (list_any (nat_eq t) (types_of ds)) is in rw (other-way t x.ty h.0) (no-layout ds t h.1)
+no-layout (x ∷ ds) t is = let h = or_parts (nat_eq t x.ty) (list_any (nat_eq t) (types_of ds)) is in rw (other-way t x.ty h.0) (no-layout ds t h.1)
 
 -- Types that are left to the compiler --------------------------------------------------------------
 
@@ -137,8 +138,8 @@ numbers-each P types (l ∷ left) all = by (meaning types l.0) refl (numbers-eac
 -- of distinct names each stands for its place
 other-name : (names : List Name) (t : ℕ) (x y : Name) → slice_get names t ≡ Some x → list_any (bytes_eq y) names ≡ false → bytes_eq x y ≡ false
 other-name [] t x y e h = absurd cc
-other-name (n ∷ names) zero x y e h = bytes-symm x y ∙ ap (bytes_eq y) (sym (same_Some n x e)) ∙ (both-false (bytes_eq y n) (list_any (bytes_eq y) names) h).0
-other-name (n ∷ names) (suc t) x y e h = other-name names t x y e (both-false (bytes_eq y n) (list_any (bytes_eq y) names) h).1
+other-name (n ∷ names) zero x y e h = bytes-symm x y ∙ ap (bytes_eq y) (sym (same_Some n x e)) ∙ (or_parts (bytes_eq y n) (list_any (bytes_eq y) names) h).0
+other-name (n ∷ names) (suc t) x y e h = other-name names t x y e (or_parts (bytes_eq y n) (list_any (bytes_eq y) names) h).1
 
 number-at : (k : ℕ) (names : List Name) (t : ℕ) (x : Name) → is_distinct bytes_eq names ≡ true → slice_get names t ≡ Some x → meaning (numbered_from k names) x ≡ Some (k + t)
 number-at k [] t x d e = absurd cc
@@ -148,7 +149,7 @@ number-at k (y ∷ names) zero x d e =
     none_more : (n : ℕ) → n ≡ n + 0
     none_more n = omega arith
 number-at k (y ∷ names) (suc t) x d e =
-    let h = both-true (not (list_any (bytes_eq y) names)) (is_distinct bytes_eq names) d in
+    let h = and_parts (not (list_any (bytes_eq y) names)) (is_distinct bytes_eq names) d in
     rw (other-name names t x y e (not-true (list_any (bytes_eq y) names) h.0)) (number-at (suc k) names t x h.1 e ∙ ap (λ n. Some n) (one_more k t))
   where
     one_more : (n m : ℕ) → suc n + m ≡ n + suc m
@@ -191,7 +192,7 @@ once file p e = (is-found file p e).once
 
 all-join : {A : Type 0} (test : A → Bool) (xs ys : List A) → list_all test xs ≡ true → list_all test ys ≡ true → list_all test (xs ++ ys) ≡ true
 all-join test [] ys h g = g
-all-join test (x ∷ xs) ys h g = let parts = both-true (test x) (list_all test xs) h in both _ _ parts.0 (all-join test xs ys parts.1 g)
+all-join test (x ∷ xs) ys h g = let parts = and_parts (test x) (list_all test xs) h in and_from _ _ parts.0 (all-join test xs ys parts.1 g)
 
 module _ (file : FileTree) (p : Program) (named : numbered file ≡ Ok p) where
   abbrev is : IsFound file p
@@ -252,15 +253,11 @@ module _ (file : FileTree) (p : Program) (named : numbered file ≡ Ok p) where
 
 -- What a call answers -------------------------------------------------------------------------------
 
-if-ok : {A E : Type 0} (r : Result A E) (P Q : A → Type 0) → ((a : A) → P a → Q a) → IfOk r P → IfOk r Q
-if-ok (Ok a) P Q f h = f a h
-if-ok (Err e) P Q f h = h
-
 module _ {E : Type 0} (file : FileTree) (p : Program) (r : Result Completed E) where
   pub answer-completed : (kinds : List (Option Auto)) (ts : List ℕ) (d : Derived) → kinds ≡ kinds_of file → ts ≡ left_types file → IsAllDerived p kinds ts d
       → IfOk r (IsWith p d) → IfOk r (IsCompleted file p)
   answer-completed kinds ts d is_kinds is_types all =
-      if-ok r (IsWith p d) (IsCompleted file p)
+      IfOk-weaker r (IsWith p d) (IsCompleted file p)
       (λ c w. record {
         answers = all.answers;
         are_derived =
@@ -271,7 +268,7 @@ module _ {E : Type 0} (file : FileTree) (p : Program) (r : Result Completed E) w
 
 module _ {E : Type 0} (file : FileTree) (p : Program) (named : numbered file ≡ Ok p) (r : Result Completed E) (done : IfOk r (IsCompleted file p)) where
   pub answer-whole : IfOk r (λ c. c.refused ≡ None → IsCompletion file p c)
-  answer-whole = if-ok r (IsCompleted file p) (λ c. c.refused ≡ None → IsCompletion file p c) (is-whole file p named) done
+  answer-whole = IfOk-weaker r (IsCompleted file p) (λ c. c.refused ≡ None → IsCompletion file p c) (is-whole file p named) done
 
   pub answer-well : IsWellNumbered p → IfOk r (λ c. IsWellNumbered c.program)
-  answer-well well = if-ok r (IsCompleted file p) (λ c. IsWellNumbered c.program) (λ c d. is-well file p named c d well) done
+  answer-well well = IfOk-weaker r (IsCompleted file p) (λ c. IsWellNumbered c.program) (λ c d. is-well file p named c d well) done

@@ -1,7 +1,7 @@
 -- Distinct numbers, in two lists one behind the other.
 use Rattle.std.proofs.Common.{◌≡◌, ℕ, Bool, true, false, ◌||◌, not, List, [], ◌∷◌, ◌++◌, nat_eq, refl, sym, ap, ◌∙◌}
 use Rattle.std.specs.List.{list_any}
-use Rattle.std.proofs.lemmas.Bool.{and_parts, eqb-true, eq-eqb}
+use Rattle.std.proofs.lemmas.Bool.{and_parts, eqb-true, eq-eqb, or_parts, not-true}
 use Rattle.rb_core.specs.WellNumbered.{is_distinct}
 use Rattle.rb_names.proofs.DefiningLemmas.{any-append}
 
@@ -16,14 +16,6 @@ AreDistinct ns = is_distinct nat_eq ns ≡ true
 
 pub in-or-not : (n : ℕ) (ns : List ℕ) → IsIn n ns → IsNotIn n ns → ⊥
 in-or-not n ns a b = cc
-
-not-true : (b : Bool) → not b ≡ true → b ≡ false
-not-true true e = cc
-not-true false e = refl
-
-neither : (a b : Bool) → (a || b) ≡ false → (a ≡ false) × (b ≡ false)
-neither true b e = absurd cc
-neither false b e = (refl, e)
 
 pub other-way : (a b : ℕ) → nat_eq a b ≡ false → nat_eq b a ≡ false
 other-way a b e = by (nat_eq b a) refl
@@ -58,13 +50,13 @@ moved-distinct k [] ms h = h
 moved-distinct k (n ∷ ns) ms h =
     let a = first-apart k (n ∷ (ns ++ ms)) h in
     let b = first-apart n (ns ++ ms) a.1 in
-    let c = neither (nat_eq k n) (list_any (nat_eq k) (ns ++ ms)) a.0 in
+    let c = or_parts (nat_eq k n) (list_any (nat_eq k) (ns ++ ms)) a.0 in
     let apart : IsNotIn n (k ∷ (ns ++ ms)) = rw (other-way k n c.0) b.0 in
     distinct-both n (ns ++ k ∷ ms) (moved-not-in n k ns ms apart) (moved-distinct k ns ms (distinct-both k (ns ++ ms) c.1 b.1))
 
 -- a list without its last numbers, or without one in the middle
 front-not-in : (n : ℕ) (ns ms : List ℕ) → IsNotIn n (ns ++ ms) → IsNotIn n ns
-front-not-in n ns ms h = (neither (list_any (nat_eq n) ns) (list_any (nat_eq n) ms) (sym (any-append (nat_eq n) ns ms) ∙ h)).0
+front-not-in n ns ms h = (or_parts (list_any (nat_eq n) ns) (list_any (nat_eq n) ms) (sym (any-append (nat_eq n) ns ms) ∙ h)).0
 
 pub front-distinct : (ns ms : List ℕ) → AreDistinct (ns ++ ms) → AreDistinct ns
 front-distinct [] ms h = refl
@@ -74,7 +66,7 @@ pub without-distinct : (k : ℕ) (ns ms : List ℕ) → AreDistinct (ns ++ k ∷
 without-distinct k [] ms h = (first-apart k ms h).1
 without-distinct k (n ∷ ns) ms h =
     let a = first-apart n (ns ++ k ∷ ms) h in
-    distinct-both n (ns ++ ms) (neither (nat_eq n k) (list_any (nat_eq n) (ns ++ ms)) (sym (any-moved n k ns ms) ∙ a.0)).1 (without-distinct k ns ms a.1)
+    distinct-both n (ns ++ ms) (or_parts (nat_eq n k) (list_any (nat_eq n) (ns ++ ms)) (sym (any-moved n k ns ms) ∙ a.0)).1 (without-distinct k ns ms a.1)
 
 -- a number of the second list is none of the first
 pub apart-from-front : (n : ℕ) (ns ms : List ℕ) → AreDistinct (ns ++ ms) → IsIn n ms → IsNotIn n ns

@@ -1,5 +1,6 @@
 -- The types of a file that was read are well numbered.
-use Rattle.std.proofs.Common.{◌≡◌, ℕ, ◌<◌, List, [], ◌∷◌, map, length, Bool, true, false, ◌&&◌, nat_lt, nat_le, Some, Ok, refl, ◌∙◌, ap, arith}
+use Rattle.std.proofs.Common.{◌≡◌, ℕ, ◌<◌, List, [], ◌∷◌, map, length, true, nat_lt, nat_le, Some, Ok, refl, ◌∙◌, ap, arith}
+use Rattle.std.proofs.lemmas.Bool.{and_parts, and_from}
 use Rattle.std.proofs.lemmas.Grind.{common_steps}
 use Rattle.std.specs.List.{list_all}
 use Rattle.rb_core.specs.declared.types.Ty.{Ty}
@@ -37,13 +38,6 @@ named-next (tok.Reserved w) ts h = h
 named-next (tok.Uint bits) ts h = h
 named-next (tok.Symbol s) ts h = h
 
-both : (a b : Bool) → a ≡ true → b ≡ true → (a && b) ≡ true
-both a b p q = rw (p, q) refl
-
-parts : (a b : Bool) → (a && b) ≡ true → (a ≡ true) × (b ≡ true)
-parts true b e = (refl, e)
-parts false b e = absurd cc
-
 module _ (total : ℕ) where
   -- what is read from a place on: it is right, and its names are spelled as names are
   abbrev pub IsRead : List Written → Type 0
@@ -68,7 +62,7 @@ module _ (total : ℕ) where
         let behind : List Written = each_behind separator (map ty_written xs) rest in
         let w : TypeWell total types t known_type x behind = type-well total types t known_type x behind (record { formed = r.formed; numbers = r.numbers; fits = omega (arith, r.fits) }) in
         let a = all-cons (numbered_type t) x xs us e in
-        rw (← a.4) (both (is_type types a.0) (list_all (is_type types) a.1) (w.well a.0 a.2) (types-behind separator xs rest w.right a.1 a.3))
+        rw (← a.4) (and_from (is_type types a.0) (list_all (is_type types) a.1) (w.well a.0 a.2) (types-behind separator xs rest w.right a.1 a.3))
 
     fields-are : (xs : List TyTree) (rest : List Written) → Right total (fields_written (map ty_written xs) rest)
         → (us : List Ty) → all_of (map (numbered_type t) xs) ≡ Ok us → list_all (is_type types) us ≡ true
@@ -83,7 +77,7 @@ module _ (total : ℕ) where
         let long : length a.0 ≡ length c.fields = all-length (numbered_type t) c.fields a.0 a.1 in
         let fields : list_all (is_type types) a.0 ≡ true =
         fields-are c.fields rest (record { formed = h.0.formed; numbers = h.0.numbers.1; fits = omega (arith, h.0.fits) }) a.0 a.1 in
-        rw (← ok-is _ k a.2) (both (is_upper c.name.text) _ h.1.0 (both (nat_le (length a.0) 32) _ (ap (λ n. nat_le n 32) long ∙ counted) fields))
+        rw (← ok-is _ k a.2) (and_from (is_upper c.name.text) _ h.1.0 (and_from (nat_le (length a.0) 32) _ (ap (λ n. nat_le n 32) long ∙ counted) fields))
 
     cons-behind : (separator : Token) (cs : List ConTree) (rest : List Written) → IsRead (each_behind separator (map con_written cs) rest) → list_all con_is_counted cs ≡ true
         → (ks : List Con) → all_of (map (numbered_constructor t) cs) ≡ Ok ks → list_all (con_is_numbered types) ks ≡ true
@@ -91,9 +85,9 @@ module _ (total : ℕ) where
     cons-behind separator (c ∷ cs) rest h counted ks e =
         let behind : List Written = each_behind separator (map con_written cs) rest in
         let here : IsRead (con_written c behind) = read-next (token separator) (con_written c behind) h in
-        let n = parts (con_is_counted c) (list_all con_is_counted cs) counted in
+        let n = and_parts (con_is_counted c) (list_all con_is_counted cs) counted in
         let a = all-cons (numbered_constructor t) c cs ks e in
-        rw (← a.4) (both (con_is_numbered types a.0) (list_all (con_is_numbered types) a.1) (con-well c behind here n.0 a.0 a.2)
+        rw (← a.4) (and_from (con_is_numbered types a.0) (list_all (con_is_numbered types) a.1) (con-well c behind here n.0 a.0 a.2)
         (cons-behind separator cs rest (con-drops IsRead read-next c behind here) n.1 a.1 a.3))
 
     cons-are : (separator : Token) (cs : List ConTree) (rest : List Written) → IsRead (some_with separator (map con_written cs) rest) → list_all con_is_counted cs ≡ true
@@ -101,10 +95,10 @@ module _ (total : ℕ) where
     cons-are separator [] rest h counted ks e = absurd h.0.formed
     cons-are separator (c ∷ cs) rest h counted ks e =
         let behind : List Written = each_behind separator (map con_written cs) rest in
-        let n = parts (con_is_counted c) (list_all con_is_counted cs) counted in
+        let n = and_parts (con_is_counted c) (list_all con_is_counted cs) counted in
         let a = all-cons (numbered_constructor t) c cs ks e in (
           omega arith,
-          rw (← a.4) (both (con_is_numbered types a.0) (list_all (con_is_numbered types) a.1) (con-well c behind h n.0 a.0 a.2)
+          rw (← a.4) (and_from (con_is_numbered types a.0) (list_all (con_is_numbered types) a.1) (con-well c behind h n.0 a.0 a.2)
               (cons-behind separator cs rest (con-drops IsRead read-next c behind h) n.1 a.1 a.3)),
         )
 
@@ -115,28 +109,28 @@ module _ (total : ℕ) where
     pub data-well : (d : TypeTree) (rest : List Written) → IsRead (type_written d rest) → type_is_counted d ≡ true
         → (x : DataDecl) → numbered_data t d ≡ Ok x → type_is_numbered types x ≡ true
     data-well d rest h counted x e =
-        let n = parts (nat_le (length d.cons) 256) (list_all con_is_counted d.cons) counted in
+        let n = and_parts (nat_le (length d.cons) 256) (list_all con_is_counted d.cons) counted in
         let a = then-ok (all_of (map (numbered_constructor t) d.cons)) _ x e in
         let long : length a.0 ≡ length d.cons = all-length (numbered_constructor t) d.cons a.0 a.1 in
         let behind : List Written = some_with (tok.Symbol symbol.Bar) (map con_written d.cons) (token (tok.Symbol symbol.Semicolon) ∷ rest) in
         let here : IsRead behind = read-next _ _ (read-next _ _ (read-next _ _ (read-next _ _ h))) in
         let c = cons-are (tok.Symbol symbol.Bar) d.cons (token (tok.Symbol symbol.Semicolon) ∷ rest) here n.1 a.0 a.1 in
-        rw (← ok-is _ x a.2) (both (is_upper d.name.text) _ h.1.0 (both (is_between 1 256 (length a.0)) _ (count-between _ _ long c.0 n.0) c.1))
+        rw (← ok-is _ x a.2) (and_from (is_upper d.name.text) _ h.1.0 (and_from (is_between 1 256 (length a.0)) _ (count-between _ _ long c.0 n.0) c.1))
 
     pub data-all : (items : List ItemTree) → IsRead (each (map item_written items) []) → list_all item_is_counted items ≡ true
         → (ds : List DataDecl) → all_of (map (numbered_data t) (types_in items)) ≡ Ok ds → list_all (type_is_numbered types) ds ≡ true
     data-all [] h counted ds e = rw (← all-nil (numbered_data t) ds e) refl
     data-all (top.Types d ∷ items) h counted ds e =
-        let n = parts (type_is_counted d) (list_all item_is_counted items) counted in
+        let n = and_parts (type_is_counted d) (list_all item_is_counted items) counted in
         let rest : List Written = each (map item_written items) [] in
         let a = all-cons (numbered_data t) d (types_in items) ds e in
-        rw (← a.4) (both (type_is_numbered types a.0) (list_all (type_is_numbered types) a.1) (data-well d rest h n.0 a.0 a.2) (data-all items (item-read (top.Types d) rest h) n.1 a.1 a.3))
+        rw (← a.4) (and_from (type_is_numbered types a.0) (list_all (type_is_numbered types) a.1) (data-well d rest h n.0 a.0 a.2) (data-all items (item-read (top.Types d) rest h) n.1 a.1 a.3))
     data-all (top.Layouts l ∷ items) h counted ds e =
-        data-all items (item-read (top.Layouts l) (each (map item_written items) []) h) (parts (item_is_counted (top.Layouts l)) (list_all item_is_counted items) counted).1 ds e
+        data-all items (item-read (top.Layouts l) (each (map item_written items) []) h) (and_parts (item_is_counted (top.Layouts l)) (list_all item_is_counted items) counted).1 ds e
     data-all (top.Funs f ∷ items) h counted ds e =
-        data-all items (item-read (top.Funs f) (each (map item_written items) []) h) (parts (item_is_counted (top.Funs f)) (list_all item_is_counted items) counted).1 ds e
+        data-all items (item-read (top.Funs f) (each (map item_written items) []) h) (and_parts (item_is_counted (top.Funs f)) (list_all item_is_counted items) counted).1 ds e
     data-all (top.Derived name a ∷ items) h counted ds e =
-        data-all items (item-read (top.Derived name a) (each (map item_written items) []) h) (parts (item_is_counted (top.Derived name a)) (list_all item_is_counted items) counted).1 ds e
+        data-all items (item-read (top.Derived name a) (each (map item_written items) []) h) (and_parts (item_is_counted (top.Derived name a)) (list_all item_is_counted items) counted).1 ds e
 
 -- The types of a file that was read, whose items are numbered.
 module _ (items : List ItemTree) (all : Items) (found : numbered_items (tables_of items) items ≡ Ok all) (counted : AreCounted items) where

@@ -1,7 +1,7 @@
 -- Derived layouts are well numbered.
 use Rattle.std.proofs.Common.{◌≡◌, ℕ, zero, suc, ◌+◌, ◌*◌, ◌^◌, ◌<◌, ◌≤◌, List, [], ◌∷◌, map, length, Bool, true, false, nat_lt, nat_le, is_some, Option, Some, None, refl, sym, ◌∙◌, ap, subst, arith}
 use Rattle.std.proofs.lemmas.Grind.{common_steps}
-use Rattle.std.proofs.lemmas.Bool.{leb-true}
+use Rattle.std.proofs.lemmas.Bool.{leb-true, and_from}
 use Rattle.std.proofs.lemmas.List.Sums.{sum_by-cons}
 use Rattle.std.specs.Prelude.{slice_get, if◌then◌else◌}
 use Rattle.std.specs.List.{list_all, sum_by}
@@ -36,7 +36,7 @@ use Rattle.rb_auto.proofs.Lists.{IsGroup, are-groups, few-groups}
 use Rattle.rb_auto.proofs.Numbering.{TypeIsSmall, type-is-small, words-count}
 use Rattle.rb_names.specs.declared.tables.Tables.{Tables}
 use Rattle.rb_names.specs.Tables.{Name, meaning}
-use Rattle.rb_names.proofs.WellLists.{Each, both, each-passes, length-of-map}
+use Rattle.rb_names.proofs.WellLists.{Each, each-passes, length-of-map}
 use Rattle.rb_names.proofs.WellLeaves.{counted, counted-all, counted-Const, counted-part, counted-PartWord, counted-Pointer, counted-Whole, counted-Word, few-short, kind_counted, part_counted, short-round}
 use Rattle.rb_names.proofs.WellLayouts.{short-arm, short-Leaf, short-None, tree_short, under_short}
 use Rattle.rb_names.proofs.WellProvenances.{IsBelow, con-good, short-of}
@@ -250,7 +250,7 @@ module _ (p : Program) (numbered : IsWellNumbered p) (rooms : List Room) (t : �
   provenances-good : (k : ℕ) (cs : List Con) → AreCons k cs → list_all (provenance_is_numbered p.types) (map (λ l. l.provenance) (leaves_from p rooms t form k cs)) ≡ true
   provenances-good k [] h = refl
   provenances-good k (c ∷ cs) h =
-      let f = first-con k c cs h in both _ _ (provenance-good p.types t k c f.0 f.1) (provenances-good (k + 1) cs (other-cons k c cs h))
+      let f = first-con k c cs h in and_from _ _ (provenance-good p.types t k c f.0 f.1) (provenances-good (k + 1) cs (other-cons k c cs h))
 
   leaf-good : (k : ℕ) (c : Con) → length c.fields ≤ 32 → tree_short (leaf p rooms t form k c) ≡ true
   leaf-good k c few =
@@ -274,7 +274,7 @@ module _ (p : Program) (numbered : IsWellNumbered p) (rooms : List Room) (t : �
       let arms = arms_from p rooms t form 0 cs in
       let same : length (map under_short arms) ≡ length arms = length-of-map under_short arms in
       short-None (tag_loc tag) arms
-      ∙ both _ _ refl (both _ _ (short-of most small (map under_short arms) (omega (arith, same, arms-count 0 cs, few))) (both _ _ (each-passes under_short (λ b. b) arms (arms-good 0 cs h)) refl))
+      ∙ and_from _ _ refl (and_from _ _ (short-of most small (map under_short arms) (omega (arith, same, arms-count 0 cs, few))) (and_from _ _ (each-passes under_short (λ b. b) arms (arms-good 0 cs h)) refl))
 
   tree-good : (tag : ℕ) (cs : List Con) → length cs ≤ 256 → AreCons 0 cs → tree_short (tree_of p rooms t form tag cs) ≡ true
   tree-good zero [] few h = split-good zero [] few h
@@ -294,7 +294,7 @@ module _ (p : Program) (numbered : IsWellNumbered p) (rooms : List Room) (t : �
       ap (λ (ls : List WrittenLeaf). list_all (provenance_is_numbered p.types) (map (λ l. l.provenance) ls)) its ∙ provenances-good 0 cs are in
       let long : is_short (leaves (derived p rooms t form).tree) ≡ true =
       ap (λ (ls : List WrittenLeaf). is_short ls) its ∙ short-of most small (leaves_from p rooms t form 0 cs) (omega (arith, leaves-count 0 cs, few)) in
-      both _ _ (below t (length p.types) lt) (both _ _ refl (both _ _ shown (both _ _ long (tree-good (form_tag form) cs few are))))
+      and_from _ _ (below t (length p.types) lt) (and_from _ _ refl (and_from _ _ shown (and_from _ _ long (tree-good (form_tag form) cs few are))))
     where
       none_before : (n : ℕ) → 0 + n ≡ n
       none_before n = omega arith

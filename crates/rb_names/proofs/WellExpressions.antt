@@ -1,5 +1,6 @@
 -- Expressions of a file that was read are well numbered, and the numbers of their matches rise.
 use Rattle.std.proofs.Common.{◌≡◌, ℕ, suc, ◌+◌, ◌^◌, ◌<◌, ◌≤◌, List, [], ◌∷◌, ◌++◌, map, length, Bool, true, false, ◌&&◌, ◌||◌, nat_lt, nat_eq, if◌then◌else◌, cond, Option, Some, Ok, refl, sym, ◌∙◌, ap, subst, arith}
+use Rattle.std.proofs.lemmas.Bool.{and_from, or_right}
 use Rattle.std.proofs.lemmas.Grind.{common_steps}
 use Rattle.std.proofs.lemmas.List.Folds.{list_any-append}
 use Rattle.std.proofs.lemmas.Slice.Eq.{bytes_eq-Decides}
@@ -44,7 +45,7 @@ use Rattle.rb_names.proofs.ExpressionEquations as numbering
 use Rattle.rb_names.proofs.Rising.{Rise, rise-wider, rise-append, Right, place}
 use Rattle.rb_names.proofs.Inverting.{then-ok, known-ok, ok-is}
 use Rattle.rb_names.proofs.WellTypes.{TypeWell, type-well}
-use Rattle.rb_names.proofs.WellPatterns.{at_level-map, and-both, any-left, any-right, or-cases, length-map, short-list, moved, PatternWell, pattern-well}
+use Rattle.rb_names.proofs.WellPatterns.{at_level-map, any-left, any-right, or-cases, length-map, short-list, moved, PatternWell, pattern-well}
 
 abbrev comma : Token
 comma = tok.Symbol symbol.Comma
@@ -62,10 +63,6 @@ some-same x y e = cc
 
 pub or-left-here : (n : ℕ) (b : Bool) → (nat_eq n n || b) ≡ true
 or-left-here n b = let e : nat_eq n n ≡ true = grind (arith, common_steps) in rw e refl
-
-pub or-right-here : (a b : Bool) → b ≡ true → (a || b) ≡ true
-or-right-here true b e = refl
-or-right-here false b e = e
 
 abbrev pub named_so : Name → List Name → Bool
 named_so name names = list_any (λ n. bytes_eq n name) names
@@ -108,8 +105,8 @@ with_names-only [] seen name e = rw e refl
 with_names-only (x ∷ xs) seen name e =
     or-cases _ (named_so name (with_name seen x)) (named_so name xs) (with_names-only xs (with_name seen x) name e)
     (λ h. or-cases _ (named_so name seen) (bytes_eq x name) (with_name-only seen x name h) (λ k. rw k refl)
-    (λ k. or-right-here (named_so name seen) (bytes_eq x name || named_so name xs) (rw k refl)))
-    (λ h. or-right-here (named_so name seen) (bytes_eq x name || named_so name xs) (or-right-here (bytes_eq x name) (named_so name xs) h))
+    (λ k. or_right (named_so name seen) (bytes_eq x name || named_so name xs) (rw k refl)))
+    (λ h. or_right (named_so name seen) (bytes_eq x name || named_so name xs) (or_right (bytes_eq x name) (named_so name xs) h))
 
 binders-only : (p : PatTree) (name : Name) → named_so name (names_in p) ≡ false → named_so name (binders_of p) ≡ false
 binders-only p name e = by_test (named_so name (binders_of p)) refl where
@@ -193,7 +190,7 @@ module _ (total : ℕ) (small : total < 2 ^ 32) (types : List DataDecl) (funs : 
             let w = g.well scope two.0.next two.1 xs two.3 c in
             rw (← two.4) (
               ap suc w.0,
-              and-both _ _ v.numbered w.1,
+              and_from _ _ v.numbered w.1,
               rise-append _ (place total behind) _ (match_tokens two.0.what) _ (rise-wider _ _ _ _ (match_tokens two.0.what) (omega arith) (omega arith) v.rises) w.2,
             );
       }
@@ -211,7 +208,7 @@ module _ (total : ℕ) (small : total < 2 ^ 32) (types : List DataDecl) (funs : 
             let two = two-found (numbered_expression t a) (map (numbered_expression t) es) scope next rs e in
             let v = f.well scope next two.0 xs two.2 c in
             let w = g.well scope two.0.next two.1 xs two.3 c in
-            rw (← two.4) (ap suc w.0, and-both _ _ v.numbered w.1, rise-append _ (place total behind) _ (match_tokens two.0.what) _ v.rises w.2);
+            rw (← two.4) (ap suc w.0, and_from _ _ v.numbered w.1, rise-append _ (place total behind) _ (match_tokens two.0.what) _ v.rises w.2);
       }
 
   -- what stands in front of them moves no place back
@@ -298,8 +295,8 @@ module _ (total : ℕ) (small : total < 2 ^ 32) (types : List DataDecl) (funs : 
             let v = a.well scope next g.0 xs g.1 c in
             let same : C.Call at f.0 g.0.what ≡ q.what = ap (λ p. p.what) (ok-is _ q g.2) in
             rw (← same) (record {
-              numbered = fine-is types funs (E.Call at f.0 g.0.what) xs ∙ and-both _ _ (known_fun x.text f.0 (known-ok x (meaning t.functions x.text) f.0 f.1))
-                  (and-both _ _ (short-args es vs close g.0.what v.0 a.count (omega (arith, s.fits))) v.1);
+              numbered = fine-is types funs (E.Call at f.0 g.0.what) xs ∙ and_from _ _ (known_fun x.text f.0 (known-ok x (meaning t.functions x.text) f.0 f.1))
+                  (and_from _ _ (short-args es vs close g.0.what v.0 a.count (omega (arith, s.fits))) v.1);
               rises = rw (call-written at x es l rest, tokens-are types funs (E.Call at f.0 g.0.what))
                   (rise-wider _ _ _ _ (all_tokens (map match_tokens g.0.what)) (omega arith) (omega arith) v.2);
             });
@@ -320,8 +317,8 @@ module _ (total : ℕ) (small : total < 2 ^ 32) (types : List DataDecl) (funs : 
             let v = a.well scope next g.0 xs g.1 c in
             let same : C.Build at f.0 g.0.what ≡ q.what = ap (λ p. p.what) (ok-is _ q g.2) in
             rw (← same) (record {
-              numbered = fine-is types funs (E.Build at f.0 g.0.what) xs ∙ and-both _ _ (known_con x.text f.0 (known-ok x (meaning t.constructors x.text) f.0 f.1))
-                  (and-both _ _ (short-args es vs rest g.0.what v.0 a.count (omega (arith, s.fits))) v.1);
+              numbered = fine-is types funs (E.Build at f.0 g.0.what) xs ∙ and_from _ _ (known_con x.text f.0 (known-ok x (meaning t.constructors x.text) f.0 f.1))
+                  (and_from _ _ (short-args es vs rest g.0.what v.0 a.count (omega (arith, s.fits))) v.1);
               rises = rw (build-written at x es l rest, tokens-are types funs (E.Build at f.0 g.0.what))
                   (rise-wider _ _ _ _ (all_tokens (map match_tokens g.0.what)) (omega arith) (omega arith) v.2);
             });
@@ -345,7 +342,7 @@ module _ (total : ℕ) (small : total < 2 ^ 32) (types : List DataDecl) (funs : 
             let w = g.well scope i.0.next j.0 xs j.1 c in
             let same : C.Binary at o i.0.what j.0.what ≡ q.what = ap (λ p. p.what) (ok-is _ q j.2) in
             rw (← same) (record {
-              numbered = fine-is types funs (E.Binary at o i.0.what j.0.what) xs ∙ and-both _ _ v.numbered w.numbered;
+              numbered = fine-is types funs (E.Binary at o i.0.what j.0.what) xs ∙ and_from _ _ v.numbered w.numbered;
               rises = rw (spelled.expr-Binary at o a b l rest, tokens-are types funs (E.Binary at o i.0.what j.0.what))
                   (rise-append _ (place total ws) _ (match_tokens i.0.what) (match_tokens j.0.what)
                   (rise-wider _ _ _ _ (match_tokens i.0.what) (omega arith) (omega arith) v.rises)
@@ -369,7 +366,7 @@ module _ (total : ℕ) (small : total < 2 ^ 32) (types : List DataDecl) (funs : 
             let v = f.well scope next i.0 xs i.1 c in
             let same : C.To at bits i.0.what ≡ q.what = ap (λ p. p.what) (ok-is _ q i.2) in
             rw (← same) (record {
-              numbered = fine-is types funs (E.To at bits i.0.what) xs ∙ and-both _ _ (k.well (core_ty.Int bits) refl) v.numbered;
+              numbered = fine-is types funs (E.To at bits i.0.what) xs ∙ and_from _ _ (k.well (core_ty.Int bits) refl) v.numbered;
               rises = rw (spelled.expr-To at bits a l rest, tokens-are types funs (E.To at bits i.0.what))
                   (rise-wider _ _ _ _ (match_tokens i.0.what) (omega (arith, k.shorter)) (omega arith) v.rises);
             });
@@ -379,7 +376,7 @@ module _ (total : ℕ) (small : total < 2 ^ 32) (types : List DataDecl) (funs : 
   covers-one : (scope : Scope) (xs : List ℕ) (name : Name) (n : ℕ) → Covers scope xs → Covers ((name, n) ∷ scope) (n ∷ xs)
   covers-one scope xs name n c other x m = cond-cases _ (bytes_eq other name) (Some n) (meaning scope other) x m
       (λ e. subst (λ (y : ℕ). (nat_eq y n || list_any (nat_eq y) xs) ≡ true) (some-same n x e) (or-left-here n (list_any (nat_eq n) xs)))
-      (λ e. or-right-here (nat_eq x n) (list_any (nat_eq x) xs) (c other x e))
+      (λ e. or_right (nat_eq x n) (list_any (nat_eq x) xs) (c other x e))
 
   let-well : (at : ℕ) (x : NameTree) (u : TyTree) (a b : ExprTree) → Well a → Well b → Well (X.Let at x u a b)
   unfolding C.roll-Expr denote.Hole.Carrier.roll
@@ -403,7 +400,7 @@ module _ (total : ℕ) (small : total < 2 ^ 32) (types : List DataDecl) (funs : 
             let w = g.well ((x.text, next) ∷ scope) i.0.next j.0 (next ∷ xs) j.1 (covers-one scope xs x.text next c) in
             let same : C.Let at next h.0 i.0.what j.0.what ≡ q.what = ap (λ p. p.what) (ok-is _ q j.2) in
             rw (← same) (record {
-              numbered = fine-is types funs (E.Let at next h.0 i.0.what j.0.what) xs ∙ and-both _ _ (k.well h.0 h.1) (and-both _ _ v.numbered w.numbered);
+              numbered = fine-is types funs (E.Let at next h.0 i.0.what j.0.what) xs ∙ and_from _ _ (k.well h.0 h.1) (and_from _ _ v.numbered w.numbered);
               rises = rw (spelled.expr-Let at x u a b l rest, tokens-are types funs (E.Let at next h.0 i.0.what j.0.what))
                   (rise-append _ (place total ws) _ (match_tokens i.0.what) (match_tokens j.0.what)
                   (rise-wider _ _ _ _ (match_tokens i.0.what) (omega (arith, k.shorter)) (omega arith) v.rises) w.rises);
@@ -442,7 +439,7 @@ module _ (total : ℕ) (small : total < 2 ^ 32) (types : List DataDecl) (funs : 
             let made : Clause = record { pat = i.0; body = j.0.what } in
             let same : made ≡ d.what = ap (λ q. q.what) (ok-is _ d j.2) in
             rw (← same) (
-              clause-fine-is types funs made xs ∙ and-both _ _ w.numbered v.numbered,
+              clause-fine-is types funs made xs ∙ and_from _ _ w.numbered v.numbered,
               rw (spelled.clause-is c l rest, clause-tokens-are types funs made) (rise-wider _ _ _ _ (match_tokens j.0.what) (omega (arith, p.shorter)) (omega arith) v.rises),
             );
       }
@@ -475,7 +472,7 @@ module _ (total : ℕ) (small : total < 2 ^ 32) (types : List DataDecl) (funs : 
             let w = g.well scope two.0.next two.1 xs two.3 c in
             rw (← two.4) (
               ap suc w.0,
-              and-both _ _ v.0 w.1,
+              and_from _ _ v.0 w.1,
               rise-append _ (place total behind) _ (clause_tokens types funs two.0.what) _ (rise-wider _ _ _ _ (clause_tokens types funs two.0.what) (omega arith) (omega arith) v.1) w.2,
             );
       }
@@ -495,7 +492,7 @@ module _ (total : ℕ) (small : total < 2 ^ 32) (types : List DataDecl) (funs : 
               let two = two-found (numbered_clause t a) (map (numbered_clause t) cs) scope next ds e in
               let v = f.well scope next two.0 xs two.2 c in
               let w = g.well scope two.0.next two.1 xs two.3 c in
-              rw (← two.4) (ap suc w.0, and-both _ _ v.0 w.1, rise-append _ (place total behind) _ (clause_tokens types funs two.0.what) _ v.1 w.2);
+              rw (← two.4) (ap suc w.0, and_from _ _ v.0 w.1, rise-append _ (place total behind) _ (clause_tokens types funs two.0.what) _ v.1 w.2);
         },
       )
 
@@ -529,8 +526,8 @@ module _ (total : ℕ) (small : total < 2 ^ 32) (types : List DataDecl) (funs : 
             let many : length (map (clause_fine types funs) j.0.what) ≡ length cs = length-map total small types t known_con (clause_fine types funs) j.0.what ∙ w.0 in
             let some_there : nat_lt 0 (length (map (clause_fine types funs) j.0.what)) ≡ true = let k : 0 < length (map (clause_fine types funs) j.0.what) = omega (arith, many, some.0) in grind (arith, common_steps, k) in
             rw (← same) (record {
-              numbered = fine-is types funs (E.Match at i.0.what j.0.what) xs ∙ and-both _ _ v.numbered (and-both _ _ some_there
-                  (and-both _ _ (short-list total small types t known_con (map (clause_fine types funs) j.0.what) (length cs) many (omega (arith, g.count, f.shorter, s.fits))) w.1));
+              numbered = fine-is types funs (E.Match at i.0.what j.0.what) xs ∙ and_from _ _ v.numbered (and_from _ _ some_there
+                  (and_from _ _ (short-list total small types t known_con (map (clause_fine types funs) j.0.what) (length cs) many (omega (arith, g.count, f.shorter, s.fits))) w.1));
               rises = rw (match-written at a cs l rest, tokens-are types funs (E.Match at i.0.what j.0.what)) (
                 omega (arith, s.numbers.0),
                 rise-append _ (place total ws) _ (match_tokens i.0.what) (all_tokens (map (clause_tokens types funs) j.0.what))

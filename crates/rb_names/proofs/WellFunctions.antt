@@ -1,5 +1,6 @@
 -- Functions of a file that was read are well numbered.
 use Rattle.std.proofs.Common.{◌≡◌, ℕ, suc, ◌^◌, ◌<◌, ◌≤◌, List, [], ◌∷◌, map, length, Bool, true, false, ◌||◌, nat_lt, nat_le, nat_eq, Some, Ok, refl, sym, ◌∙◌, ap, subst, arith}
+use Rattle.std.proofs.lemmas.Bool.{and_from, or_right}
 use Rattle.std.proofs.lemmas.Grind.{common_steps}
 use Rattle.std.specs.List.{list_any, list_all}
 use Rattle.std.specs.Str.{bytes_eq}
@@ -23,8 +24,8 @@ use Rattle.rb_names.specs.Numbering.{all_of, name_found, numbered_type, numbered
 use Rattle.rb_names.proofs.Rising.{Rise, rise-wider, Right, place}
 use Rattle.rb_names.proofs.Inverting.{then-ok, known-ok, ok-is}
 use Rattle.rb_names.proofs.WellTypes.{TypeWell, type-well}
-use Rattle.rb_names.proofs.WellPatterns.{and-both, or-cases, same-name}
-use Rattle.rb_names.proofs.WellExpressions.{Covers, ExprWell, expression-well, named_so, inside-other, with_names-only, or-right-here, some-same, or-left-here}
+use Rattle.rb_names.proofs.WellPatterns.{or-cases, same-name}
+use Rattle.rb_names.proofs.WellExpressions.{Covers, ExprWell, expression-well, named_so, inside-other, with_names-only, some-same, or-left-here}
 
 abbrev comma : Token
 comma = tok.Symbol symbol.Comma
@@ -70,12 +71,12 @@ module _ (total : ℕ) (small : total < 2 ^ 32) (types : List DataDecl) (funs : 
       × ((name : Name) (x : ℕ) → named_so name (names_of (p ∷ ps)) ≡ true → meaning scope name ≡ Some x → list_any (nat_eq x) (map (λ (p : Param). p.var) all) ≡ true))
       (ok-is (a.0 ∷ b.0) qs b.2) (
         ap suc w.0,
-        and-both _ _ is_ty w.1,
+        and_from _ _ is_ty w.1,
         λ name x n k. or-cases _ (bytes_eq p.var.text name) (named_so name (names_of ps)) n
             (λ h. let same : p.var.text ≡ name = same-name total small types t known_con p.var.text name h in
             let y : v.0 ≡ x = some-same v.0 x (sym m ∙ subst (λ (w : Name). meaning scope w ≡ Some x) (sym same) k) in
             subst (λ (z : ℕ). (nat_eq x z || list_any (nat_eq x) (map (λ (p : Param). p.var) b.0)) ≡ true) (sym y ∙ is_var) (or-left-here x _))
-            (λ h. or-right-here (nat_eq x a.0.var) _ (w.2 name x h k)),
+            (λ h. or_right (nat_eq x a.0.var) _ (w.2 name x h k)),
       )
 
   params-behind : (ps : List ParamTree) (rest : List Written) → Right total (each_behind comma (map param_written ps) rest)
@@ -148,7 +149,7 @@ module _ (total : ℕ) (small : total < 2 ^ 32) (types : List DataDecl) (funs : 
             let v = g.well scope (length (param_binders f.params)) c.0 (map (λ (p : Param). p.var) a.0) c.1 (covers-params f.params a.0 ps.2) in
             let n : nat_le (length a.0) 32 ≡ true = let q : length a.0 ≤ 32 = omega (arith, ps.0, few) in grind (arith, common_steps, q) in
             rw (← ok-is _ d c.2) (
-              and-both _ _ lower (and-both _ _ n (and-both _ _ ps.1 (and-both _ _ (k.well b.0 b.1) v.numbered))),
+              and_from _ _ lower (and_from _ _ n (and_from _ _ ps.1 (and_from _ _ (k.well b.0 b.1) v.numbered))),
               rise-wider _ _ _ _ (match_tokens c.0.what) (omega (arith, k.shorter, p.shorter)) (omega arith) v.rises,
             );
       }

@@ -1,5 +1,6 @@
 -- The functions of a file that was read are well numbered, and the numbers of their matches rise.
-use Rattle.std.proofs.Common.{◌≡◌, ℕ, ◌^◌, ◌<◌, ◌≤◌, List, [], ◌∷◌, map, length, Bool, true, false, ◌&&◌, nat_lt, nat_le, Some, Ok, refl, subst, arith}
+use Rattle.std.proofs.Common.{◌≡◌, ℕ, ◌^◌, ◌<◌, ◌≤◌, List, [], ◌∷◌, map, length, true, nat_lt, nat_le, Some, Ok, refl, subst, arith}
+use Rattle.std.proofs.lemmas.Bool.{and_from, and_parts}
 use Rattle.std.proofs.lemmas.Grind.{common_steps}
 use Rattle.std.specs.List.{list_all, flat_map}
 use Rattle.rb_core.specs.declared.types.ConRef.{ConRef}
@@ -21,16 +22,7 @@ use Rattle.rb_names.specs.Written.{AreNamed, item_is_counted}
 use Rattle.rb_names.proofs.Rising.{Rise, rise-wider, rise-append, Right, place}
 use Rattle.rb_names.proofs.Inverting.{then-ok, ok-is}
 use Rattle.rb_names.proofs.Dropping.{item-drops}
-use Rattle.rb_names.proofs.WellPatterns.{and-both}
 use Rattle.rb_names.proofs.WellFunctions.{FunctionWell, function-well}
-
-pub and-first : (a b : Bool) → (a && b) ≡ true → a ≡ true
-and-first true b e = refl
-and-first false b e = e
-
-pub and-second : (a b : Bool) → (a && b) ≡ true → b ≡ true
-and-second true b e = e
-and-second false b e = absurd cc
 
 -- the rest of a file is right, named, and no longer
 right-next : (total : ℕ) (w : Written) (ws : List Written) → Right total (w ∷ ws) → Right total ws
@@ -92,7 +84,7 @@ module _ (total : ℕ) (small : total < 2 ^ 32) (types : List DataDecl) (funs : 
       let ws : List Written = each (map item_written items) rest in
       let a = then-ok (numbered_data t d) _ all e in
       let b = then-ok (numbered_items t items) _ all a.2 in
-      let w = functions-well items rest (right-behind total x ws r) (named-behind x ws n) (and-second (item_is_counted x) _ c) b.0 b.1 in
+      let w = functions-well items rest (right-behind total x ws r) (named-behind x ws n) (and_parts (item_is_counted x) _ c).1 b.0 b.1 in
       let s = shorter-behind x ws in
       subst (λ (q : Items). FunctionsWell (place total (item_written x ws)) (place total rest) q.functions) (ok-is _ all b.2)
       (record { numbered = w.numbered; rises = rise-wider _ _ _ _ (tokens_of b.0.functions) (omega (arith, s)) (omega arith) w.rises })
@@ -101,7 +93,7 @@ module _ (total : ℕ) (small : total < 2 ^ 32) (types : List DataDecl) (funs : 
       let ws : List Written = each (map item_written items) rest in
       let a = then-ok (numbered_layout t l) _ all e in
       let b = then-ok (numbered_items t items) _ all a.2 in
-      let w = functions-well items rest (right-behind total x ws r) (named-behind x ws n) (and-second (item_is_counted x) _ c) b.0 b.1 in
+      let w = functions-well items rest (right-behind total x ws r) (named-behind x ws n) (and_parts (item_is_counted x) _ c).1 b.0 b.1 in
       let s = shorter-behind x ws in
       subst (λ (q : Items). FunctionsWell (place total (item_written x ws)) (place total rest) q.functions) (ok-is _ all b.2)
       (record { numbered = w.numbered; rises = rise-wider _ _ _ _ (tokens_of b.0.functions) (omega (arith, s)) (omega arith) w.rises })
@@ -109,7 +101,7 @@ module _ (total : ℕ) (small : total < 2 ^ 32) (types : List DataDecl) (funs : 
       let x = top.Derived name k in
       let ws : List Written = each (map item_written items) rest in
       let a = then-ok (name_found name (meaning t.types name.text)) _ all e in
-      let w = functions-well items rest (right-behind total x ws r) (named-behind x ws n) (and-second (item_is_counted x) _ c) all a.2 in
+      let w = functions-well items rest (right-behind total x ws r) (named-behind x ws n) (and_parts (item_is_counted x) _ c).1 all a.2 in
       let s = shorter-behind x ws in
       record { numbered = w.numbered; rises = rise-wider _ _ _ _ (tokens_of all.functions) (omega (arith, s)) (omega arith) w.rises }
   functions-well (top.Funs f ∷ items) rest r n c all e =
@@ -117,9 +109,9 @@ module _ (total : ℕ) (small : total < 2 ^ 32) (types : List DataDecl) (funs : 
       let ws : List Written = each (map item_written items) rest in
       let a = then-ok (numbered_function t f) _ all e in
       let b = then-ok (numbered_items t items) _ all a.2 in
-      let w = functions-well items rest (right-behind total x ws r) (named-behind x ws n) (and-second (item_is_counted x) _ c) b.0 b.1 in
+      let w = functions-well items rest (right-behind total x ws r) (named-behind x ws n) (and_parts (item_is_counted x) _ c).1 b.0 b.1 in
       let g : FunctionWell total small types funs t known_type known_con known_fun f ws = function-well total small types funs t known_type known_con known_fun f ws r in
-      let few : length f.params ≤ 32 = let h : nat_le (length f.params) 32 ≡ true = and-first (item_is_counted x) _ c in grind (arith, common_steps, h) in
+      let few : length f.params ≤ 32 = let h : nat_le (length f.params) 32 ≡ true = (and_parts (item_is_counted x) _ c).0 in grind (arith, common_steps, h) in
       let v = g.well a.0 a.1 n.0 few in
       subst (λ (q : Items). FunctionsWell (place total (item_written x ws)) (place total rest) q.functions) (ok-is _ all b.2)
-      (record { numbered = and-both _ _ v.0 w.numbered; rises = rise-append _ (place total ws) _ (match_tokens a.0.body) (tokens_of b.0.functions) v.1 w.rises })
+      (record { numbered = and_from _ _ v.0 w.numbered; rises = rise-append _ (place total ws) _ (match_tokens a.0.body) (tokens_of b.0.functions) v.1 w.rises })

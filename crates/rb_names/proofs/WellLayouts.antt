@@ -1,5 +1,6 @@
 -- Layouts of a file that was read are well numbered.
 use Rattle.std.proofs.Common.{◌≡◌, ℕ, suc, ◌+◌, ◌^◌, ◌<◌, ◌≤◌, List, [], ◌∷◌, ◌++◌, map, length, Bool, true, nat_lt, Option, Some, None, Ok, refl, sym, ◌∙◌, ap, subst, arith}
+use Rattle.std.proofs.lemmas.Bool.{and_parts, and_from}
 use Rattle.std.proofs.lemmas.Grind.{common_steps}
 use Rattle.std.proofs.lemmas.List.Sums.{sum_by-cons}
 use Rattle.std.specs.List.{list_all, flat_map, sum_by}
@@ -38,8 +39,8 @@ use Rattle.rb_names.proofs.Rising.{Right}
 use Rattle.rb_names.proofs.Inverting.{then-ok, known-ok, ok-is}
 use Rattle.rb_core.proofs.LayoutInduction as lay-items
 use Rattle.rb_syntax.proofs.SplitInduction as induction
-use Rattle.rb_names.proofs.WellLists.{Each, each-of, each-passes, both, length-of-map, off-token, off-number, off-node, right-as, Fine, is-as, are-each, are-some}
-use Rattle.rb_names.proofs.WellProvenances.{at_level-of, short-of, both-of, provenance-well}
+use Rattle.rb_names.proofs.WellLists.{Each, each-of, each-passes, length-of-map, off-token, off-number, off-node, right-as, Fine, is-as, are-each, are-some}
+use Rattle.rb_names.proofs.WellProvenances.{at_level-of, short-of, provenance-well}
 use Rattle.rb_names.proofs.WellLeaves.{leaf-well}
 
 -- Trees in layers.
@@ -110,7 +111,7 @@ all-two : {A B : Type 0} (f : A → B) (test : B → Bool) (xs ys : List A) → 
 all-two f test [] ys h k = k
 all-two f test (x ∷ xs) ys h k = rw (parts.0) (all-two f test xs ys parts.1 k) where
   parts : (test (f x) ≡ true) × (list_all test (map f xs) ≡ true)
-  parts = both-of _ _ h
+  parts = and_parts _ _ h
 
 abbrev leaf_count : LayTree → ℕ
 leaf_count tree = length (leaves tree)
@@ -227,7 +228,7 @@ module _ (total : ℕ) (small : total < 2 ^ 32) (types : List DataDecl) (t : Tab
       let v = p.well f.0 f.1 in
       rw (← ok-is (L.Leaf at f.0 items) b f.2) (
         rw (leaves-Leaf at f.0 items) (omega (arith, p.shorter, i.count)),
-        record { proven = rw (leaves-Leaf at f.0 items) (both _ _ v.1 refl); short = short-Leaf at f.0 items ∙ i.short },
+        record { proven = rw (leaves-Leaf at f.0 items) (and_from _ _ v.1 refl); short = short-Leaf at f.0 items ∙ i.short },
       ))
 
   -- what stands in front of the arms
@@ -256,7 +257,7 @@ module _ (total : ℕ) (small : total < 2 ^ 32) (types : List DataDecl) (t : Tab
         record {
           proven = rw (leaves-None loc f.0) (all-two (λ (w : WrittenLeaf). w.provenance) (provenance_is_numbered types) (flat_map (λ (ls : List WrittenLeaf). ls) (map leaves_under f.0)) []
               (arms-proven f.0 v.good) refl);
-          short = short-None loc f.0 ∙ both _ _ p.short (both _ _ m.0 (both _ _ m.1 refl));
+          short = short-None loc f.0 ∙ and_from _ _ p.short (and_from _ _ m.0 (and_from _ _ m.1 refl));
         },
       ))
 
@@ -289,7 +290,7 @@ module _ (total : ℕ) (small : total < 2 ^ 32) (types : List DataDecl) (t : Tab
         record {
           proven = rw (leaves-Some loc f.0 j.0) (all-two (λ (w : WrittenLeaf). w.provenance) (provenance_is_numbered types) (flat_map (λ (ls : List WrittenLeaf). ls) (map leaves_under f.0)) (leaves j.0)
               (arms-proven f.0 v.good) y.1.proven);
-          short = short-Some loc f.0 j.0 ∙ both _ _ p.short (both _ _ m.0 (both _ _ m.1 y.1.short));
+          short = short-Some loc f.0 j.0 ∙ and_from _ _ p.short (and_from _ _ m.0 (and_from _ _ m.1 y.1.short));
         },
       ))
 
@@ -341,6 +342,6 @@ module _ (total : ℕ) (small : total < 2 ^ 32) (types : List DataDecl) (t : Tab
               let v = x.well g.0 g.1 in
               let few : is_short (leaves g.0) ≡ true = short-of total small (leaves g.0) (omega (arith, v.0, a.1.count, s.fits)) in
               subst (λ (y : LayoutDecl). layout_is_numbered types y ≡ true) (ok-is (record { at = l.at; ty = f.0; shape = l.shape; tree = g.0 }) d g.2)
-              (both _ _ (known_type l.ty.text f.0 (known-ok l.ty (meaning t.types l.ty.text) f.0 f.1))
-              (both _ _ (shape-between l.shape a.0 k) (both _ _ v.1.proven (both _ _ few v.1.short))));
+              (and_from _ _ (known_type l.ty.text f.0 (known-ok l.ty (meaning t.types l.ty.text) f.0 f.1))
+              (and_from _ _ (shape-between l.shape a.0 k) (and_from _ _ v.1.proven (and_from _ _ few v.1.short))));
         }

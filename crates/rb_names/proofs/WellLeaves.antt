@@ -1,5 +1,6 @@
 -- Items of layouts of a file that was read: no more items and parts than tokens, and each list is short.
 use Rattle.std.proofs.Common.{◌≡◌, ℕ, suc, ◌+◌, ◌^◌, ◌<◌, ◌≤◌, List, [], ◌∷◌, map, length, true, nat_lt, Ok, refl, ◌∙◌, ap, subst, arith}
+use Rattle.std.proofs.lemmas.Bool.{and_from}
 use Rattle.std.proofs.lemmas.Grind.{common_steps}
 use Rattle.std.proofs.lemmas.List.Sums.{sum_by-cons}
 use Rattle.std.specs.List.{sum_by}
@@ -24,7 +25,7 @@ use Rattle.rb_names.proofs.Rising.{Right}
 use Rattle.rb_names.proofs.Inverting.{ok-is}
 use Rattle.rb_names.proofs.WellTypes.{checked-right}
 use Rattle.rb_core.proofs.LayoutInduction as induction
-use Rattle.rb_names.proofs.WellLists.{Each, each-passes, both, length-of-map, all-ok, off-token, off-node, right-as, Fine, is-as, are-each, are-any, are-some}
+use Rattle.rb_names.proofs.WellLists.{Each, each-passes, length-of-map, all-ok, off-token, off-node, right-as, Fine, is-as, are-each, are-any, are-some}
 use Rattle.rb_names.proofs.WellProvenances.{at_level-of, short-of}
 
 -- an item, a kind and a part as they are counted
@@ -187,7 +188,7 @@ module _ (total : ℕ) (small : total < 2 ^ 32) where
 
   pub short-round : {A : Type 0} (items parts : ℕ) (f : A → lay.ItemCounts) (xs : List A) → length xs ≤ total → Each (λ x. (f x).short ≡ true) xs
       → (written_round items parts (map f xs)).short ≡ true
-  short-round items parts f xs h g = both _ _ (short-of total small (map f xs) (omega (arith, h, length-of-map f xs)))
+  short-round items parts f xs h g = and_from _ _ (short-of total small (map f xs) (omega (arith, h, length-of-map f xs)))
       (each-passes f (λ (c : lay.ItemCounts). c.short) xs g)
 
   kind-pointer : (align : ℕ) (items : List LayItem) → induction.Each ItemFine items → KindFine (K.Pointer align items)
@@ -272,8 +273,8 @@ module _ (total : ℕ) (small : total < 2 ^ 32) where
   -- items that come to so few with what stands in them
   pub few-short : (items : List LayItem) → length items ≤ total → sum_by (λ i. counted (counts_in i)) items ≤ total → Each OfItem items → leaf_is_short items ≡ true
   few-short items long few good =
-      both _ _ (short-round 0 0 counts_in items long good)
-      (both _ _ (below_limit (0 + sum_by (λ (c : lay.ItemCounts). c.items) (map counts_in items)) (omega (arith, few, counted-all counts_in items)))
+      and_from _ _ (short-round 0 0 counts_in items long good)
+      (and_from _ _ (below_limit (0 + sum_by (λ (c : lay.ItemCounts). c.items) (map counts_in items)) (omega (arith, few, counted-all counts_in items)))
       (below_limit (0 + sum_by (λ (c : lay.ItemCounts). c.parts) (map counts_in items)) (omega (arith, few, counted-all counts_in items))))
 
   pub leaf-well : (l : ℕ) (items : List LayItem) (rest : List Written) → Right total (some_with comma (map (item_at l) items) rest)

@@ -1,5 +1,6 @@
 -- Lists of parts of a file that was read: how many there are, and that each is well numbered.
-use Rattle.std.proofs.Common.{◌≡◌, ℕ, suc, ◌+◌, ◌<◌, ◌≤◌, List, [], ◌∷◌, map, length, Bool, true, ◌&&◌, Ok, refl, ap, subst, arith}
+use Rattle.std.proofs.Common.{◌≡◌, ℕ, suc, ◌+◌, ◌<◌, ◌≤◌, List, [], ◌∷◌, map, length, Bool, true, Ok, refl, ap, subst, arith}
+use Rattle.std.proofs.lemmas.Bool.{and_from}
 use Rattle.std.proofs.lemmas.List.Sums.{sum_by-cons}
 use Rattle.std.specs.List.{list_all, sum_by}
 use Rattle.rb_syntax.specs.declared.token.Token.{Token}
@@ -17,13 +18,10 @@ pub each-of : {A : Type 0} (P Q : A → Type 0) (f : (x : A) → P x → Q x) (x
 each-of P Q f [] h = tt
 each-of P Q f (x ∷ xs) h = (f x h.0, each-of P Q f xs h.1)
 
-pub both : (a b : Bool) → a ≡ true → b ≡ true → (a && b) ≡ true
-both a b p q = rw (p, q) refl
-
 -- each test is passed
 pub each-passes : {A B : Type 0} (f : A → B) (test : B → Bool) (xs : List A) → Each (λ x. test (f x) ≡ true) xs → list_all test (map f xs) ≡ true
 each-passes f test [] h = refl
-each-passes f test (x ∷ xs) h = both _ _ h.0 (each-passes f test xs h.1)
+each-passes f test (x ∷ xs) h = and_from _ _ h.0 (each-passes f test xs h.1)
 
 pub length-of-map : {A B : Type 0} (f : A → B) (xs : List A) → length (map f xs) ≡ length xs
 length-of-map f [] = refl

@@ -1,5 +1,6 @@
 -- What names of a file stand for is in the program, and no two of its names are equal.
 use Rattle.std.proofs.Common.{◌≡◌, ℕ, zero, suc, ◌+◌, ◌<◌, ◌≤◌, cond, List, [], ◌∷◌, ◌++◌, map, length, Bool, true, false, ◌&&◌, ◌||◌, not, nat_lt, nat_eq, is_some, Option, Some, None, Ok, refl, sym, ◌∙◌, ap, arith, slice_get, codes}
+use Rattle.std.proofs.lemmas.Bool.{lt-ltb, and_parts, and_from, or_parts, not-true}
 use Rattle.std.proofs.lemmas.Grind.{common_steps}
 use Rattle.std.proofs.lemmas.List.{length-map, append_assoc, append-nil}
 use Rattle.std.specs.List.{list_any, flat_map}
@@ -167,37 +168,19 @@ data-there t (d' ∷ ts) types e (suc j) d i f lt =
     let a = all-cons (numbered_data t) d' ts types e in
     rw (← a.4) (data-there t ts a.1 a.3 j d i f lt)
 
-below-lt : (n m : ℕ) → n < m → nat_lt n m ≡ true
-below-lt n m h = grind (arith, common_steps, h)
-
 -- Distinct names -----------------------------------------------------------------------------
 
 pub bytes-symm : (xs ys : Name) → bytes_eq xs ys ≡ bytes_eq ys xs
 bytes-symm xs ys = nat_list_eq_equiv.symm xs ys
 
-pub both-true : (a b : Bool) → (a && b) ≡ true → (a ≡ true) × (b ≡ true)
-both-true true b e = (refl, e)
-both-true false b e = absurd cc
-
-pub both-false : (a b : Bool) → (a || b) ≡ false → (a ≡ false) × (b ≡ false)
-both-false true b e = absurd cc
-both-false false b e = (refl, e)
-
-pub not-true : (b : Bool) → not b ≡ true → b ≡ false
-not-true true e = cc
-not-true false e = refl
-
-and-all : (a b : Bool) → a ≡ true → b ≡ true → (a && b) ≡ true
-and-all a b p q = rw (p, q) refl
-
 distinct-last : (xs : List Name) (y : Name) → is_distinct bytes_eq xs ≡ true → list_any (bytes_eq y) xs ≡ false → is_distinct bytes_eq (xs ++ y ∷ []) ≡ true
 distinct-last [] y d n = refl
 distinct-last (x ∷ xs) y d n =
-    let e = both-true (not (list_any (bytes_eq x) xs)) _ d in
-    let f = both-false (bytes_eq y x) (list_any (bytes_eq y) xs) n in
+    let e = and_parts (not (list_any (bytes_eq x) xs)) _ d in
+    let f = or_parts (bytes_eq y x) (list_any (bytes_eq y) xs) n in
     let apart : list_any (bytes_eq x) (xs ++ y ∷ []) ≡ false =
     any-append (bytes_eq x) xs (y ∷ []) ∙ rw (not-true _ e.0, bytes-symm x y, f.0) refl in
-    and-all (not (list_any (bytes_eq x) (xs ++ y ∷ []))) _ (ap not apart) (distinct-last xs y e.1 f.1)
+    and_from (not (list_any (bytes_eq x) (xs ++ y ∷ []))) _ (ap not apart) (distinct-last xs y e.1 f.1)
 
 kind-same : (k l : TableKind) → same_kind k l ≡ true → k ≡ l
 kind-same OfType OfType e = refl
@@ -324,10 +307,10 @@ module _ (t : Tables) (types : List Name)
   apart-both : (names : List Name) (numbers : List ℕ) (name : Name) (k : ℕ) → meaning t.types name ≡ Some k → Apart names numbers → Apart (name ∷ names) (k ∷ numbers)
   apart-both names numbers name k is a = record {
     absent = λ q n m e.
-        let f = both-false (bytes_eq q name) (list_any (bytes_eq q) names) e in
+        let f = or_parts (bytes_eq q name) (list_any (bytes_eq q) names) e in
         rw (other q n m f.0 (nat_eq n k) refl) (a.absent q n m f.1);
     distinct = λ e.
-        let f = both-true (not (list_any (bytes_eq name) names)) (is_distinct bytes_eq names) e in
+        let f = and_parts (not (list_any (bytes_eq name) names)) (is_distinct bytes_eq names) e in
         rw (a.absent name k is (not-true _ f.0)) (a.distinct f.1);
   }
     where
@@ -411,10 +394,10 @@ module _ (items : List ItemTree) (all : Items) (found : numbered_items (tables_o
   count-functions = all-length (numbered_function t) (functions_in items) all.functions (items-functions t items all found) ∙ sym (length-map (functions_in items) (λ (f : FunTree). f.name.text))
 
   pub known_type : (name : Name) (n : ℕ) → meaning t.types name ≡ Some n → nat_lt n (length all.types) ≡ true
-  known_type name n e = below-lt n _ (omega (arith, count-types, number-below 0 (type_names items) name n e))
+  known_type name n e = lt-ltb n _ (omega (arith, count-types, number-below 0 (type_names items) name n e))
 
   pub known_fun : (name : Name) (f : ℕ) → meaning t.functions name ≡ Some f → nat_lt f (length all.functions) ≡ true
-  known_fun name f e = below-lt f _ (omega (arith, count-functions, number-below 0 (function_names items) name f e))
+  known_fun name f e = lt-ltb f _ (omega (arith, count-functions, number-below 0 (function_names items) name f e))
 
   pub known_con : (name : Name) (c : ConRef) → meaning t.constructors name ≡ Some c → is_constructor all.types c ≡ true
   known_con name c e =

@@ -1,5 +1,6 @@
 -- Patterns of a file that was read are well numbered.
 use Rattle.std.proofs.Common.{◌≡◌, ℕ, suc, ◌+◌, ◌^◌, ◌<◌, ◌≤◌, List, [], ◌∷◌, ◌++◌, map, length, Bool, true, false, ◌&&◌, ◌||◌, nat_eq, Option, Some, Ok, refl, sym, ◌∙◌, ap, subst, arith}
+use Rattle.std.proofs.lemmas.Bool.{and_from, or_left, or_right}
 use Rattle.std.proofs.lemmas.Grind.{common_steps}
 use Rattle.std.proofs.lemmas.List.Folds.{list_any-append}
 use Rattle.std.proofs.lemmas.Slice.Eq.{bytes_eq-Decides}
@@ -34,25 +35,15 @@ pub at_level-map : {A : Type 0} (w : A → Deep) (l : ℕ) (xs : List A) → at_
 at_level-map w l [] = refl
 at_level-map w l (x ∷ xs) = ap (λ ws. w x l ∷ ws) (at_level-map w l xs)
 
-pub and-both : (a b : Bool) → a ≡ true → b ≡ true → (a && b) ≡ true
-and-both a b p q = rw (p, q) refl
-
 pub or-cases : (Q : Type 0) (a b : Bool) → (a || b) ≡ true → (a ≡ true → Q) → (b ≡ true → Q) → Q
 or-cases Q true b e h k = h refl
 or-cases Q false b e h k = k e
 
-or-left : (a b : Bool) → a ≡ true → (a || b) ≡ true
-or-left a b e = rw e refl
-
-or-right : (a b : Bool) → b ≡ true → (a || b) ≡ true
-or-right true b e = refl
-or-right false b e = e
-
 pub any-left : {A : Type 0} (test : A → Bool) (xs ys : List A) → list_any test xs ≡ true → list_any test (xs ++ ys) ≡ true
-any-left test xs ys e = list_any-append test xs ys ∙ or-left _ _ e
+any-left test xs ys e = list_any-append test xs ys ∙ or_left _ _ e
 
 pub any-right : {A : Type 0} (test : A → Bool) (xs ys : List A) → list_any test ys ≡ true → list_any test (xs ++ ys) ≡ true
-any-right test xs ys e = list_any-append test xs ys ∙ or-right _ _ e
+any-right test xs ys e = list_any-append test xs ys ∙ or_right _ _ e
 
 abbrev comma : Token
 comma = tok.Symbol symbol.Comma
@@ -90,7 +81,7 @@ module _ (total : ℕ) (small : total < 2 ^ 32) (types : List DataDecl) (t : Tab
       → IsWell scope (flat_map (λ xs. xs) (map names_in ps)) (list_all (λ b. b) (map (pattern_is_numbered types) qs)) (flat_map (λ xs. xs) (map vars_of qs))
       → IsWell scope (names_in p ++ flat_map (λ xs. xs) (map names_in ps)) (pattern_is_numbered types q && list_all (λ b. b) (map (pattern_is_numbered types) qs)) (vars_of q ++ flat_map (λ xs. xs) (map vars_of qs))
   first-and-others scope p ps q qs a b = record {
-    numbered = and-both _ _ a.numbered b.numbered;
+    numbered = and_from _ _ a.numbered b.numbered;
     binds = λ name x n m. or-cases _ (named_so name (names_in p)) _ (sym (list_any-append (λ n. bytes_eq n name) (names_in p) _) ∙ n)
         (λ e. any-left (nat_eq x) (vars_of q) _ (a.binds name x e m))
         (λ e. any-right (nat_eq x) (vars_of q) _ (b.binds name x e m));
@@ -220,7 +211,7 @@ module _ (total : ℕ) (small : total < 2 ^ 32) (types : List DataDecl) (t : Tab
             short-list (map (pattern_is_numbered types) g.0) (length ps) (length-map (pattern_is_numbered types) g.0 ∙ v.0) (omega (arith, b.count, s.fits)) in
             rw (← ok-is (C.Con at f.0 g.0) q g.2) (record {
               numbered = fold-Con Bool (numbered_pattern_step types) at f.0 g.0
-                  ∙ and-both _ _ (known_con x.text f.0 (known-ok x (meaning t.constructors x.text) f.0 f.1)) (and-both _ _ short v.1.numbered);
+                  ∙ and_from _ _ (known_con x.text f.0 (known-ok x (meaning t.constructors x.text) f.0 f.1)) (and_from _ _ short v.1.numbered);
               binds = λ name y n k. rw (fold-Con (List ℕ) vars_step at f.0 g.0) (v.1.binds name y (subst (λ ns. named_so name ns ≡ true) (names-Con at x ps) n) k);
             });
       }

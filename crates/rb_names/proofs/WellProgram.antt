@@ -1,5 +1,6 @@
 -- The program of a file that was read is well numbered.
 use Rattle.std.proofs.Common.{◌≡◌, ℕ, ◌^◌, ◌<◌, ◌≤◌, List, [], ◌∷◌, map, length, true, nat_lt, nat_le, Option, Some, None, Ok, Err, IfOk, refl, sym, ap, subst, arith}
+use Rattle.std.proofs.lemmas.Bool.{and_from, and_parts}
 use Rattle.std.proofs.lemmas.Grind.{common_steps}
 use Rattle.std.specs.Prelude.{codes}
 use Rattle.std.specs.List.{list_all}
@@ -24,11 +25,10 @@ use Rattle.rb_names.specs.Programs.{numbered_items, no_twice, main_number, numbe
 use Rattle.rb_names.specs.Written.{AreNamed, IsReadFile, item_is_counted}
 use Rattle.rb_names.proofs.Rising.{rise-distinct, Right, place}
 use Rattle.rb_names.proofs.Inverting.{then-ok, ok-is}
-use Rattle.rb_names.proofs.WellPatterns.{and-both}
 use Rattle.rb_names.proofs.WellNames as names
 use Rattle.rb_names.proofs.WellData as kinds
 use Rattle.rb_names.proofs.WellLayouts.{LayoutWell, layout-well}
-use Rattle.rb_names.proofs.WellItems.{and-first, and-second, right-behind, FunctionsWell, functions-well}
+use Rattle.rb_names.proofs.WellItems.{right-behind, FunctionsWell, functions-well}
 
 module _ (total : ℕ) (small : total < 2 ^ 32) (types : List DataDecl) (t : Tables)
     (known_type : (name : Name) (n : ℕ) → meaning t.types name ≡ Some n → nat_lt n (length types) ≡ true)
@@ -41,25 +41,25 @@ module _ (total : ℕ) (small : total < 2 ^ 32) (types : List DataDecl) (t : Tab
       let a = then-ok (numbered_data t d) _ all e in
       let b = then-ok (numbered_items t items) _ all a.2 in
       subst (λ (q : Items). list_all (layout_is_numbered types) q.layouts ≡ true) (ok-is _ all b.2)
-      (layouts-well items rest (right-behind total (top.Types d) ws r) (and-second (item_is_counted (top.Types d)) _ c) b.0 b.1)
+      (layouts-well items rest (right-behind total (top.Types d) ws r) (and_parts (item_is_counted (top.Types d)) _ c).1 b.0 b.1)
   layouts-well (top.Layouts l ∷ items) rest r c all e =
       let ws : List Written = each (map item_written items) rest in
       let a = then-ok (numbered_layout t l) _ all e in
       let b = then-ok (numbered_items t items) _ all a.2 in
-      let few : length l.shape ≤ 8 = let h : nat_le (length l.shape) 8 ≡ true = and-first (item_is_counted (top.Layouts l)) _ c in grind (arith, common_steps, h) in
+      let few : length l.shape ≤ 8 = let h : nat_le (length l.shape) 8 ≡ true = (and_parts (item_is_counted (top.Layouts l)) _ c).0 in grind (arith, common_steps, h) in
       let g : LayoutWell total small types t known_con known_type l ws = layout-well total small types t known_con known_type l ws few r in
       subst (λ (q : Items). list_all (layout_is_numbered types) q.layouts ≡ true) (ok-is _ all b.2)
-      (and-both _ _ (g.well a.0 a.1) (layouts-well items rest (right-behind total (top.Layouts l) ws r) (and-second (item_is_counted (top.Layouts l)) _ c) b.0 b.1))
+      (and_from _ _ (g.well a.0 a.1) (layouts-well items rest (right-behind total (top.Layouts l) ws r) (and_parts (item_is_counted (top.Layouts l)) _ c).1 b.0 b.1))
   layouts-well (top.Funs f ∷ items) rest r c all e =
       let ws : List Written = each (map item_written items) rest in
       let a = then-ok (numbered_function t f) _ all e in
       let b = then-ok (numbered_items t items) _ all a.2 in
       subst (λ (q : Items). list_all (layout_is_numbered types) q.layouts ≡ true) (ok-is _ all b.2)
-      (layouts-well items rest (right-behind total (top.Funs f) ws r) (and-second (item_is_counted (top.Funs f)) _ c) b.0 b.1)
+      (layouts-well items rest (right-behind total (top.Funs f) ws r) (and_parts (item_is_counted (top.Funs f)) _ c).1 b.0 b.1)
   layouts-well (top.Derived name k ∷ items) rest r c all e =
       let ws : List Written = each (map item_written items) rest in
       let a = then-ok (name_found name (meaning t.types name.text)) _ all e in
-      layouts-well items rest (right-behind total (top.Derived name k) ws r) (and-second (item_is_counted (top.Derived name k)) _ c) all a.2
+      layouts-well items rest (right-behind total (top.Derived name k) ws r) (and_parts (item_is_counted (top.Derived name k)) _ c).1 all a.2
 
 pub once-ok : (o : Option NameTree) (u : Unit {0}) → no_twice o ≡ Ok u → o ≡ None
 once-ok None u e = refl

@@ -1,5 +1,6 @@
 -- Provenances of a file that was read are well numbered.
-use Rattle.std.proofs.Common.{◌≡◌, ℕ, suc, ◌+◌, ◌^◌, ◌<◌, ◌≤◌, List, [], ◌∷◌, map, length, Bool, true, false, ◌&&◌, Some, Ok, refl, sym, ◌∙◌, ap, subst, arith}
+use Rattle.std.proofs.Common.{◌≡◌, ℕ, suc, ◌+◌, ◌^◌, ◌<◌, ◌≤◌, List, [], ◌∷◌, map, length, Bool, true, false, Some, Ok, refl, sym, ◌∙◌, ap, subst, arith}
+use Rattle.std.proofs.lemmas.Bool.{and_parts, and_from}
 use Rattle.std.proofs.lemmas.Grind.{common_steps}
 use Rattle.std.specs.List.{list_all}
 use Rattle.rb_core.specs.declared.types.ConRef.{ConRef}
@@ -25,15 +26,11 @@ use Rattle.rb_names.specs.Numbering.{all_of, name_found, numbered_pattern}
 use Rattle.rb_names.proofs.PatternEquations.{pattern-Wild, pattern-Con}
 use Rattle.rb_names.proofs.Rising.{Right}
 use Rattle.rb_names.proofs.Inverting.{then-ok, known-ok, ok-is}
-use Rattle.rb_names.proofs.WellLists.{Each, each-of, each-passes, both, length-of-map, off-token, off-number, off-node, right-as, Is, Fine, is-as, Are, are-any}
+use Rattle.rb_names.proofs.WellLists.{Each, each-of, each-passes, length-of-map, off-token, off-number, off-node, right-as, Is, Fine, is-as, Are, are-any}
 
 pub at_level-of : {A : Type 0} (w : A → Deep) (l : ℕ) (xs : List A) → at_level l (map w xs) ≡ map (λ x. w x l) xs
 at_level-of w l [] = refl
 at_level-of w l (x ∷ xs) = ap (λ ws. w x l ∷ ws) (at_level-of w l xs)
-
-pub both-of : (a b : Bool) → (a && b) ≡ true → (a ≡ true) × (b ≡ true)
-both-of true b e = (refl, e)
-both-of false b e = absurd cc
 
 -- a list of so few is short
 pub short-of : (total : ℕ) → total < 2 ^ 32 → {A : Type 0} (xs : List A) → length xs ≤ total → is_short xs ≡ true
@@ -105,7 +102,7 @@ module _ (total : ℕ) (small : total < 2 ^ 32) (types : List DataDecl) (t : Tab
       short-of total small (map (pattern_is_numbered types) qs) (omega (arith, h, length-of-map (pattern_is_numbered types) qs)) in
       let all : list_all (λ b. b) (map (pattern_is_numbered types) qs) ≡ true =
       each-passes (pattern_is_numbered types) (λ b. b) qs (each-of IsBelow (λ q. pattern_is_numbered types q ≡ true) (λ q b. b.1) qs g) in
-      both _ _ provenance (fold-Con Bool (numbered_pattern_step types) at c qs ∙ both _ _ k (both _ _ short all))
+      and_from _ _ provenance (fold-Con Bool (numbered_pattern_step types) at c qs ∙ and_from _ _ k (and_from _ _ short all))
 
   con-is : (at : ℕ) (x : NameTree) (ps : List PatTree) → pattern.Each BelowFine ps → (l : ℕ) (rest : List Written)
       → Right total (below_written (P.Con at x ps) l rest) → ConIs l (P.Con at x ps) rest
@@ -142,7 +139,7 @@ module _ (total : ℕ) (small : total < 2 ^ 32) (types : List DataDecl) (t : Tab
       let a : ConIs l (P.Con at x ps) rest = con-is at x ps h l rest r in record {
         right = a.right;
         shorter = a.shorter;
-        well = λ q e. let v = a.well q e in let b = both-of _ _ v.1 in (v.0, (either-right _ _ b.0, b.1));
+        well = λ q e. let v = a.well q e in let b = and_parts _ _ v.1 in (v.0, (either-right _ _ b.0, b.1));
       }
 
   below-fine : (p : PatTree) → BelowFine p
