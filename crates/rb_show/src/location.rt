@@ -3,7 +3,7 @@
 //! A location leads to bits of a value: a range of bits of a root word, and steps, each through the
 //! pointer that was reached to bits of a word of its block. Every error is want of memory.
 
-ghost use Rattle.std.specs.Prelude.{◌≡◌, ◌++◌, OnOk};
+ghost use Rattle.std.specs.Prelude.{◌≡◌, ◌++◌, OnErr, OnOk};
 ghost use Rattle.std.specs.List.{flat_map};
 ghost use Rattle.rb_show.specs.Locations.{bits_text, loc_text, step_text};
 
@@ -48,12 +48,14 @@ fn push_steps(text: &mut Vec<u8>, steps: &[Step]) -> Result<(), AllocError>
 ///
 /// # Errors
 ///
-/// Want of memory.
+/// Want of memory. Then the text is as it was.
 pub fn push_loc(text: &mut Vec<u8>, loc: &Loc) -> Result<(), AllocError>
-    ensures { OnOk result (text.new.items ≡ text.old.items ++ loc_text loc.now) }
+    ensures ok { OnOk result (text.new.items ≡ text.old.items ++ loc_text loc.now) }
+    ensures err { OnErr result (text.new.items ≡ text.old.items) }
 {
-    push_number(text, loc.word)?;
-    push_bits(text, loc.o, loc.l)?;
-    push_steps(text, loc.steps.as_slice())?;
-    Ok(())
+    let mut shown = Vec::new(*text.allocator());
+    push_number(&mut shown, loc.word)?;
+    push_bits(&mut shown, loc.o, loc.l)?;
+    push_steps(&mut shown, loc.steps.as_slice())?;
+    push(text, shown.as_slice())
 }

@@ -1,7 +1,7 @@
 //! Patterns as they are shown, at the end of `text`. `types` are the types of the program. Every
 //! error is want of memory.
 
-ghost use Rattle.std.specs.Prelude.{◌≡◌, ◌++◌, ℕ, List, OnOk, map};
+ghost use Rattle.std.specs.Prelude.{◌≡◌, ◌++◌, ℕ, List, OnErr, OnOk, map};
 ghost use Rattle.rb_core.specs.declared.pattern.Pat.{Pat as Pattern};
 ghost use Rattle.rb_show.specs.Patterns.{closing_text, con_text, opening_text, pattern_text};
 ghost use Rattle.rb_show.specs.inner.Patterns.{opening};
@@ -47,9 +47,19 @@ fn push_closing(text: &mut Vec<u8>, fields: &[Pat]) -> Result<(), AllocError>
 ///
 /// # Errors
 ///
-/// Want of memory.
-#[cycle(showing)]
+/// Want of memory. Then the text is as it was.
 pub fn push_pattern(text: &mut Vec<u8>, types: &[DataDecl], pat: &Pat) -> Result<(), AllocError>
+    ensures ok { OnOk result (text.new.items ≡ text.old.items ++ pattern_text types.now pat.now) }
+    ensures err { OnErr result (text.new.items ≡ text.old.items) }
+{
+    let mut shown = Vec::new(*text.allocator());
+    push_form(&mut shown, types, pat)?;
+    push(text, shown.as_slice())
+}
+
+// Adds a pattern piece by piece, so that a part of it may be left where memory is wanting.
+#[cycle(showing)]
+fn push_form(text: &mut Vec<u8>, types: &[DataDecl], pat: &Pat) -> Result<(), AllocError>
     ensures { OnOk result (text.new.items ≡ text.old.items ++ pattern_text types.now pat.now) }
 {
     match pat {
@@ -72,7 +82,7 @@ fn push_fields(text: &mut Vec<u8>, types: &[DataDecl], pats: &[Pat]) -> Result<(
 {
     for (i, pat) in pats.iter().enumerate() {
         push(text, opening(i))?;
-        push_pattern(text, types, pat)?;
+        push_form(text, types, pat)?;
     }
     Ok(())
 }

@@ -4,7 +4,7 @@
 //! through the splits: it has the leaf's number and the lines of their conditions. `types` are the
 //! types of the program. Every error is want of memory.
 
-ghost use Rattle.std.specs.Prelude.{◌≡◌, ◌++◌, IfOk, OnOk, slice_get};
+ghost use Rattle.std.specs.Prelude.{◌≡◌, ◌++◌, IfOk, OnErr, OnOk, slice_get};
 ghost use Rattle.std.specs.List.{flat_map};
 ghost use Rattle.rb_show.specs.Lines.{layout_lines, layouts_text, type_line, type_name};
 ghost use Rattle.rb_show.specs.Short.{HaveShortBlocks};
@@ -23,9 +23,10 @@ use std::alloc::{AllocError, Global};
 ///
 /// # Errors
 ///
-/// Want of memory.
+/// Want of memory. Then the text is as it was.
 pub fn push_name(text: &mut Vec<u8>, types: &[DataDecl], ty: u32) -> Result<(), AllocError>
-    ensures { OnOk result (text.new.items ≡ text.old.items ++ type_name (slice_get types.now ty)) }
+    ensures ok { OnOk result (text.new.items ≡ text.old.items ++ type_name (slice_get types.now ty)) }
+    ensures err { OnErr result (text.new.items ≡ text.old.items) }
 {
     match types.get(ty as usize) {
         None => Ok(()),
@@ -59,13 +60,9 @@ fn push_leaves(
     Ok(())
 }
 
-/// Adds the text of one layout to a text, where the words of its blocks are few and short, as those
-/// of layouts that agree with their types are.
-///
-/// # Errors
-///
-/// Want of memory.
-pub fn push_layout(
+// Adds the lines of one layout leaf by leaf, so that a part of them may be left where memory is
+// wanting.
+fn push_lines(
     alloc: Global,
     text: &mut Vec<u8>,
     types: &[DataDecl],
@@ -78,6 +75,27 @@ pub fn push_layout(
     let ways = ways(alloc, &layout.tree)?;
     push_leaves(text, types, &layout.leaves, ways.as_slice())?;
     Ok(())
+}
+
+/// Adds the text of one layout to a text, where the words of its blocks are few and short, as those
+/// of layouts that agree with their types are.
+///
+/// # Errors
+///
+/// Want of memory. Then the text is as it was.
+pub fn push_layout(
+    alloc: Global,
+    text: &mut Vec<u8>,
+    types: &[DataDecl],
+    layout: &Layout,
+) -> Result<(), AllocError>
+    requires { HaveShortBlocks layout.now.leaves }
+    ensures ok { OnOk result (text.new.items ≡ text.old.items ++ layout_lines types.now layout.now) }
+    ensures err { OnErr result (text.new.items ≡ text.old.items) }
+{
+    let mut lines = Vec::new(alloc);
+    push_lines(alloc, &mut lines, types, layout)?;
+    push(text, lines.as_slice())
 }
 
 /// The text of the layouts of a program, in the order of its types: for each leaf its provenance,

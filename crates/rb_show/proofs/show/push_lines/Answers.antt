@@ -4,7 +4,7 @@ use Rattle.rb_layout.specs.Splits.{routes_of}
 use Rattle.rb_show.specs.inner.Ways.{way_lines}
 use Rattle.rb_show.proofs.Leading.{routes-shown}
 use Rattle.rb_show.proofs.Texts.{two}
-use Rattle.rb_show.proofs.show.push_layout.Goals as goal
+use Rattle.rb_show.proofs.show.push_lines.Goals as goal
 
 pub returns : goal.returns
 returns c =
