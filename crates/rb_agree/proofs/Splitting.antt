@@ -15,7 +15,6 @@ use Rattle.rb_layout.specs.declared.layout.Layout.{Layout}
 use Rattle.rb_layout.specs.declared.evidence.Why.{Why}
 use Rattle.rb_layout.specs.declared.evidence.Why.TheVariants.{LiteralWide, LiteralTwice, NoArm}
 use Rattle.rb_layout.specs.Splits.{SplitAt, Under, literals_of, splits_step, splits_arm, splits_of, splits_under}
-use Rattle.rb_layout.specs.A7.{IsLiteral}
 use Rattle.rb_layout.specs.A8.{AllSplitWell, FailsSplits, HasArm, SplitsWell, last_length, length_of}
 use Rattle.rb_layout.proofs.FlatForms.{fold-Leaf, fold-Split, fold-Split-else}
 use Rattle.rb_agree.specs.inner.Lists.{EachOf, FindsIn}
@@ -143,11 +142,6 @@ length-next l steps i s lt is =
 
 pub length-end : (l : ℕ) (steps : List Step) (i : ℕ) → length steps ≤ i → last_length l (drop i steps) ≡ l
 length-end l steps i le = ap (λ (ss : List Step). last_length l ss) (drop_all i steps le)
-
-pub is-literal : (cs : List ℕ) (k : ℕ) → k < length cs → IsLiteral cs (get_or cs k 0)
-is-literal [] k lt = absurd (omega (arith, lt))
-is-literal (c ∷ cs) zero lt = (0, refl)
-is-literal (c ∷ cs) (suc k) lt = let rest = is-literal cs k (omega (arith, lt)) in (suc rest.0, rest.1)
 
 or_case : (a b : Bool) → (a || b) ≡ true → (a ≡ true) ⊎ (b ≡ true)
 or_case true b e = inl refl

@@ -20,6 +20,7 @@ use Rattle.rb_match.specs.declared.knowledge.Known.{Known}
 use Rattle.rb_match.specs.declared.knowledge.Known.TheVariants as K
 use Rattle.rb_match.specs.inner.Knowing.{IsKnown}
 use Rattle.rb_matrix.specs.Apart.{PatternsAreApart}
+use Rattle.rb_matrix.specs.Covering.{Covers}
 use Rattle.rb_match.specs.inner.Threading.{AllFollow, AreWild, TellsConstructor, HasSub, IsAtLeaf, IsFirst, IsLeafOfAll, IsWild, ShowTogether, Tells, TellTogether}
 use Rattle.rb_matrix.proofs.Differing.{pass-at}
 use Rattle.rb_match.proofs.Bindings.{begins_with}

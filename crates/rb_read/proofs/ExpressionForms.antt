@@ -23,7 +23,7 @@ use Rattle.rb_read.specs.declared.starting.Form.TheVariants as form
 use Rattle.rb_read.specs.inner.Starting.{is_symbol, form_of}
 use Rattle.rb_read.specs.inner.Combining.{Reader, into, nothing, pair, expect, expect_word, optional, in_parens, some_closed, any_closed, beyond}
 use Rattle.rb_read.proofs.Open as open_at
-use Rattle.rb_read.proofs.Open.{Open, one, maybe, next, the, the_word, a_lower, a_width, a_type, fields, begins, as_expr, ahead_of, if_so}
+use Rattle.rb_read.proofs.Open.{one, maybe, next, the, the_word, a_lower, a_width, a_type, fields, begins, as_expr, ahead_of, if_so}
 use Rattle.rb_read.specs.inner.Tokens.{lower_name, width}
 use Rattle.rb_read.specs.inner.Reading.{named, called, type_tree, pattern, begins_expression, is_form, expression_one, expression, binding_of, clause_of, conversion_of, matching_of, operation_of}
 use Rattle.rb_read.specs.inner.Reading as reading

@@ -17,7 +17,7 @@ use Rattle.rb_syntax.specs.Spelling.{num, reserved, range_written, field_written
 use Rattle.rb_syntax.proofs.LayoutSpelling.{item-Word, item-Inline, part-is, kind-Const, kind-Whole, kind-Slice, kind-Word, kind-Pointer}
 use Rattle.rb_read.specs.inner.Starting.{is_symbol}
 use Rattle.rb_read.specs.inner.Combining.{Reader, ReadOutcome, ◌>>=◌, pair, into, expect, optional, any_closed}
-use Rattle.rb_read.proofs.Open.{Open, one, maybe, many, first, the, a_number, a_field, a_range, into_field, begins, if_so, ahead_of}
+use Rattle.rb_read.proofs.Open.{one, maybe, many, first, the, a_number, a_field, into_field, begins, if_so, ahead_of}
 use Rattle.rb_read.proofs.Open as open_at
 use Rattle.rb_read.specs.inner.Tokens.{number, field}
 use Rattle.rb_read.specs.inner.Reading.{PathEnd, sliced, numbered, ends_path, range_rest, range, field_in, more_fields, path, path_end_from, field_part, part_kind_from, part_kind, part, item_from, item_one, no_pointer, pointer, lay_item_tree, field_part_of, pointer_of, word_item_of}

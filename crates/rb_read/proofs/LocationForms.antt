@@ -8,7 +8,7 @@ use Rattle.rb_syntax.specs.Written.{Writing, token, each}
 use Rattle.rb_syntax.specs.Spelling.{num, range_written, field_written, loc_step_written, loc_written}
 use Rattle.rb_read.specs.inner.Starting.{is_symbol}
 use Rattle.rb_read.specs.inner.Combining.{pair, expect, each_of}
-use Rattle.rb_read.proofs.Open.{Open, one, maybe, many, the, a_number, a_field, a_range, into_field, begins, if_so, ahead_of}
+use Rattle.rb_read.proofs.Open.{Open, one, many, the, a_number, a_field, a_range, into_field, begins, if_so, ahead_of}
 use Rattle.rb_read.proofs.Open as open_at
 use Rattle.rb_read.specs.inner.Tokens.{number}
 use Rattle.rb_read.specs.inner.Reading.{range_rest, range, field_in, more_fields, path, location, location_of, range_of, step_of}

@@ -22,7 +22,7 @@ use Rattle.rb_syntax.proofs.SpellingLemmas.{arm-is, split-Leaf, split-None, spli
 use Rattle.rb_syntax.proofs.LayoutSpelling.{below-Var, below-Num}
 use Rattle.rb_read.specs.inner.Starting.{is_word, is_number}
 use Rattle.rb_read.specs.inner.Combining.{Reader, pair, expect, optional, some_closed, each_of, beyond}
-use Rattle.rb_read.proofs.Open.{Open, one, maybe, many, first, next, the, the_word, a_number, a_range, begins, if_so, ahead_of}
+use Rattle.rb_read.proofs.Open.{Open, one, maybe, many, first, next, the, a_number, a_range, begins, if_so, ahead_of}
 use Rattle.rb_read.proofs.Open as open_at
 use Rattle.rb_read.specs.inner.Reading.{begins_tree, arm_tree, else_tree, split_rest, leaf, tree_by, layout_tree, location, lay_item_tree, provenance, arm_of, else_of, leaf_of, split_of}
 use Rattle.rb_read.proofs.Forms.{IsRight, Again, Clear, IsForm}
