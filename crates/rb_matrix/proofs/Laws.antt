@@ -134,7 +134,7 @@ module _ (v : Value) (vs : List Value) where
   default-row [] e = refl
   default-row (p ∷ ps) e = ap (λ b. b && row_matches ps vs) (opened p v) ∙ default-layer (out-Pat p) ps e
 
-  -- a row that does not match has no image that does, whatever the value begins with
+  -- a row that does not match has no default row that does, whatever the value begins with
   less-layer : (l : Pat-F Pat) (rest : List Pat) → (open_matches l v && row_matches rest vs) ≡ false → image_matches (default_image rest l) vs ≡ false
   less-layer (P.Wild at) rest e = e
   less-layer (P.Var at x) rest e = e
@@ -172,7 +172,7 @@ pub all-never : (rs : List (List Pat)) → AllFine never rs
 all-never [] = tt
 all-never (r ∷ rs) = (refl, all-never rs)
 
--- rows whose images match alike
+-- rows and what becomes of them, which match alike
 module _ (image : List Pat → Option (List Pat)) (images : List (List Pat) → List (List Pat))
     (none : images [] ≡ []) (more : (r : List Pat) (rs : List (List Pat)) → images (r ∷ rs) ≡ keep (image r) (images rs))
     (bad : List Pat → Bool) (ws xs : List Value) (same : (r : List Pat) → bad r ≡ false → row_matches r ws ≡ image_matches (image r) xs) where
@@ -252,7 +252,7 @@ module _ (v : Value) (vs : List Value) where
   pub default-lost : (rs : List (List Pat)) → column_begins rs (out-Value v) ≡ false → length (defaults rs) < length rs → all_rows rs (v ∷ vs) ≡ false
   default-lost rs e = lost-images default_row defaults refl (λ r rs. refl) (λ r. option_begins (row_head r) (out-Value v)) (v ∷ vs) vs (default-row v vs) rs (fine rs e)
 
-  -- where no row matches, no image does, whatever the value begins with
+  -- where no row matches, no default row does, whatever the value begins with
   pub default-less : (rs : List (List Pat)) → any_row rs (v ∷ vs) ≡ false → any_row (defaults rs) vs ≡ false
   default-less [] e = refl
   default-less (r ∷ rs) e = kept (default_row r) (less-row v vs r (or-false-left _ (any_row rs (v ∷ vs)) e)) (default-less rs (or-false-right (row_matches r (v ∷ vs)) _ e))

@@ -46,7 +46,7 @@ wilds-heads : (n : ℕ) → row_heads (wilds n) ≡ 0
 wilds-heads zero = refl
 wilds-heads (suc n) = let h = wilds-heads n in let w = wild-heads in omega (arith, h, w, row-cons (Wild 0) (wilds n))
 
--- heads of images --------------------------------------------------------------------------------
+-- heads of what becomes of rows ------------------------------------------------------------------
 
 abbrev image_heads : Option (List Pat) → ℕ
 image_heads None = 0

@@ -2,9 +2,9 @@
 -- head is a number or a constructor with which a pattern or a value begins. Of the vectors of the columns' types whose
 -- first value begins with the head, a pattern matrix matches those that S matches once that value is replaced by its
 -- subvalues. Of the vectors whose first value begins with no head of the first column, it matches those that D matches
--- without that value. A row's image is what becomes of the row in S or in D; a row without an image, for which None
--- stands, is left out. Rows need not be typed. A layer is the outermost node of a pattern, with its subpatterns below
--- it.
+-- without that value. What becomes of a row in S is its specialised row, and in D its default row; in names either is
+-- an image. A row that has none, for which None stands, is left out. Rows need not be typed. A layer is the outermost
+-- node of a pattern, with its subpatterns below it.
 use Rattle.std.specs.Prelude.{◌≡◌, ℕ, List, [], ◌∷◌, ◌++◌, length, replicate, drop, true, false, ◌&&◌, ◌==◌, if◌then◌else◌, Option, Some, None, unwrap_or}
 use Rattle.rb_core.specs.declared.value.Value.{Value, out-Value}
 use Rattle.rb_core.specs.declared.types.ConRef.{ConRef}
@@ -23,22 +23,22 @@ use Rattle.rb_matrix.specs.Rows.{any_row, vector_of}
 abbrev pub wilds : ℕ → List Pat
 wilds n = replicate n (Wild 0)
 
--- the image in S for a head, of a row that begins with number n and goes on with `rest`: the rest where the head is
--- that number, and else none
+-- the specialised row for a head, of a row that begins with number n and goes on with `rest`: the rest where the head
+-- is that number, and else none
 abbrev pub number_image : Head → ℕ → List Pat → Option (List Pat)
 number_image (H.Num m) n rest = if n == m then Some rest else None
 number_image (H.Con c) n rest = None
 
--- the image in S for a head with n fields, of a row that begins with constructor c of these subpatterns and goes on
--- with `rest`: the subpatterns and then the rest, where the head has the same number and there are n subpatterns;
+-- the specialised row for a head with n fields, of a row that begins with constructor c of these subpatterns and goes
+-- on with `rest`: the subpatterns and then the rest, where the head has the same number and there are n subpatterns;
 -- else none
 abbrev pub con_image : Head → ℕ → ConRef → List Pat → List Pat → Option (List Pat)
 con_image (H.Num m) n c ps rest = None
 con_image (H.Con d) n c ps rest = if (c.con == d.con) && (length ps == n) then Some (ps ++ rest) else None
 
--- the image in S for a head with n fields, of a row whose first pattern has this layer and that goes on with `rest`:
--- n wildcards and then the rest for a wildcard or a variable; the rest for the head's number; the subpatterns and
--- then the rest for the head's constructor with n subpatterns. None for another number or constructor, or another
+-- the specialised row for a head with n fields, of a row whose first pattern has this layer and that goes on with
+-- `rest`: n wildcards and then the rest for a wildcard or a variable; the rest for the head's number; the subpatterns
+-- and then the rest for the head's constructor with n subpatterns. None for another number or constructor, or another
 -- number of subpatterns
 abbrev pub special_image : Head → ℕ → List Pat → Pat-F Pat → Option (List Pat)
 special_image h n rest (P.Wild at) = Some (wilds n ++ rest)
@@ -46,14 +46,14 @@ special_image h n rest (P.Var at x) = Some (wilds n ++ rest)
 special_image h n rest (P.Num at k) = number_image h k rest
 special_image h n rest (P.Con at c ps) = con_image h n c ps rest
 
--- a row's image in S for a head with n fields: the subpatterns of its first pattern, or n wildcards for a wildcard or
--- a variable, stand in that pattern's place. None where the first pattern has another head or another number of
--- subpatterns than n, or where the row is empty
+-- a row's specialised row for a head with n fields: the subpatterns of its first pattern, or n wildcards for a
+-- wildcard or a variable, stand in that pattern's place. None where the first pattern has another head or another
+-- number of subpatterns than n, or where the row is empty
 abbrev pub special_row : Head → ℕ → List Pat → Option (List Pat)
 special_row h n [] = None
 special_row h n (p ∷ ps) = special_image h n ps (out-Pat p)
 
--- the image in D of a row whose first pattern has this layer and that goes on with `rest`: the rest, where the first
+-- the default row of a row whose first pattern has this layer and that goes on with `rest`: the rest, where the first
 -- pattern is a wildcard or a variable; None where it is a number or a constructor
 abbrev pub default_image : List Pat → Pat-F Pat → Option (List Pat)
 default_image rest (P.Wild at) = Some rest
@@ -61,23 +61,23 @@ default_image rest (P.Var at x) = Some rest
 default_image rest (P.Num at k) = None
 default_image rest (P.Con at c ps) = None
 
--- a row's image in D: the row without its first pattern, where that is a wildcard or a variable. None where it is a
+-- a row's default row: the row without its first pattern, where that is a wildcard or a variable. None where it is a
 -- number or a constructor, or where the row is empty
 abbrev pub default_row : List Pat → Option (List Pat)
 default_row [] = None
 default_row (p ∷ ps) = default_image ps (out-Pat p)
 
--- some rows with an image in front; the rows alone where there is no image
+-- some rows with what became of another in front; the rows alone where that is left out
 abbrev pub keep : Option (List Pat) → List (List Pat) → List (List Pat)
 keep None rs = rs
 keep (Some r) rs = r ∷ rs
 
--- the rows of S for a head with n fields: the images that there are, in the order of the rows
+-- the rows of S for a head with n fields: the specialised rows that there are, in the order of the rows
 abbrev pub special : Head → ℕ → List (List Pat) → List (List Pat)
 special h n [] = []
 special h n (r ∷ rs) = keep (special_row h n r) (special h n rs)
 
--- the rows of D: the images that there are, in the order of the rows
+-- the rows of D: the default rows that there are, in the order of the rows
 abbrev pub defaults : List (List Pat) → List (List Pat)
 defaults [] = []
 defaults (r ∷ rs) = keep (default_row r) (defaults rs)
@@ -100,7 +100,7 @@ specialized types h m = record {
 abbrev pub defaulted : Matrix → Matrix
 defaulted m = record { tys = drop 1 m.tys; rows = defaults m.rows }
 
--- What the images match --------------------------------------------------------------------------
+-- What S and D match -----------------------------------------------------------------------------
 
 -- a vector of matrix m's types that begins with the head has matrix s's types when it is unfolded, and m matches it
 -- exactly where s matches it unfolded

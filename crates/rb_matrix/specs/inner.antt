@@ -1,4 +1,5 @@
 pub mod Against
+pub mod Borrowed
 pub mod Index
 pub mod Indexes
 pub mod Left

@@ -46,8 +46,8 @@ impl From<AllocError> for MatrixFault {
     }
 }
 
-// One row of one pattern, a copy.
-fn one_row(alloc: Global, pat: &Pat) -> Result<Seq<Row>, AllocError>
+// One row of one pattern.
+fn one_row<'a>(alloc: Global, pat: &'a Pat) -> Result<Seq<Row<'a>>, AllocError>
     ensures { IfOk result (λ r. r ≡ (pat.now ∷ []) ∷ []) }
 {
     let mut rows = Seq::new(alloc);
@@ -55,8 +55,8 @@ fn one_row(alloc: Global, pat: &Pat) -> Result<Seq<Row>, AllocError>
     Ok(rows)
 }
 
-// Two rows of one pattern each, copies.
-fn two_rows(alloc: Global, one: &Pat, other: &Pat) -> Result<Seq<Row>, AllocError>
+// Two rows of one pattern each.
+fn two_rows<'a>(alloc: Global, one: &'a Pat, other: &'a Pat) -> Result<Seq<Row<'a>>, AllocError>
     ensures { IfOk result (λ r. r ≡ (one.now ∷ []) ∷ (other.now ∷ []) ∷ []) }
 {
     let mut rows = one_row(alloc, one)?;
@@ -64,8 +64,8 @@ fn two_rows(alloc: Global, one: &Pat, other: &Pat) -> Result<Seq<Row>, AllocErro
     Ok(rows)
 }
 
-// A copy of each pattern as a row of its own, in their order.
-fn rows_of(alloc: Global, pats: &[Pat]) -> Result<Seq<Row>, AllocError>
+// Each pattern as a row of its own, in their order.
+fn rows_of<'a>(alloc: Global, pats: &'a [Pat]) -> Result<Seq<Row<'a>>, AllocError>
     ensures { IfOk result (λ r. r ≡ one_each pats.now) }
 {
     let mut rows = Seq::new(alloc);
@@ -75,15 +75,15 @@ fn rows_of(alloc: Global, pats: &[Pat]) -> Result<Seq<Row>, AllocError>
     Ok(rows)
 }
 
-// A copy of each of the patterns with these numbers as a row of its own, but of none that is found
-// to be apart from the pattern `pat` that they are held against: none of its values matches such a
-// one. A number without a pattern gives no row.
-fn rows_near(
+// Each of the patterns with these numbers as a row of its own, but none that is found to be apart
+// from the pattern `pat` that they are held against: none of its values matches such a one. A
+// number without a pattern gives no row.
+fn rows_near<'a>(
     alloc: Global,
-    pats: &[Pat],
+    pats: &'a [Pat],
     numbers: &[usize],
     pat: &Pat,
-) -> Result<Seq<Row>, AllocError>
+) -> Result<Seq<Row<'a>>, AllocError>
     ensures { IfOk result (AreRowsNear pat.now pats.now numbers.now) }
 {
     let mut rows = Seq::new(alloc);
@@ -102,12 +102,12 @@ fn rows_near(
 // Rows of one pattern each that stand for the patterns `pats`, those of the indexes, where `pat` is
 // held against them: of the values that `pat` matches, the rows match exactly those that some
 // pattern of `pats` matches.
-fn rows_against(
+fn rows_against<'a>(
     alloc: Global,
-    pats: &[Pat],
+    pats: &'a [Pat],
     indexes: &Indexes,
     pat: &Pat,
-) -> Result<Seq<Row>, AllocError>
+) -> Result<Seq<Row<'a>>, AllocError>
     requires indexes { AreIndexes pats.now indexes.now }
     ensures { IfOk result (StandFor pat.now pats.now) }
 {
@@ -118,16 +118,16 @@ fn rows_against(
 // A search over one column of this type: a pattern that matches a value of the type, and of the
 // values of the type only such as all wanted rows match and no unwanted one. None where there is no
 // such value.
-fn find_one(
+fn find_one<'a>(
     alloc: Global,
     types: &[DataDecl],
     ty: Ty,
-    wanted: Seq<Row>,
-    unwanted: Seq<Row>,
+    wanted: Seq<Row<'a>>,
+    unwanted: Seq<Row<'a>>,
 ) -> Result<Option<Pat>, AllocError>
     requires inhabited { AreInhabited types.now }
     requires ty { IsTypeIn types.now ty }
-    ensures { IfOk result (λ r. IsOneAnswer types.now ty wanted unwanted r) }
+    ensures { IfOk result (λ r. IsOneAnswer types.now ty wanted.entry unwanted.entry r) }
 {
     let mut tys = Stack::new(alloc);
     tys.push(ty)?;

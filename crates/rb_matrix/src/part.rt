@@ -89,15 +89,15 @@ fn step_for(ty: Ty, head: Head, fields: usize) -> Step
 }
 
 // The part of a problem for a head: what is left where the first value begins with it. None where
-// there is no such vector, since the head is not of the type, or a wanted row has no image in the
-// specialised matrix. The problem stays, and the rows that have an image are copied.
-fn part_at(
+// there is no such vector, since the head is not of the type, or a wanted row has no specialised
+// row for it. The problem stays, and the rows that have one are copied, but not their patterns.
+fn part_at<'a>(
     alloc: Global,
     types: &[DataDecl],
     ty: Ty,
-    behind: &Problem,
+    behind: &Problem<'a>,
     head: Head,
-) -> Result<Option<Problem>, AllocError>
+) -> Result<Option<Problem<'a>>, AllocError>
     requires inhabited { AreInhabited types.now }
     requires lives { AreTypesIn types.now behind.now.tys }
     requires stands { 1 ≤ some_head (first_head behind.now.wanted) + some_head (first_head behind.now.unwanted) }
@@ -124,18 +124,18 @@ fn part_at(
 
 // The part of a problem for a head, made of the problem itself: what is left where the first value
 // begins with the head. None where there is no such vector, since the head is not of the type, or a
-// wanted row has no image in the specialised matrix.
-fn last_part(
+// wanted row has no specialised row for it.
+fn last_part<'a>(
     alloc: Global,
     types: &[DataDecl],
     ty: Ty,
-    behind: Problem,
+    behind: Problem<'a>,
     head: Head,
-) -> Result<Option<Problem>, AllocError>
+) -> Result<Option<Problem<'a>>, AllocError>
     requires inhabited { AreInhabited types.now }
     requires lives { AreTypesIn types.now behind.tys }
     requires stands { 1 ≤ some_head (first_head behind.wanted) + some_head (first_head behind.unwanted) }
-    ensures { IfOk result (λ r. IsPartAt types.now ty behind.tys (with_column ty behind) head r) }
+    ensures { IfOk result (λ r. IsPartAt types.now ty behind.entry.tys (with_column ty behind.entry) head r) }
 {
     let Some(fields) = head_fields(types, ty, head) else {
         return Ok(None);
@@ -163,8 +163,8 @@ fn last_part(
 }
 
 // Adds a part to what is left, as a whole problem; None adds nothing.
-fn add_part(left: &mut Vec<Left>, part: Option<Problem>) -> Result<(), AllocError>
-    ensures { OnOk result (left.new.items ≡ left.old.items ++ wholes part) }
+fn add_part<'a>(left: &mut Vec<Left<'a>>, part: Option<Problem<'a>>) -> Result<(), AllocError>
+    ensures { OnOk result (left.new.items ≡ left.old.items ++ wholes part.entry) }
 {
     match part {
         None => Ok(()),
@@ -184,14 +184,14 @@ fn add_part(left: &mut Vec<Left>, part: Option<Problem>) -> Result<(), AllocErro
 /// # Errors
 ///
 /// Want of memory.
-pub fn next_part(
+pub fn next_part<'a>(
     alloc: Global,
     types: &[DataDecl],
-    branches: Branches,
-) -> Result<Vec<Left>, AllocError>
+    branches: Branches<'a>,
+) -> Result<Vec<Left<'a>>, AllocError>
     requires inhabited { AreInhabited types.now }
     requires ready { IsReady types.now (ByHead branches) }
-    ensures { IfOk result (λ r. IsSplit types.now (ByHead branches) r.items) }
+    ensures { IfOk result (λ r. IsSplit types.now (ByHead branches.entry) r.items) }
 {
     let Branches {
         ty,
@@ -216,18 +216,18 @@ pub fn next_part(
 // The part of a problem for all values that begin with no head of its first column, of which
 // `absent` matches some. It is made of the problem itself, and its rows are those of the default
 // matrices. No wanted row begins with a head. None where there is no vector, since a wanted row has
-// no image in the default matrix, as an empty one has none.
-fn rest_part(
+// no default row, as an empty one has none.
+fn rest_part<'a>(
     alloc: Global,
     types: &[DataDecl],
     ty: Ty,
-    behind: Problem,
+    behind: Problem<'a>,
     absent: Pat,
-) -> Result<Option<Problem>, AllocError>
+) -> Result<Option<Problem<'a>>, AllocError>
     requires lives { AreTypesIn types.now behind.tys }
     requires none { first_head behind.wanted ≡ None }
     requires absent { IsAbsent types.now ty (column_begins behind.unwanted) absent }
-    ensures { IfOk result (λ r. IsSplit types.now (Whole (with_column ty behind)) (wholes r)) }
+    ensures { IfOk result (λ r. IsSplit types.now (Whole (with_column ty behind.entry)) (wholes r)) }
 {
     let Problem {
         tys,
@@ -260,16 +260,16 @@ fn rest_part(
 /// # Errors
 ///
 /// Want of memory.
-pub fn parts_of(
+pub fn parts_of<'a>(
     alloc: Global,
     types: &[DataDecl],
     ty: Ty,
-    behind: Problem,
-) -> Result<Vec<Left>, AllocError>
+    behind: Problem<'a>,
+) -> Result<Vec<Left<'a>>, AllocError>
     requires inhabited { AreInhabited types.now }
     requires live { IsTypeIn types.now ty }
     requires lives { AreTypesIn types.now behind.tys }
-    ensures { IfOk result (λ r. IsSplit types.now (Whole (with_column ty behind)) r.items) }
+    ensures { IfOk result (λ r. IsSplit types.now (Whole (with_column ty behind.entry)) r.items) }
 {
     let mut left = Vec::new(alloc);
     if let Some(head) = first_head_in(behind.wanted.as_slice()) {

@@ -23,10 +23,10 @@ pub enum Step {
 /// Is there a vector of these types that all wanted rows match and no unwanted one? The steps, the
 /// last one first, lead from a row for this problem to one for the root; the root has none.
 #[derive(Drop)]
-pub struct Problem {
+pub struct Problem<'a> {
     pub tys: Stack<Ty>,
-    pub wanted: Seq<Row>,
-    pub unwanted: Seq<Row>,
+    pub wanted: Seq<Row<'a>>,
+    pub unwanted: Seq<Row<'a>>,
     pub steps: Seq<Step>,
 }
 
@@ -34,27 +34,27 @@ pub struct Problem {
 /// begin with the head. The last head's part is made first. The problem stands here without its
 /// first column's type, which stands beside it.
 #[derive(Drop)]
-pub struct Branches {
+pub struct Branches<'a> {
     pub ty: Ty,
-    pub behind: Problem,
+    pub behind: Problem<'a>,
     pub heads: Seq<Head>,
 }
 
 /// A piece of what is left of a search.
 #[derive(Drop)]
-pub enum Left {
+pub enum Left<'a> {
     /// All vectors of a problem.
-    Whole(Problem),
+    Whole(Problem<'a>),
     /// The vectors of a problem that begin with one of some heads.
-    ByHead(Branches),
+    ByHead(Branches<'a>),
 }
 
 /// What becomes of a piece of what was left.
 #[derive(Drop)]
-pub enum Outcome {
+pub enum Outcome<'a> {
     /// Its problem has no column left, and the empty row is its answer: these are its steps.
     Solved(Seq<Step>),
     /// These are left in its stead, and the last of them is searched first; where none of them has
     /// an answer, it has none.
-    Split(Vec<Left>),
+    Split(Vec<Left<'a>>),
 }

@@ -1,11 +1,12 @@
-//! One row of the pattern matrices in a search. Its images, which is to say what becomes of it in
-//! the specialised matrix of a head and in the default matrix, are made of the row itself. A head
-//! is a number or a constructor; two are alike where they are the same number, or constructors with
-//! the same number in their types.
+//! One row of the pattern matrices in a search. What becomes of it in the specialised matrix of a
+//! head, its specialised row, and in the default matrix, its default row, is made of the row itself.
+//! A head is a number or a constructor; two are alike where they are the same number, or
+//! constructors with the same number in their types.
 
-ghost use Rattle.std.specs.Prelude.{◌≡◌, ◌∷◌, ◌==◌, [], ℕ, None, length, IfOk};
+ghost use Rattle.std.specs.Prelude.{◌≡◌, ◌∷◌, ◌++◌, ◌==◌, [], ℕ, None, length, IfOk, OnOk};
 ghost use Rattle.std.specs.Bool.{OnTrue};
 ghost use Rattle.rb_matrix.specs.Heads.{row_head};
+ghost use Rattle.rb_matrix.specs.inner.Borrowed.{patterns_of};
 ghost use Rattle.rb_matrix.specs.inner.Open.{is_open as the_open};
 ghost use Rattle.rb_matrix.specs.Rows.{row_matches};
 ghost use Rattle.rb_matrix.specs.Specialize.{special_row, default_row};
@@ -13,53 +14,69 @@ ghost use Rattle.rb_matrix.specs.Specialize.{special_row, default_row};
 use crate::matrix::Head;
 use crate::open::is_open;
 use crate::stack::Stack;
-use rb_core::pattern::{Pat, copy_patterns};
-use rb_core::seq::Seq;
+use rb_core::pattern::Pat;
 use std::alloc::{AllocError, Global};
 use std::marker::Model;
 
 /// A row of patterns, which is taken apart from its front: so many wildcards, and then the patterns
-/// behind them. The wildcards that a head's fields put in front are only counted, so that a row
-/// takes no more memory than the patterns that it is made of.
+/// behind them. The wildcards that a head's fields put in front are only counted, and the patterns
+/// are borrowed, so that a row takes a word for each of them, however deep they are.
 #[derive(Drop)]
-pub struct Row {
+pub struct Row<'a> {
     wilds: usize,
-    behind: Stack<Pat>,
+    behind: Stack<&'a Pat>,
 }
 
-impl Model for Row {
+impl<'a> Model for Row<'a> {
     ghost use Rattle.std.specs.Prelude.{List, ◌++◌};
     ghost use Rattle.std.specs.Coded.{coded_list};
     ghost use Rattle.rb_core.specs.declared.pattern.Pat.{Pat as Term};
     ghost use Rattle.rb_core.specs.contracts.pattern.Pat as pat_row;
     ghost use Rattle.rb_matrix.specs.Specialize.{wilds as so_many};
+    ghost use Rattle.rb_matrix.specs.inner.Borrowed.{patterns_of};
 
     ghost Value = { List Term };
 
     ghost coded = { coded_list pat_row.the_row.coded };
 
-    ghost view = { λ r. so_many r.wilds ++ r.behind };
+    ghost view = { λ r. so_many r.wilds ++ patterns_of r.behind };
 }
 
-/// A copy of a pattern, as a row of its own.
+// Puts patterns in front of others, in their order: the first of them becomes the first of all.
+fn push_borrowed<'a>(behind: &mut Stack<&'a Pat>, pats: &'a [Pat]) -> Result<(), AllocError>
+    ensures { OnOk result (patterns_of behind.new ≡ pats.now ++ patterns_of behind.old) }
+{
+    let mut left = pats;
+    while let [rest @ .., last] = left {
+        behind.push(last)?;
+        left = rest;
+    }
+    Ok(())
+}
+
+/// A pattern as a row of its own.
 ///
 /// # Errors
 ///
 /// Want of memory.
-pub fn row_of(alloc: Global, pat: &Pat) -> Result<Row, AllocError>
+pub fn row_of<'a>(alloc: Global, pat: &'a Pat) -> Result<Row<'a>, AllocError>
     ensures { IfOk result (λ r. r ≡ pat.now ∷ []) }
 {
     let mut behind = Stack::new(alloc);
-    behind.push(pat.copy(alloc)?)?;
+    behind.push(pat)?;
     Ok(Row { wilds: 0, behind })
 }
 
-// The image of a row of these patterns in the specialised matrix of a head with so many fields: the
-// subpatterns of the first pattern, or as many wildcards for a wildcard or a variable, and then the
-// patterns behind it. None where the row is empty, begins with a head that is not like this one, or
-// begins with a constructor that has another number of subpatterns.
-fn special_of(mut pats: Stack<Pat>, head: Head, fields: usize) -> Result<Option<Row>, AllocError>
-    ensures { IfOk result (λ r. r ≡ special_row head fields pats) }
+// The specialised row of a row of these patterns for a head with so many fields: the subpatterns of
+// the first pattern, or as many wildcards for a wildcard or a variable, and then the patterns behind
+// it. None where the row is empty, begins with a head that is not like this one, or begins with a
+// constructor that has another number of subpatterns.
+fn special_of<'a>(
+    mut pats: Stack<&'a Pat>,
+    head: Head,
+    fields: usize,
+) -> Result<Option<Row<'a>>, AllocError>
+    ensures { IfOk result (λ r. r ≡ special_row head fields (patterns_of pats.entry)) }
 {
     let Some(first) = pats.pop() else {
         return Ok(None);
@@ -74,7 +91,7 @@ fn special_of(mut pats: Stack<Pat>, head: Head, fields: usize) -> Result<Option<
             behind: pats,
         })),
         Pat::Num(_, number) => {
-            if head != Head::Num(number) {
+            if head != Head::Num(*number) {
                 return Ok(None);
             }
             Ok(Some(Row {
@@ -89,7 +106,7 @@ fn special_of(mut pats: Stack<Pat>, head: Head, fields: usize) -> Result<Option<
             if con.con != known.con || subs.len() != fields {
                 return Ok(None);
             }
-            pats.push_all(subs)?;
+            push_borrowed(&mut pats, subs.as_slice())?;
             Ok(Some(Row {
                 wilds: 0,
                 behind: pats,
@@ -98,28 +115,29 @@ fn special_of(mut pats: Stack<Pat>, head: Head, fields: usize) -> Result<Option<
     }
 }
 
-impl Row {
+impl<'a> Row<'a> {
     /// A row of these patterns, in their order.
-    pub fn from_seq(pats: Seq<Pat>) -> Row
-        ensures { result ≡ pats }
-    {
-        Row {
-            wilds: 0,
-            behind: Stack::from_seq(pats),
-        }
-    }
-
-    /// An equal row, with copies of its patterns.
     ///
     /// # Errors
     ///
     /// Want of memory.
-    pub fn copy(&self, alloc: Global) -> Result<Row, AllocError>
+    pub fn of(alloc: Global, pats: &'a [Pat]) -> Result<Row<'a>, AllocError>
+        ensures { IfOk result (λ r. r ≡ pats.now) }
+    {
+        let mut behind = Stack::new(alloc);
+        push_borrowed(&mut behind, pats)?;
+        Ok(Row { wilds: 0, behind })
+    }
+
+    /// An equal row, of the same patterns.
+    ///
+    /// # Errors
+    ///
+    /// Want of memory.
+    pub fn copy(&self, alloc: Global) -> Result<Row<'a>, AllocError>
         ensures { IfOk result (λ r. r ≡ self.now) }
     {
-        let (front, back) = self.behind.as_slices();
-        let mut behind = Stack::from_seq(copy_patterns(alloc, back)?);
-        behind.push_all(copy_patterns(alloc, front)?)?;
+        let behind = self.behind.copy(alloc)?;
         Ok(Row {
             wilds: self.wilds,
             behind,
@@ -175,9 +193,8 @@ impl Row {
 
     /// Whether the row is empty, or begins with a head that is not like this one: another number, a
     /// constructor with another number in its type, or one of both where this is the other. It has
-    /// no image in the specialised matrix of this head then, however many fields the head has. A
-    /// constructor with another number of subpatterns than that has none either, and is not seen
-    /// here.
+    /// no specialised row for this head then, however many fields the head has. A constructor with
+    /// another number of subpatterns than that has none either, and is not seen here.
     pub fn is_other(&self, head: Head) -> bool
         ensures { OnTrue result ((n : ℕ) → special_row head n self.now ≡ None) }
     {
@@ -201,17 +218,17 @@ impl Row {
         }
     }
 
-    /// The row's image in the specialised matrix of a head with so many fields: the row with its
-    /// first pattern's subpatterns, or as many wildcards for a wildcard or a variable, in that
-    /// pattern's place. None where the row is empty, begins with a head that is not like this one,
-    /// or begins with a constructor that has another number of subpatterns.
+    /// The row's specialised row for a head with so many fields: the row with its first pattern's
+    /// subpatterns, or as many wildcards for a wildcard or a variable, in that pattern's place. None
+    /// where the row is empty, begins with a head that is not like this one, or begins with a
+    /// constructor that has another number of subpatterns.
     ///
     /// # Errors
     ///
     /// Want of memory, also for more wildcards than a `usize` counts.
     #[tactic(auto, using(crate::proofs::CountedRows::special_counted))]
-    pub fn special(self, head: Head, fields: usize) -> Result<Option<Row>, AllocError>
-        ensures { IfOk result (λ r. r ≡ special_row head fields self) }
+    pub fn special(self, head: Head, fields: usize) -> Result<Option<Row<'a>>, AllocError>
+        ensures { IfOk result (λ r. r ≡ special_row head fields self.entry) }
     {
         let Row { wilds, behind } = self;
         if wilds > 0 {
@@ -223,11 +240,10 @@ impl Row {
         special_of(behind, head, fields)
     }
 
-    /// The row's image in the default matrix: the row without its first pattern, where that is a
-    /// wildcard or a variable. None where it is a number or a constructor, or where the row is
-    /// empty.
-    pub fn rest(self) -> Option<Row>
-        ensures { result ≡ default_row self }
+    /// The row's default row: the row without its first pattern, where that is a wildcard or a
+    /// variable. None where it is a number or a constructor, or where the row is empty.
+    pub fn rest(self) -> Option<Row<'a>>
+        ensures { result ≡ default_row self.entry }
     {
         let Row { wilds, mut behind } = self;
         if wilds > 0 {

@@ -1,5 +1,6 @@
-//! The rows of a search, the heads of their first patterns, and their images in the specialised and
-//! the default matrix. A row without an image is left out.
+//! The rows of a search, the heads of their first patterns, and what becomes of the rows in the
+//! specialised matrix of a head and in the default matrix: their specialised and their default
+//! rows. A row that has none is left out.
 
 ghost use Rattle.std.specs.Prelude.{◌≡◌, ◌≤◌, length, IfOk};
 ghost use Rattle.rb_core.specs.declared.value.Value as Values;
@@ -50,14 +51,14 @@ pub fn heads_in(alloc: Global, rows: &[Row]) -> Result<Seq<Head>, AllocError>
     Ok(Seq::from_vec(heads))
 }
 
-// A row's image in the specialised matrix of a head with so many fields, or None where it has none.
-// The row stays; it is copied only where its first pattern does not rule an image out.
-fn special_copy(
+// The specialised row of a row for a head with so many fields, or None where it has none. The row
+// stays; it is copied only where its first pattern does not rule a specialised row out.
+fn special_copy<'a>(
     alloc: Global,
-    row: &Row,
+    row: &Row<'a>,
     head: Head,
     fields: usize,
-) -> Result<Option<Row>, AllocError>
+) -> Result<Option<Row<'a>>, AllocError>
     ensures { IfOk result (λ r. r ≡ special_row head fields row.now) }
 {
     if row.is_other(head) {
@@ -67,67 +68,67 @@ fn special_copy(
     copy.special(head, fields)
 }
 
-/// The images of rows in the specialised matrix of a head with so many fields, in the order of the
-/// rows; a row without an image is left out. The rows stay.
+/// The specialised rows of rows for a head with so many fields, in the order of the rows; a row that
+/// has none is left out. The rows stay.
 ///
 /// # Errors
 ///
 /// Want of memory, also for more wildcards in a row than a `usize` counts.
-pub fn special_copies(
+pub fn special_copies<'a>(
     alloc: Global,
-    rows: &[Row],
+    rows: &[Row<'a>],
     head: Head,
     fields: usize,
-) -> Result<Seq<Row>, AllocError>
+) -> Result<Seq<Row<'a>>, AllocError>
     ensures { IfOk result (λ r. r ≡ special head fields rows.now) }
 {
     let mut kept = Seq::new(alloc);
     for row in rows {
-        if let Some(image) = special_copy(alloc, row, head, fields)? {
-            kept.push(image)?;
+        if let Some(special) = special_copy(alloc, row, head, fields)? {
+            kept.push(special)?;
         }
     }
     Ok(kept)
 }
 
-/// The images of rows in the specialised matrix of a head with so many fields, in the order of the
-/// rows and made of them; a row without an image is left out.
+/// The specialised rows of rows for a head with so many fields, in the order of the rows and made of
+/// them; a row that has none is left out.
 ///
 /// # Errors
 ///
 /// Want of memory, also for more wildcards in a row than a `usize` counts.
-pub fn into_specialized(
+pub fn into_specialized<'a>(
     alloc: Global,
-    rows: Seq<Row>,
+    rows: Seq<Row<'a>>,
     head: Head,
     fields: usize,
-) -> Result<Seq<Row>, AllocError>
-    ensures { IfOk result (λ r. r ≡ special head fields rows) }
+) -> Result<Seq<Row<'a>>, AllocError>
+    ensures { IfOk result (λ r. r ≡ special head fields rows.entry) }
 {
     let mut kept = Seq::new(alloc);
     let mut left = VecDeque::from(rows.into_vec());
     while let Some(row) = left.pop_front() {
-        if let Some(image) = row.special(head, fields)? {
-            kept.push(image)?;
+        if let Some(special) = row.special(head, fields)? {
+            kept.push(special)?;
         }
     }
     Ok(kept)
 }
 
-/// The images of rows in the default matrix, in the order of the rows and made of them; a row
-/// without an image is left out.
+/// The default rows of rows, in the order of the rows and made of them; a row that has none is left
+/// out.
 ///
 /// # Errors
 ///
 /// Want of memory.
-pub fn into_default(alloc: Global, rows: Seq<Row>) -> Result<Seq<Row>, AllocError>
-    ensures { IfOk result (λ r. r ≡ defaults rows) }
+pub fn into_default<'a>(alloc: Global, rows: Seq<Row<'a>>) -> Result<Seq<Row<'a>>, AllocError>
+    ensures { IfOk result (λ r. r ≡ defaults rows.entry) }
 {
     let mut kept = Seq::new(alloc);
     let mut left = VecDeque::from(rows.into_vec());
     while let Some(row) = left.pop_front() {
-        if let Some(image) = row.rest() {
-            kept.push(image)?;
+        if let Some(rest) = row.rest() {
+            kept.push(rest)?;
         }
     }
     Ok(kept)

@@ -7,9 +7,9 @@
 //! Maranget's algorithm: exponentially in the number of columns at worst, where rows that look at
 //! several columns take turns, and about with the product of rows and heads for tables as one
 //! writes them. Memory does not: the parts of a problem are made one after another, each when the
-//! one before has no answer, so that of each problem on the way one part is held. A row of a part
-//! takes no more memory than the patterns that it is made of, since the wildcards for a head's
-//! fields are only counted.
+//! one before has no answer, so that of each problem on the way one part is held. Rows borrow their
+//! patterns, and the wildcards for a head's fields are only counted, so that a row of a part takes a
+//! word for each pattern behind these, however deep the patterns are.
 
 ghost use Rattle.std.specs.Prelude.{◌≡◌, List, IfOk, []};
 ghost use Rattle.rb_core.specs.declared.types.DataDecl as DataDecls;
@@ -25,7 +25,7 @@ use crate::row::Row;
 use crate::rows::some_is_open;
 use crate::stack::Stack;
 use crate::witness::witness;
-use rb_core::pattern::{Pat, copy_patterns};
+use rb_core::pattern::Pat;
 use rb_core::seq::Seq;
 use rb_core::types::{DataDecl, Ty};
 use std::alloc::{AllocError, Global};
@@ -54,37 +54,37 @@ fn all_are_empty(rows: &[Row]) -> bool
     true
 }
 
-// Copies of rows, in the form in which a problem holds them.
-fn rows_copied(alloc: Global, rows: &[Seq<Pat>]) -> Result<Seq<Row>, AllocError>
+// Rows in the form in which a problem holds them: they borrow their patterns.
+fn rows_borrowed<'a>(alloc: Global, rows: &'a [Seq<Pat>]) -> Result<Seq<Row<'a>>, AllocError>
     ensures { IfOk result (λ r. r ≡ rows.now) }
 {
-    let mut copies = Seq::new(alloc);
+    let mut borrowed = Seq::new(alloc);
     for row in rows {
-        copies.push(Row::from_seq(copy_patterns(alloc, row.as_slice())?))?;
+        borrowed.push(Row::of(alloc, row.as_slice())?)?;
     }
-    Ok(copies)
+    Ok(borrowed)
 }
 
-// The problem that a search begins with, which holds copies of the rows.
-fn root(
+// The problem that a search begins with, whose rows borrow their patterns.
+fn root<'a>(
     alloc: Global,
     tys: &[Ty],
-    wanted: &[Seq<Pat>],
-    unwanted: &[Seq<Pat>],
-) -> Result<Problem, AllocError>
+    wanted: &'a [Seq<Pat>],
+    unwanted: &'a [Seq<Pat>],
+) -> Result<Problem<'a>, AllocError>
     ensures { IfOk result (λ p. p ≡ root_of tys.now wanted.now unwanted.now) }
 {
     Ok(Problem {
         tys: Stack::from_seq(Seq::from_vec(Vec::from_slice(alloc, tys)?)),
-        wanted: rows_copied(alloc, wanted)?,
-        unwanted: rows_copied(alloc, unwanted)?,
+        wanted: rows_borrowed(alloc, wanted)?,
+        unwanted: rows_borrowed(alloc, unwanted)?,
         steps: Seq::new(alloc),
     })
 }
 
 // What becomes of a problem with no column left: the empty row is its answer where all wanted rows
 // are empty and no unwanted one is, and else nothing is left.
-fn end(alloc: Global, wanted: &Seq<Row>, unwanted: &Seq<Row>, steps: Seq<Step>) -> Outcome
+fn end<'a>(alloc: Global, wanted: &Seq<Row>, unwanted: &Seq<Row>, steps: Seq<Step>) -> Outcome<'a>
     ensures { (types : List DataDecls.DataDecl) → IsOutcome types
         (Whole (record { tys = []; wanted = wanted.now; unwanted = unwanted.now; steps = steps })) result }
 {
@@ -100,10 +100,14 @@ fn end(alloc: Global, wanted: &Seq<Row>, unwanted: &Seq<Row>, steps: Seq<Step>) 
 // What becomes of a problem: with no column left it is solved or has no answer, and else its parts
 // are left. Nothing is left where an unwanted row matches every vector, since it has a wildcard or
 // a variable for each column.
-fn split(alloc: Global, types: &[DataDecl], problem: Problem) -> Result<Outcome, AllocError>
+fn split<'a>(
+    alloc: Global,
+    types: &[DataDecl],
+    problem: Problem<'a>,
+) -> Result<Outcome<'a>, AllocError>
     requires inhabited { AreInhabited types.now }
     requires live { AreTypesIn types.now problem.tys }
-    ensures { IfOk result (λ r. IsOutcome types.now (Whole problem) r) }
+    ensures { IfOk result (λ r. IsOutcome types.now (Whole problem.entry) r) }
 {
     if some_is_open(problem.unwanted.as_slice(), problem.tys.len()) {
         return Ok(Outcome::Split(Vec::new(alloc)));
@@ -128,10 +132,10 @@ fn split(alloc: Global, types: &[DataDecl], problem: Problem) -> Result<Outcome,
 }
 
 // What becomes of a piece of what was left, be it a whole problem or branches of one.
-fn step(alloc: Global, types: &[DataDecl], left: Left) -> Result<Outcome, AllocError>
+fn step<'a>(alloc: Global, types: &[DataDecl], left: Left<'a>) -> Result<Outcome<'a>, AllocError>
     requires inhabited { AreInhabited types.now }
     requires ready { IsReady types.now left }
-    ensures { IfOk result (λ r. IsOutcome types.now left r) }
+    ensures { IfOk result (λ r. IsOutcome types.now left.entry r) }
 {
     match left {
         Left::Whole(problem) => split(alloc, types, problem),
@@ -158,7 +162,7 @@ pub fn find_in(
     requires inhabited { AreInhabited types.now }
     requires live { AreTypesIn types.now root.tys }
     requires root { root.steps ≡ [] }
-    ensures { IfOk result (λ r. IsSearchAnswer types.now root.tys root.wanted root.unwanted r) }
+    ensures { IfOk result (λ r. IsSearchAnswer types.now root.entry.tys root.entry.wanted root.entry.unwanted r) }
 {
     let mut work = Vec::new(alloc);
     work.push(Left::Whole(root))?;

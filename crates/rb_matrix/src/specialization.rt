@@ -3,8 +3,8 @@
 //! its first value. Of the vectors of the columns' types that begin with the head, a pattern matrix
 //! matches those that S matches once the first value is replaced by its subvalues; of the vectors
 //! that begin with no head of the first column, it matches those that D matches without the first
-//! value. A row's image is what becomes of the row in S or in D; a row without an image is left
-//! out. Rows need not be typed.
+//! value. What becomes of a row in S is its specialised row, and in D its default row; in names
+//! either is an image. A row that has none is left out. Rows need not be typed.
 
 ghost use Rattle.std.specs.Prelude.{◌≡◌, ◌∷◌, ◌++◌, List, length, drop, true, false, IfOk, OnOk, IsSome, slice_get, nat_lt, ◌^◌};
 ghost use Rattle.std.specs.Option.{option_copied};
@@ -56,7 +56,7 @@ fn joined(alloc: Global, first: &[Pat], rest: &[Pat]) -> Result<Seq<Pat>, AllocE
     Ok(row)
 }
 
-// A row's image in S for a head with so many fields: a copy of the row with its first pattern's
+// A row's specialised row for a head with so many fields: a copy of it with its first pattern's
 // subpatterns in place of that pattern, of which a number has none, or with `fields` wildcards in
 // place of a wildcard or a variable. None for another number or constructor, a constructor with
 // another number of subpatterns than `fields`, or an empty row.
@@ -97,7 +97,7 @@ fn special_of_row(
     }
 }
 
-// A row's image in D: a copy of the row without its first pattern. None where that is a number or a
+// A row's default row: a copy of it without its first pattern. None where that is a number or a
 // constructor, or where the row is empty.
 fn rest_of_row(alloc: Global, row: &[Pat]) -> Result<Option<Seq<Pat>>, AllocError>
     ensures { IfOk result (λ r. r ≡ default_row row.now) }
@@ -113,8 +113,8 @@ fn rest_of_row(alloc: Global, row: &[Pat]) -> Result<Option<Seq<Pat>>, AllocErro
     }
 }
 
-/// A row's image in the specialised matrix of a head with so many fields: a copy of the row with
-/// its first pattern's subpatterns, or as many wildcards for a wildcard or a variable, in that
+/// What becomes of a row in the specialised matrix of a head with so many fields: a copy of the row
+/// with its first pattern's subpatterns, or as many wildcards for a wildcard or a variable, in that
 /// pattern's place. None where the row is empty, begins with another number or constructor, or
 /// begins with a constructor that has another number of subpatterns: it matches no vector then that
 /// begins with the head and as many subvalues as fields. The row stays.
@@ -131,8 +131,8 @@ pub fn specialize_row(
     ensures image { IfOk result (λ r. r ≡ special_row head fields row.now) }
 
     // The law of S: the row matches a vector whose first value begins with the head, and has as
-    // many subvalues as fields, exactly where its image matches that vector unfolded: with the
-    // subvalues in place of that value.
+    // many subvalues as fields, exactly where its specialised row matches that vector unfolded:
+    // with the subvalues in place of that value.
     ensures same { IfOk result (λ r. (v : Values.Value) (vs : List Values.Value) → begins head v ≡ true
         → length (subs v) ≡ fields → row_matches row.now (v ∷ vs) ≡ image_matches r (unfolded (v ∷ vs))) }
 {
@@ -140,8 +140,8 @@ pub fn specialize_row(
     Ok(image)
 }
 
-/// A row's image in the default matrix: a copy of the row without its first pattern, where that is
-/// a wildcard or a variable. None where it is a number or a constructor, or where the row is empty.
+/// What becomes of a row in the default matrix: a copy of it without its first pattern, where that
+/// is a wildcard or a variable. None where it is a number or a constructor, or where the row is empty.
 /// The row stays.
 ///
 /// # Errors
@@ -151,7 +151,7 @@ pub fn default_of_row(alloc: Global, row: &[Pat]) -> Result<Option<Seq<Pat>>, Al
     ensures image { IfOk result (λ r. r ≡ default_row row.now) }
 
     // The law of D: the row matches a vector that does not begin with the head of the row, as none
-    // does where the row has no head, exactly where its image matches the rest.
+    // does where the row has no head, exactly where its default row matches the rest.
     ensures same { IfOk result (λ r. (v : Values.Value) (vs : List Values.Value)
         → option_begins (row_head row.now) (Values.out-Value v) ≡ false
         → row_matches row.now (v ∷ vs) ≡ image_matches r vs) }
@@ -160,8 +160,8 @@ pub fn default_of_row(alloc: Global, row: &[Pat]) -> Result<Option<Seq<Pat>>, Al
     Ok(image)
 }
 
-/// The images of rows in the specialised matrix of a head with so many fields, in the order of the
-/// rows; a row without an image is left out. The rows stay.
+/// The specialised rows of rows for a head with so many fields, in the order of the rows; a row that
+/// has none is left out. The rows stay.
 ///
 /// # Errors
 ///
@@ -183,8 +183,8 @@ pub fn special_rows(
     Ok(kept)
 }
 
-/// The images of rows in the default matrix, in the order of the rows; a row without an image is
-/// left out. The rows stay.
+/// The default rows of rows, in the order of the rows; a row that has none is left out. The rows
+/// stay.
 ///
 /// # Errors
 ///

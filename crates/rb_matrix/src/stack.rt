@@ -1,6 +1,6 @@
 //! A list that is taken apart and grown at its front.
 
-ghost use Rattle.std.specs.Prelude.{◌≡◌, [], ◌∷◌, ◌++◌, length, drop, MatchOption, OnOk};
+ghost use Rattle.std.specs.Prelude.{◌≡◌, [], ◌∷◌, ◌++◌, length, drop, MatchOption, IfOk, OnOk};
 
 use rb_core::seq::Seq;
 use std::alloc::{AllocError, Global};
@@ -99,5 +99,24 @@ impl<T> Stack<T> {
         ensures { result.0.now ++ result.1.now ≡ self.now }
     {
         self.items.as_slices()
+    }
+}
+
+impl<T: Copy> Stack<T> {
+    /// An equal list.
+    ///
+    /// # Errors
+    ///
+    /// Want of memory.
+    pub fn copy(&self, alloc: Global) -> Result<Self, AllocError>
+        ensures { IfOk result (λ s. s ≡ self.now) }
+    {
+        let (front, back) = self.items.as_slices();
+        let mut items = Vec::new(alloc);
+        items.extend_from_slice(front)?;
+        items.extend_from_slice(back)?;
+        Ok(Stack {
+            items: VecDeque::from(items),
+        })
     }
 }

@@ -23,8 +23,8 @@ returns-in-Some c =
     (ap first_head (sym c.as_slice.ensures) ∙ sym c.first_head_in.ensures ∙ c.in-Some.is)
     (c.in_ok-push.ensures.ok ∙ ap (λ (l : List Head). l ++ c.in-Some.head ∷ []) c.new-heads.ensures))
 
-pub returns-in_ok-push-in-None : goal.returns-in_ok-push-in-None
-returns-in_ok-push-in-None c =
+pub returns-in-None : goal.returns-in-None
+returns-in-None c =
     let branches : Left = ByHead (record { ty = c.args.ty; behind = c.args.behind; heads = c.in_ok-heads.heads }) in
     let every = subst (IsAbsentAnswer c.args.types.now c.args.ty c.as_slice-3.result.now) c.in-None.is c.in_ok-absent_pattern.ensures.answer in
     let same : (l : Value-F Value) → any_begins c.as_slice-3.result.now l ≡ column_begins c.args.behind.unwanted l =
