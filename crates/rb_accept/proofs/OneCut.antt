@@ -20,8 +20,8 @@ use Rattle.rb_syntax.specs.declared.token.Symbol.{Symbol}
 use Rattle.rb_syntax.specs.declared.token.Symbol.TheVariants as symbol
 use Rattle.rb_syntax.specs.declared.token.Token.{Token}
 use Rattle.rb_syntax.specs.declared.token.Token.TheVariants as tok
-use Rattle.rb_syntax.specs.declared.token.Word.{Word}
-use Rattle.rb_syntax.specs.declared.token.Word.TheVariants as word
+use Rattle.rb_syntax.specs.declared.token.ReservedWord.{ReservedWord}
+use Rattle.rb_syntax.specs.declared.token.ReservedWord.TheVariants as word
 
 -- First bytes -------------------------------------------------------------------------------
 
@@ -104,7 +104,7 @@ kind_of (tok.Symbol s) = 3
 abbrev AsWord : List ℕ → Type 0
 AsWord text = FirstByteIs (is_kind 1) text × FirstByteIs is_token_byte text × FirstByteIs (λ b. not (b == 117)) text × FirstByteIs is_ascii_alphabetic text × (list_all is_word_byte text ≡ true)
 
-word-as : (w : Word) → AsWord (word_text w)
+word-as : (w : ReservedWord) → AsWord (word_text w)
 unfolding kind
 word-as word.Type = (refl, refl, refl, refl, refl)
 word-as word.Layout = (refl, refl, refl, refl, refl)
@@ -189,7 +189,7 @@ no_gap text g h = never_both is_gap_byte text (gap-as text g) h
 
 -- One token ---------------------------------------------------------------------------------
 
-word-found : (w : Word) → word_of (word_text w) ≡ Some w
+word-found : (w : ReservedWord) → word_of (word_text w) ≡ Some w
 word-found word.Type = refl
 word-found word.Layout = refl
 word-found word.Fun = refl
@@ -238,14 +238,14 @@ symbol-found symbol.Underscore = refl
 some_same : {X : Type 0} (x y : X) → Some x ≡ Some y → x ≡ y
 some_same x y e = cc
 
-same_word : (v w : Word) → word_text v ≡ word_text w → v ≡ w
+same_word : (v w : ReservedWord) → word_text v ≡ word_text w → v ≡ w
 same_word v w e = some_same v w (sym (word-found v) ∙ ap word_of e ∙ word-found w)
 
 same_symbol : (s u : Symbol) → symbol_text s ≡ symbol_text u → s ≡ u
 same_symbol s u e = some_same s u (sym (symbol-found s) ∙ ap symbol_of e ∙ symbol-found u)
 
 -- no reserved word begins with 'u', as widths do
-no_width : (w : Word) (bits : ℕ) (text : List ℕ) → text ≡ word_text w → IsUintWord bits text → ⊥
+no_width : (w : ReservedWord) (bits : ℕ) (text : List ℕ) → text ≡ word_text w → IsUintWord bits text → ⊥
 no_width w bits text is v =
     let e : FirstByteIs (λ b. not (b == 117)) (117 ∷ v.digits) = subst (λ (xs : List ℕ). FirstByteIs (λ b. not (b == 117)) xs) (sym is ∙ v.written) (word-as w).2 in absurd (cc e)
 

@@ -23,7 +23,7 @@ use Rattle.rb_core.specs.WellNumbered as well
 use Rattle.rb_core.specs.WellNumbered.{Within, is_constructor, all_within, all_tokens, expression_step, expression_is_numbered, tokens_step, body_tokens, match_tokens, pattern_is_numbered, vars_of}
 use Rattle.rb_syntax.specs.declared.token.Token.{Token}
 use Rattle.rb_syntax.specs.declared.token.Token.TheVariants as tok
-use Rattle.rb_syntax.specs.declared.token.Word.TheVariants as word
+use Rattle.rb_syntax.specs.declared.token.ReservedWord.TheVariants as word
 use Rattle.rb_syntax.specs.declared.token.Symbol.TheVariants as symbol
 use Rattle.rb_syntax.specs.declared.tree.NameTree.{NameTree}
 use Rattle.rb_syntax.specs.declared.tree.TyTree.{TyTree}

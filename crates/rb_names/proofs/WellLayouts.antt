@@ -19,7 +19,7 @@ use Rattle.rb_core.specs.declared.layout_decl.LayoutDecl.{LayoutDecl}
 use Rattle.rb_core.specs.Layouts.{WrittenLeaf, leaves, leaves_under, leaves_step, arm_leaves, provenances, is_short, leaf_is_short, tree_step, arm_is_short}
 use Rattle.rb_core.specs.WellNumbered.{is_constructor, is_between, provenance_is_numbered, layout_is_numbered}
 use Rattle.rb_syntax.specs.declared.token.Token.TheVariants as tok
-use Rattle.rb_syntax.specs.declared.token.Word.TheVariants as word
+use Rattle.rb_syntax.specs.declared.token.ReservedWord.TheVariants as word
 use Rattle.rb_syntax.specs.declared.token.Symbol.TheVariants as symbol
 use Rattle.rb_syntax.specs.declared.tree.PatTree.{PatTree}
 use Rattle.rb_syntax.specs.declared.tree.ArmTree.{ArmTree}

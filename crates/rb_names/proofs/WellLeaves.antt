@@ -15,7 +15,7 @@ use Rattle.rb_core.specs.declared.layout_decl.LayItem.TheFolds.{fold-PartKind, f
 use Rattle.rb_core.specs.Layouts as lay
 use Rattle.rb_core.specs.Layouts.{is_short, counts_in, written_round, written_path, kind_step, part_step, item_step, leaf_is_short}
 use Rattle.rb_syntax.specs.declared.token.Token.TheVariants as tok
-use Rattle.rb_syntax.specs.declared.token.Word.TheVariants as word
+use Rattle.rb_syntax.specs.declared.token.ReservedWord.TheVariants as word
 use Rattle.rb_syntax.specs.declared.token.Symbol.TheVariants as symbol
 use Rattle.rb_syntax.specs.Written.{Written, Writing, token, node, tokens_in, any_with, some_with}
 use Rattle.rb_syntax.specs.Spelling.{comma, range_written, field_written, path_written, kind_written, part_written, lay_item_written}

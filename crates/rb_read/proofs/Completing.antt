@@ -1,8 +1,8 @@
 -- What is open behind a file's first tokens can always be completed.
 use Rattle.std.proofs.Common.{◌≡◌, ℕ, suc, List, [], ◌∷◌, ◌++◌, Bool, true, false, if◌then◌else◌, Some, None, refl, ◌∙◌, subst, arith, codes, append_assoc}
 use Rattle.std.proofs.lemmas.Grind.{common_steps}
-use Rattle.rb_syntax.specs.declared.token.Word.{Word}
-use Rattle.rb_syntax.specs.declared.token.Word.TheVariants as word
+use Rattle.rb_syntax.specs.declared.token.ReservedWord.{ReservedWord}
+use Rattle.rb_syntax.specs.declared.token.ReservedWord.TheVariants as word
 use Rattle.rb_syntax.specs.declared.token.Symbol.{Symbol}
 use Rattle.rb_syntax.specs.declared.token.Symbol.TheVariants as symbol
 use Rattle.rb_syntax.specs.declared.token.Token.{Token}
@@ -64,7 +64,7 @@ least item = token.Reserved word.Layout ∷ token.Upper (codes "T") ∷ sym_of s
 is_symbol-same : (s : Symbol) → is_symbol s (token.Symbol s) ≡ true
 is_symbol-same s = grind (arith, common_steps)
 
-is_word-same : (w : Word) → is_word w (token.Reserved w) ≡ true
+is_word-same : (w : ReservedWord) → is_word w (token.Reserved w) ≡ true
 is_word-same w = grind (arith, common_steps)
 
 least-steps : (a : Kind) (k : List Open) → steps (one a ∷ k) (least a) ≡ Some k

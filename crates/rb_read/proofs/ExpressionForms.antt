@@ -2,8 +2,8 @@
 use Rattle.std.proofs.Common.{◌≡◌, ℕ, zero, suc, ◌+◌, List, [], ◌∷◌, map, Bool, true, false, nat_lt, Option, Some, None, is_some, refl, ◌∙◌, ap, subst, arith}
 use Rattle.rb_core.specs.declared.expression.Op.{Op}
 use Rattle.rb_core.specs.declared.expression.Op.TheVariants as op
-use Rattle.rb_syntax.specs.declared.token.Word.{Word}
-use Rattle.rb_syntax.specs.declared.token.Word.TheVariants as word
+use Rattle.rb_syntax.specs.declared.token.ReservedWord.{ReservedWord}
+use Rattle.rb_syntax.specs.declared.token.ReservedWord.TheVariants as word
 use Rattle.rb_syntax.specs.declared.token.Symbol.TheVariants as symbol
 use Rattle.rb_syntax.specs.declared.token.Token.{Token}
 use Rattle.rb_syntax.specs.declared.token.Token.TheVariants as tok
@@ -94,14 +94,14 @@ form_of-op_word op.Eq = refl
 form_of-op_word op.Lt = refl
 
 -- the words of a form
-abbrev IsWordOf : Form → Word → Type 0
+abbrev IsWordOf : Form → ReservedWord → Type 0
 IsWordOf (form.Operation o) w = w ≡ op_word o
 IsWordOf form.Conversion w = w ≡ word.To
 IsWordOf form.Binding w = w ≡ word.Let
 IsWordOf form.Matching w = w ≡ word.Match
 IsWordOf form.Other w = Unit {0}
 
-word-of-form : (w : Word) → IsWordOf (form_of w) w
+word-of-form : (w : ReservedWord) → IsWordOf (form_of w) w
 unfolding form_of
 word-of-form word.Add = refl
 word-of-form word.Sub = refl
@@ -283,7 +283,7 @@ module _ (total limit l : ℕ) (small : nat_lt limit l ≡ false) {inside : Read
   called-written at x None rest = expr-Var at (named at x) l rest
   called-written at x (Some es) rest = call-written at (named at x) es l rest
 
-  form-at : (w : Word) (f : Form) → form_of w ≡ f → IsWordOf f w → AtToken total limit (open_at.expr l) (at_expr l) this (tok.Reserved w)
+  form-at : (w : ReservedWord) (f : Form) → form_of w ≡ f → IsWordOf f w → AtToken total limit (open_at.expr l) (at_expr l) this (tok.Reserved w)
   unfolding begins expression_one reading.expression_from reading.from_form reading.operation reading.conversion reading.binding reading.matching reading.clause_tree
   form-at w (form.Operation o) e h = node-at operands-form l (rw e refl) small (λ at. operation_of at o) (λ ts. rw e refl) marks
       (λ at. tt) (λ at. (refl, tt)) (λ at. rw small refl)

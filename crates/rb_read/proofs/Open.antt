@@ -1,7 +1,7 @@
 -- What is still open while tokens are read from left to right: the grammar, without trees and without a limit of levels.
 use Rattle.std.specs.Prelude.{ℕ, suc, ◌^◌, List, [], ◌∷◌, ◌++◌, length, Bool, true, false, nat_lt, if◌then◌else◌, Option, Some, None}
-use Rattle.rb_syntax.specs.declared.token.Word.{Word}
-use Rattle.rb_syntax.specs.declared.token.Word.TheVariants as word
+use Rattle.rb_syntax.specs.declared.token.ReservedWord.{ReservedWord}
+use Rattle.rb_syntax.specs.declared.token.ReservedWord.TheVariants as word
 use Rattle.rb_syntax.specs.declared.token.Symbol.{Symbol}
 use Rattle.rb_syntax.specs.declared.token.Symbol.TheVariants as symbol
 use Rattle.rb_syntax.specs.declared.token.Token.{Token}
@@ -14,7 +14,7 @@ use Rattle.rb_read.specs.inner.Starting.{is_symbol, is_word, form_of}
 -- the parts of the grammar, nodes with their level
 pub data Kind : Type 0 where
   the : Symbol → Kind
-  the_word : Word → Kind
+  the_word : ReservedWord → Kind
   a_lower : Kind
   an_upper : Kind
   a_number : Kind

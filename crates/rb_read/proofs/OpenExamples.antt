@@ -1,9 +1,9 @@
 -- What is open, on worked files: the check computes each end.
 use Rattle.std.proofs.Common.{◌≡◌, ℕ, zero, suc, List, [], ◌∷◌, ◌++◌, codes, refl}
 use Rattle.rb_core.specs.Limits.{most_levels}
-use Rattle.rb_syntax.specs.declared.token.Word.{Word}
-use Rattle.rb_syntax.specs.declared.token.Word.TheVariants.{Layout, Fun, Let, In, Match, Split, Else, Inline, Boxed, Add, To}
-use Rattle.rb_syntax.specs.declared.token.Word.TheVariants as word
+use Rattle.rb_syntax.specs.declared.token.ReservedWord.{ReservedWord}
+use Rattle.rb_syntax.specs.declared.token.ReservedWord.TheVariants.{Layout, Fun, Let, In, Match, Split, Else, Inline, Boxed, Add, To}
+use Rattle.rb_syntax.specs.declared.token.ReservedWord.TheVariants as word
 use Rattle.rb_syntax.specs.declared.token.Symbol.{Symbol}
 use Rattle.rb_syntax.specs.declared.token.Symbol.TheVariants.{Equals, Bar, OpenParen, CloseParen, Comma, Semicolon, OpenBrace, CloseBrace, Less, Greater, Colon, OpenBracket, CloseBracket, Dot, At, Arrow, FatArrow, Underscore}
 use Rattle.rb_syntax.specs.declared.token.Token.{Token}
@@ -14,7 +14,7 @@ use Rattle.rb_read.proofs.Open.{as_pattern, begins, step, is_done, whole, stoppe
 abbrev sym : Symbol → Token
 sym s = token.Symbol s
 
-abbrev res : Word → Token
+abbrev res : ReservedWord → Token
 res w = token.Reserved w
 
 abbrev low : Token

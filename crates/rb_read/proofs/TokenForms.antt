@@ -2,8 +2,8 @@
 use Rattle.std.proofs.Common.{◌≡◌, ℕ, ◌^◌, List, [], ◌∷◌, Bool, true, false, ◌==◌, nat_lt, if◌then◌else◌, refl, sym, ◌∙◌, ap, arith}
 use Rattle.std.proofs.lemmas.Bool.{eqb-true}
 use Rattle.std.proofs.lemmas.Grind.{common_steps}
-use Rattle.rb_syntax.specs.declared.token.Word.{Word}
-use Rattle.rb_syntax.specs.declared.token.Word.TheVariants as word
+use Rattle.rb_syntax.specs.declared.token.ReservedWord.{ReservedWord}
+use Rattle.rb_syntax.specs.declared.token.ReservedWord.TheVariants as word
 use Rattle.rb_syntax.specs.declared.token.Symbol.{Symbol}
 use Rattle.rb_syntax.specs.declared.token.Symbol.TheVariants as symbol
 use Rattle.rb_syntax.specs.declared.token.Token.{Token}
@@ -49,7 +49,7 @@ symbol_of-number symbol.Arrow = refl
 symbol_of-number symbol.FatArrow = refl
 symbol_of-number symbol.Underscore = refl
 
-word_of : ℕ → Word
+word_of : ℕ → ReservedWord
 word_of n =
     if n == 0 then word.Type else if n == 1 then word.Layout else if n == 2 then word.Fun else if n == 3 then word.Let
     else if n == 4 then word.In else if n == 5 then word.Match else if n == 6 then word.Word else if n == 7 then word.Split
@@ -57,7 +57,7 @@ word_of n =
     else if n == 12 then word.Add else if n == 13 then word.Sub else if n == 14 then word.Mul else if n == 15 then word.And
     else if n == 16 then word.Or else if n == 17 then word.Xor else if n == 18 then word.Eq else if n == 19 then word.Lt else word.To
 
-word_of-number : (w : Word) → word_of (word_number w) ≡ w
+word_of-number : (w : ReservedWord) → word_of (word_number w) ≡ w
 unfolding word_of
 word_of-number word.Type = refl
 word_of-number word.Layout = refl
@@ -87,7 +87,7 @@ nat-eq n = grind (arith, common_steps)
 pub is_symbol-self : (s : Symbol) → is_symbol s (tok.Symbol s) ≡ true
 is_symbol-self s = nat-eq (symbol_number s)
 
-pub is_word-self : (w : Word) → is_word w (tok.Reserved w) ≡ true
+pub is_word-self : (w : ReservedWord) → is_word w (tok.Reserved w) ≡ true
 is_word-self w = nat-eq (word_number w)
 
 pub is_symbol-is : (s : Symbol) (t : Token) → is_symbol s t ≡ true → t ≡ tok.Symbol s
@@ -98,7 +98,7 @@ is_symbol-is s (tok.Num n) e = cc
 is_symbol-is s (tok.Reserved w) e = cc
 is_symbol-is s (tok.Uint b) e = cc
 
-pub is_word-is : (w : Word) (t : Token) → is_word w t ≡ true → t ≡ tok.Reserved w
+pub is_word-is : (w : ReservedWord) (t : Token) → is_word w t ≡ true → t ≡ tok.Reserved w
 is_word-is w (tok.Reserved u) e = ap (λ v. tok.Reserved v) (sym (word_of-number u) ∙ ap word_of (eqb-true (word_number u) (word_number w) e) ∙ word_of-number w)
 is_word-is w (tok.Symbol u) e = cc
 is_word-is w (tok.Upper x) e = cc
@@ -121,7 +121,7 @@ pub symbol-part : (total limit : ℕ) (s : Symbol) → IsPart total limit (λ _.
 unfolding begins
 symbol-part total limit s = passing-part (λ t. is_symbol s t) (tok.Symbol s) (λ t. refl) (is_symbol-self s) (λ t e. is_symbol-is s t e)
 
-pub word-part : (total limit : ℕ) (w : Word) → IsPart total limit (λ _. false) (the_word w) (λ _ rest. token (tok.Reserved w) ∷ rest) (expect_word w)
+pub word-part : (total limit : ℕ) (w : ReservedWord) → IsPart total limit (λ _. false) (the_word w) (λ _ rest. token (tok.Reserved w) ∷ rest) (expect_word w)
 unfolding begins
 word-part total limit w = passing-part (λ t. is_word w t) (tok.Reserved w) (λ t. refl) (is_word-self w) (λ t e. is_word-is w t e)
 

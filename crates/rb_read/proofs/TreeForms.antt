@@ -3,8 +3,8 @@ use Rattle.std.proofs.Common.{◌≡◌, ℕ, zero, suc, ◌+◌, ◌-◌, List,
 use Rattle.std.proofs.lemmas.Grind.{common_steps}
 use Rattle.rb_core.specs.declared.layout_decl.Loc.{Loc}
 use Rattle.rb_core.specs.declared.layout_decl.LayItem.{LayItem}
-use Rattle.rb_syntax.specs.declared.token.Word.{Word}
-use Rattle.rb_syntax.specs.declared.token.Word.TheVariants as word
+use Rattle.rb_syntax.specs.declared.token.ReservedWord.{ReservedWord}
+use Rattle.rb_syntax.specs.declared.token.ReservedWord.TheVariants as word
 use Rattle.rb_syntax.specs.declared.token.Symbol.TheVariants as symbol
 use Rattle.rb_syntax.specs.declared.token.Token.{Token}
 use Rattle.rb_syntax.specs.declared.token.Token.TheVariants as tok
@@ -135,7 +135,7 @@ tree-zero total limit l e = zero-form begins_tree deeper nothing_begun begun whe
 
 -- A tree above readers of the trees in it.
 
-by_word : (w : Word) (os : List Open) (t : Token) → if_so (is_word w t) os ≡ ahead_of os (if_so (is_word w t) [])
+by_word : (w : ReservedWord) (os : List Open) (t : Token) → if_so (is_word w t) os ≡ ahead_of os (if_so (is_word w t) [])
 by_word w os t = by_test (is_word w t) where
   by_test : (b : Bool) → if_so b os ≡ ahead_of os (if_so b [])
   by_test true = refl

@@ -29,7 +29,7 @@ use crate::tokens::{begins_with, expect, expect_word, number_of, read_lower, rea
 use crate::types::read_type;
 use rb_core::boxed::Boxed;
 use rb_core::seq::Seq;
-use rb_syntax::token::{Placed, Symbol, Token, Word};
+use rb_syntax::token::{Placed, ReservedWord, Symbol, Token};
 use rb_syntax::tree::{ClauseTree, ExprTree, Name, NameTree, Op};
 use std::alloc::Global;
 
@@ -312,7 +312,7 @@ fn read_binding<'a>(
     let (ty, rest) = read_type(alloc, total, rest)?;
     let rest = expect(Symbol::Equals, rest)?;
     let (bound, rest) = read_boxed(alloc, levels, total, rest)?;
-    let rest = expect_word(Word::In, rest)?;
+    let rest = expect_word(ReservedWord::In, rest)?;
     let (body, rest) = read_boxed(alloc, levels, total, rest)?;
     Ok((ExprTree::Let(at, name, ty, bound, body), rest))
 }

@@ -31,7 +31,7 @@ use crate::tokens::{expect, number_of, read_lower, read_number, read_upper};
 use crate::types::{read_constructor, read_parameter, read_type};
 use rb_core::limits::MOST_LEVELS;
 use rb_core::seq::Seq;
-use rb_syntax::token::{Placed, Symbol, Token, Word};
+use rb_syntax::token::{Placed, ReservedWord, Symbol, Token};
 use rb_syntax::tree::{
     Auto, ConTree, FunTree, ItemTree, LayoutTree, ParamTree, SplitTree, TypeTree,
 };
@@ -99,8 +99,8 @@ fn read_auto(placed: &[Placed]) -> Result<(Auto, &[Placed]), Stop>
     match placed {
         [] => Err(Stop::Stuck(0)),
         [first, rest @ ..] => match first.token {
-            Token::Reserved(Word::Boxed) => Ok((Auto::Boxed, rest)),
-            Token::Reserved(Word::Packed) => Ok((Auto::Packed, rest)),
+            Token::Reserved(ReservedWord::Boxed) => Ok((Auto::Boxed, rest)),
+            Token::Reserved(ReservedWord::Packed) => Ok((Auto::Packed, rest)),
             _ => Err(Stop::Stuck(placed.len())),
         },
     }
@@ -237,12 +237,12 @@ fn read_item(alloc: Global, total: usize, placed: &[Placed]) -> Result<(ItemTree
     match placed {
         [] => Err(Stop::Stuck(0)),
         [first, rest @ ..] => match first.token {
-            Token::Reserved(Word::Type) => read_type_item(alloc, total, rest),
-            Token::Reserved(Word::Layout) => {
+            Token::Reserved(ReservedWord::Type) => read_type_item(alloc, total, rest),
+            Token::Reserved(ReservedWord::Layout) => {
                 let at = number_of(total, placed);
                 read_layout(alloc, MOST_LEVELS, total, at, rest)
             }
-            Token::Reserved(Word::Fun) => read_fun(alloc, MOST_LEVELS, total, rest),
+            Token::Reserved(ReservedWord::Fun) => read_fun(alloc, MOST_LEVELS, total, rest),
             _ => Err(Stop::Stuck(placed.len())),
         },
     }
@@ -256,7 +256,7 @@ fn begins_item(placed: &[Placed]) -> bool
         [] => false,
         [first, ..] => matches!(
             &first.token,
-            Token::Reserved(Word::Type | Word::Layout | Word::Fun)
+            Token::Reserved(ReservedWord::Type | ReservedWord::Layout | ReservedWord::Fun)
         ),
     }
 }

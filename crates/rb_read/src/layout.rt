@@ -14,7 +14,7 @@
 //! which no level is left it stops with `Deep`. Want of memory stops it, too.
 
 ghost use Rattle.std.specs.Prelude.{◌≡◌, ◌-◌, ◌<◌, ◌^◌, length};
-ghost use Rattle.rb_syntax.specs.declared.token.Word.TheVariants as word;
+ghost use Rattle.rb_syntax.specs.declared.token.ReservedWord.TheVariants as word;
 ghost use Rattle.rb_syntax.specs.Tokens.{tokens};
 ghost use Rattle.rb_read.specs.inner.Combining as combining;
 ghost use Rattle.rb_read.specs.inner.Reading as reading;
@@ -30,7 +30,7 @@ use crate::stop::Stop;
 use crate::tokens::{expect, expect_word, number_of, read_number};
 use rb_core::boxed::Boxed;
 use rb_core::seq::Seq;
-use rb_syntax::token::{Placed, Symbol, Token, Word};
+use rb_syntax::token::{Placed, ReservedWord, Symbol, Token};
 use rb_syntax::tree::{ArmTree, SplitTree};
 use std::alloc::Global;
 
@@ -41,7 +41,7 @@ fn begins_tree(placed: &[Placed]) -> bool
     match placed {
         [] => false,
         [first, ..] => match first.token {
-            Token::Reserved(word) => word == Word::Split,
+            Token::Reserved(word) => word == ReservedWord::Split,
             Token::Upper(_) => true,
             _ => false,
         },
@@ -68,7 +68,7 @@ fn begins_else(placed: &[Placed]) -> bool
     match placed {
         [] => false,
         [first, ..] => match first.token {
-            Token::Reserved(word) => word == Word::Else,
+            Token::Reserved(word) => word == ReservedWord::Else,
             _ => false,
         },
     }
@@ -155,7 +155,7 @@ fn read_else<'a>(
     if !begins_else(placed) {
         return Ok((None, placed));
     }
-    let rest = expect_word(Word::Else, placed)?;
+    let rest = expect_word(ReservedWord::Else, placed)?;
     let rest = expect(Symbol::FatArrow, rest)?;
     let (tree, rest) = read_layout_tree(alloc, levels, total, rest)?;
     let tree = Boxed::new(alloc, tree)?;
@@ -200,7 +200,7 @@ fn read_tree_node<'a>(
     match placed {
         [] => Err(Stop::Stuck(0)),
         [first, rest @ ..] => match first.token {
-            Token::Reserved(Word::Split) => read_split(alloc, levels, total, rest),
+            Token::Reserved(ReservedWord::Split) => read_split(alloc, levels, total, rest),
             Token::Upper(_) => read_leaf(alloc, levels, total, placed),
             _ => Err(Stop::Stuck(placed.len())),
         },

@@ -17,7 +17,7 @@
 ghost use Rattle.std.specs.Prelude.{◌≡◌};
 ghost use Rattle.rb_syntax.specs.declared.token.Symbol.TheVariants as symbol;
 ghost use Rattle.rb_syntax.specs.declared.token.Token.TheVariants as token;
-ghost use Rattle.rb_syntax.specs.declared.token.Word.TheVariants as word;
+ghost use Rattle.rb_syntax.specs.declared.token.ReservedWord.TheVariants as word;
 ghost use Rattle.rb_syntax.specs.Tokens.{tokens};
 ghost use Rattle.rb_read.specs.inner.Combining as combining;
 ghost use Rattle.rb_read.specs.inner.Gives.{Gives, seen_end};
@@ -29,7 +29,7 @@ use crate::location::{joined, read_more_fields, read_path, read_range, read_rang
 use crate::stop::Stop;
 use crate::tokens::{expect, read_field, read_number};
 use rb_core::seq::Seq;
-use rb_syntax::token::{Placed, Symbol, Token, Word};
+use rb_syntax::token::{Placed, ReservedWord, Symbol, Token};
 use rb_syntax::tree::{LayItem, PartDecl, PartKind};
 use std::alloc::Global;
 
@@ -54,7 +54,7 @@ fn read_path_end(placed: &[Placed]) -> Result<(Option<PathEnd>, &[Placed]), Stop
                 let ((first, bits), rest) = read_range_rest(rest)?;
                 Ok((Some(PathEnd::Sliced(first, bits)), rest))
             }
-            Token::Reserved(Word::Word) => {
+            Token::Reserved(ReservedWord::Word) => {
                 let (j, rest) = read_number(rest)?;
                 Ok((Some(PathEnd::Numbered(j)), rest))
             }
@@ -198,8 +198,8 @@ fn read_item<'a>(
     match placed {
         [] => Err(Stop::Stuck(0)),
         [first, rest @ ..] => match first.token {
-            Token::Reserved(Word::Word) => read_word(alloc, levels, rest),
-            Token::Reserved(Word::Inline) => {
+            Token::Reserved(ReservedWord::Word) => read_word(alloc, levels, rest),
+            Token::Reserved(ReservedWord::Inline) => {
                 let (path, rest) = read_path(alloc, rest)?;
                 Ok((LayItem::Inline(path), rest))
             }

@@ -4,7 +4,7 @@ ghost use Rattle.std.specs.Prelude.{◌≡◌};
 ghost use Rattle.rb_read.specs.inner.Starting as starting;
 
 use rb_core::expression::Op;
-use rb_syntax::token::Word;
+use rb_syntax::token::ReservedWord;
 
 /// A form of expression that a reserved word begins.
 pub enum Form {
@@ -22,22 +22,30 @@ pub enum Form {
 
 /// What a reserved word begins as an expression, or `Other` where it begins none.
 #[tactic(auto, unfolding(crate::specs::inner::Starting::form_of))]
-pub fn form_of(word: Word) -> Form
+pub fn form_of(word: ReservedWord) -> Form
     ensures { result ≡ starting.form_of word }
 {
     match word {
-        Word::Add => Form::Operation(Op::Add),
-        Word::Sub => Form::Operation(Op::Sub),
-        Word::Mul => Form::Operation(Op::Mul),
-        Word::And => Form::Operation(Op::And),
-        Word::Or => Form::Operation(Op::Or),
-        Word::Xor => Form::Operation(Op::Xor),
-        Word::Eq => Form::Operation(Op::Eq),
-        Word::Lt => Form::Operation(Op::Lt),
-        Word::To => Form::Conversion,
-        Word::Let => Form::Binding,
-        Word::Match => Form::Matching,
-        Word::Type | Word::Layout | Word::Fun | Word::In | Word::Word => Form::Other,
-        Word::Split | Word::Else | Word::Inline | Word::Boxed | Word::Packed => Form::Other,
+        ReservedWord::Add => Form::Operation(Op::Add),
+        ReservedWord::Sub => Form::Operation(Op::Sub),
+        ReservedWord::Mul => Form::Operation(Op::Mul),
+        ReservedWord::And => Form::Operation(Op::And),
+        ReservedWord::Or => Form::Operation(Op::Or),
+        ReservedWord::Xor => Form::Operation(Op::Xor),
+        ReservedWord::Eq => Form::Operation(Op::Eq),
+        ReservedWord::Lt => Form::Operation(Op::Lt),
+        ReservedWord::To => Form::Conversion,
+        ReservedWord::Let => Form::Binding,
+        ReservedWord::Match => Form::Matching,
+        ReservedWord::Type
+        | ReservedWord::Layout
+        | ReservedWord::Fun
+        | ReservedWord::In
+        | ReservedWord::Word => Form::Other,
+        ReservedWord::Split
+        | ReservedWord::Else
+        | ReservedWord::Inline
+        | ReservedWord::Boxed
+        | ReservedWord::Packed => Form::Other,
     }
 }

@@ -10,7 +10,7 @@ ghost use Rattle.rb_read.specs.inner.Tokens as reading;
 ghost use Rattle.rb_read.specs.inner.Gives.{Gives};
 
 use crate::stop::Stop;
-use rb_syntax::token::{Placed, Symbol, Token, Word};
+use rb_syntax::token::{Placed, ReservedWord, Symbol, Token};
 use rb_syntax::tree::NameTree;
 use std::alloc::Global;
 
@@ -59,7 +59,7 @@ pub fn expect(symbol: Symbol, placed: &[Placed]) -> Result<&[Placed], Stop>
 ///
 /// `Stuck` where another token stands there, or none.
 #[tactic(auto, unfolding(crate::specs::inner::Combining::passing))]
-pub fn expect_word(word: Word, placed: &[Placed]) -> Result<&[Placed], Stop>
+pub fn expect_word(word: ReservedWord, placed: &[Placed]) -> Result<&[Placed], Stop>
     ensures { Gives (λ r. (tt, tokens r.now)) result (combining.expect_word word (tokens placed.now)) }
 {
     match placed {

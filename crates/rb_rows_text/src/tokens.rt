@@ -3,12 +3,12 @@
 
 use crate::editors::RESERVED;
 use rb_syntax::lex::{LexFault, lex};
-use rb_syntax::token::{Placed, Symbol, Token, WORDS, Word};
+use rb_syntax::token::{Placed, ReservedWord, Symbol, Token, WORDS};
 use std::alloc::Global;
 use std::test::Fail;
 
 // The word that a token is.
-fn word_at(tokens: &[Placed], i: usize) -> Option<Word> {
+fn word_at(tokens: &[Placed], i: usize) -> Option<ReservedWord> {
     match tokens.get(i)?.token {
         Token::Reserved(word) => Some(word),
         _ => None,

@@ -5,8 +5,8 @@ use Rattle.std.specs.List.{starts_with, list_all}
 use Rattle.std.proofs.lemmas.Bool.Decides.{Decides-eqb}
 use Rattle.std.proofs.lemmas.Slice.Eq.{starts_is}
 use Rattle.std.proofs.lemmas.List.Prefix.{front_fits}
-use Rattle.rb_syntax.specs.declared.token.Word.{Word}
-use Rattle.rb_syntax.specs.declared.token.Word.TheVariants as word
+use Rattle.rb_syntax.specs.declared.token.ReservedWord.{ReservedWord}
+use Rattle.rb_syntax.specs.declared.token.ReservedWord.TheVariants as word
 use Rattle.rb_syntax.specs.declared.token.Symbol.{Symbol}
 use Rattle.rb_syntax.specs.declared.token.Symbol.TheVariants as symbol
 use Rattle.rb_syntax.specs.Words.{word_text, word_of, symbol_text, symbol_at, symbols}
@@ -115,7 +115,7 @@ symbol-longest bytes s symbol.At e h = symbol-length s
 symbol-longest bytes s symbol.Underscore e h = symbol-length s
 
 -- each word is found by its bytes
-pub word-found : (w : Word) → word_of (word_text w) ≡ Some w
+pub word-found : (w : ReservedWord) → word_of (word_text w) ≡ Some w
 word-found word.Type = refl
 word-found word.Layout = refl
 word-found word.Fun = refl

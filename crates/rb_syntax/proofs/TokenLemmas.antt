@@ -11,7 +11,7 @@ use Rattle.std.specs.Str.Parse.{digits_value}
 use Rattle.rb_core.specs.Decimal.{is_numeral, number_in}
 use Rattle.rb_core.specs.WellNumbered.{is_word_byte, either}
 use Rattle.rb_core.proofs.Decimals.{digits-numeral, some-numeral, first-numeral, numeral_by_parts}
-use Rattle.rb_syntax.specs.declared.token.Word.{Word}
+use Rattle.rb_syntax.specs.declared.token.ReservedWord.{ReservedWord}
 use Rattle.rb_syntax.specs.declared.token.Token.TheVariants as tok
 use Rattle.rb_syntax.specs.Bytes.{numeral_len}
 use Rattle.rb_syntax.specs.Words.{word_text, word_of, words, uint_width}
@@ -143,7 +143,7 @@ unfolding width_or_name
 width_or_name-written (Some bits) b bs low all e f = width-written (b ∷ bs) bits f
 width_or_name-written None b bs low all e f = (refl, low, all, name-not_reserved (b ∷ bs) e f)
 
-word_or_name-written : (o : Option Word) (b : ℕ) (bs : List ℕ) → is_ascii_lowercase b ≡ true → list_all is_word_byte (b ∷ bs) ≡ true
+word_or_name-written : (o : Option ReservedWord) (b : ℕ) (bs : List ℕ) → is_ascii_lowercase b ≡ true → list_all is_word_byte (b ∷ bs) ≡ true
     → word_of (b ∷ bs) ≡ o → IsWritten (word_or_name o (b ∷ bs)) (b ∷ bs)
 unfolding word_or_name
 word_or_name-written (Some w) b bs low all e = sym (text-is (word_text w) (b ∷ bs) (find-passes (λ v. pointwise nat_eq (word_text v) (b ∷ bs)) words w e))

@@ -4,7 +4,7 @@ use Rattle.std.specs.Char.{is_ascii_digit, is_ascii_uppercase, is_ascii_lowercas
 use Rattle.std.specs.List.{list_all, starts_with}
 use Rattle.std.specs.Str.Parse.{digits_value}
 use Rattle.rb_core.specs.WellNumbered.{is_word_byte}
-use Rattle.rb_syntax.specs.declared.token.Word.{Word}
+use Rattle.rb_syntax.specs.declared.token.ReservedWord.{ReservedWord}
 use Rattle.rb_syntax.specs.declared.token.Symbol.{Symbol}
 use Rattle.rb_syntax.specs.declared.token.Token.{Token}
 use Rattle.rb_syntax.specs.declared.token.Token.TheVariants as tok
@@ -57,7 +57,7 @@ pub record IsUintWord (bits : ℕ) (text : List ℕ) : Type 0 where
 
 -- the name is no reserved word: none of `Word`, and none of u1 to u64
 abbrev pub IsNotReserved : List ℕ → Type 0
-IsNotReserved name = ((w : Word) → name ≢ word_text w) × ((bits : ℕ) → IsUintWord bits name → ⊥)
+IsNotReserved name = ((w : ReservedWord) → name ≢ word_text w) × ((bits : ℕ) → IsUintWord bits name → ⊥)
 
 -- the token is written as this text; a name that begins with a small letter must not be reserved, and a number must
 -- be below 2^64

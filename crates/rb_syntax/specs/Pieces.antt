@@ -4,7 +4,7 @@ use Rattle.std.specs.Char.{is_ascii_digit, is_ascii_uppercase, is_ascii_alphabet
 use Rattle.std.specs.List.{prefix_len, starts_with}
 use Rattle.rb_core.specs.Decimal.{number_in}
 use Rattle.rb_core.specs.WellNumbered.{is_word_byte}
-use Rattle.rb_syntax.specs.declared.token.Word.{Word}
+use Rattle.rb_syntax.specs.declared.token.ReservedWord.{ReservedWord}
 use Rattle.rb_syntax.specs.declared.token.Symbol.{Symbol}
 use Rattle.rb_syntax.specs.declared.token.Symbol.TheVariants.{Underscore}
 use Rattle.rb_syntax.specs.declared.token.Token.{Token}
@@ -22,7 +22,7 @@ width_or_name None name = tok.Lower name
 
 -- the token of a run `name` with a small letter first, by what `word_of` finds of it: that reserved word, or else the
 -- type of integers or the name that it is
-unfoldable pub word_or_name : Option Word → List ℕ → Token
+unfoldable pub word_or_name : Option ReservedWord → List ℕ → Token
 word_or_name (Some w) name = tok.Reserved w
 word_or_name None name = width_or_name (uint_width name) name
 

@@ -14,9 +14,9 @@ use Rattle.rb_core.specs.declared.layout_decl.LayItem.TheOpen as item
 use Rattle.rb_core.specs.declared.layout_decl.LayItem.TheOpen.{LayItem-F, PartKind-F}
 use Rattle.rb_core.specs.declared.layout_decl.PartKind.{PartKind}
 use Rattle.rb_core.specs.declared.layout_decl.PartDecl.{PartDecl, PartDecl-F}
-use Rattle.rb_syntax.specs.declared.token.Word.TheVariants as word
+use Rattle.rb_syntax.specs.declared.token.ReservedWord.TheVariants as word
 use Rattle.rb_syntax.specs.declared.token.Symbol.TheVariants as symbol
-use Rattle.rb_syntax.specs.declared.token.Word.{Word}
+use Rattle.rb_syntax.specs.declared.token.ReservedWord.{ReservedWord}
 use Rattle.rb_syntax.specs.declared.token.Symbol.{Symbol}
 use Rattle.rb_syntax.specs.declared.token.Token.{Token}
 use Rattle.rb_syntax.specs.declared.token.Token.TheVariants as tok
@@ -54,7 +54,7 @@ abbrev pub num : ℕ → Written
 num n = token (tok.Num n)
 
 -- the token of a reserved word
-abbrev pub reserved : Word → Written
+abbrev pub reserved : ReservedWord → Written
 reserved w = token (tok.Reserved w)
 
 -- whether there is a type of integers of so many bits: 1 to 64
@@ -122,7 +122,7 @@ pat_written = fold-PatTree Deep pat_step
 -- Expressions, from a level on.
 
 -- the reserved word of an operator
-abbrev pub op_word : Op → Word
+abbrev pub op_word : Op → ReservedWord
 op_word op.Add = word.Add
 op_word op.Sub = word.Sub
 op_word op.Mul = word.Mul
@@ -313,7 +313,7 @@ fun_written f rest =
     ∷ expr_written f.body 1 (sym symbol.Semicolon ∷ rest))))
 
 -- the reserved word of a derived layout: `boxed` or `packed`
-abbrev pub auto_word : Auto → Word
+abbrev pub auto_word : Auto → ReservedWord
 auto_word auto.Boxed = word.Boxed
 auto_word auto.Packed = word.Packed
 

@@ -3,13 +3,13 @@ use Rattle.std.specs.Prelude.{ℕ, List, [], ◌∷◌, codes, ◌==◌, if◌th
 use Rattle.std.specs.List.{starts_with}
 use Rattle.std.specs.Cmp.Lexicographic.{pointwise}
 use Rattle.rb_core.specs.Decimal.{number_in}
-use Rattle.rb_syntax.specs.declared.token.Word.{Word}
-use Rattle.rb_syntax.specs.declared.token.Word.TheVariants as word
+use Rattle.rb_syntax.specs.declared.token.ReservedWord.{ReservedWord}
+use Rattle.rb_syntax.specs.declared.token.ReservedWord.TheVariants as word
 use Rattle.rb_syntax.specs.declared.token.Symbol.{Symbol}
 use Rattle.rb_syntax.specs.declared.token.Symbol.TheVariants as symbol
 
 -- the bytes that a reserved word is written with
-abbrev pub word_text : Word → List ℕ
+abbrev pub word_text : ReservedWord → List ℕ
 word_text word.Type = codes "type"
 word_text word.Layout = codes "layout"
 word_text word.Fun = codes "fun"
@@ -54,7 +54,7 @@ symbol_text symbol.FatArrow = codes "=>"
 symbol_text symbol.Underscore = codes "_"
 
 -- all reserved words but `u1` to `u64`
-abbrev pub words : List Word
+abbrev pub words : List ReservedWord
 words = word.Type ∷ word.Layout ∷ word.Fun ∷ word.Let ∷ word.In ∷ word.Match ∷ word.Word ∷ word.Split ∷ word.Else
     ∷ word.Inline ∷ word.Boxed ∷ word.Packed ∷ word.Add ∷ word.Sub ∷ word.Mul ∷ word.And ∷ word.Or ∷ word.Xor
     ∷ word.Eq ∷ word.Lt ∷ word.To ∷ []
@@ -67,7 +67,7 @@ symbols =
     ∷ symbol.OpenBracket ∷ symbol.CloseBracket ∷ symbol.Dot ∷ symbol.At ∷ symbol.Underscore ∷ []
 
 -- the reserved word that is written so, if there is one; u1 to u64 aside
-abbrev pub word_of : List ℕ → Option Word
+abbrev pub word_of : List ℕ → Option ReservedWord
 word_of name = find (λ w. pointwise nat_eq (word_text w) name) words
 
 -- the first symbol of `symbols` that stands at the front of bytes, if there is one

@@ -14,7 +14,7 @@ mod list;
 mod pattern;
 mod split;
 
-use crate::token::{Symbol, Token, Word};
+use crate::token::{ReservedWord, Symbol, Token};
 use crate::tree::{NameTree, TyTree};
 pub use file::spell_file;
 use std::alloc::{AllocError, Global};
@@ -35,7 +35,7 @@ pub(crate) fn put_symbol(out: &mut Vec<Token>, symbol: Symbol) -> Result<(), All
 }
 
 /// Puts a reserved word in front of what was put before it.
-pub(crate) fn put_word(out: &mut Vec<Token>, word: Word) -> Result<(), AllocError>
+pub(crate) fn put_word(out: &mut Vec<Token>, word: ReservedWord) -> Result<(), AllocError>
     ensures { OnOk result (Wrote (λ rest. written.token (tok.Reserved word) ∷ rest) out.old.items out.new.items) }
 {
     put(out, Token::Reserved(word))

@@ -7,7 +7,7 @@ use rb_core::types::Name;
 
 /// A reserved word. The words `u1` to `u64` are reserved too: see `Token::Uint`.
 #[derive(Clone, Copy, PartialEq, Eq, Debug)]
-pub enum Word {
+pub enum ReservedWord {
     Type,
     Layout,
     Fun,
@@ -64,7 +64,7 @@ pub enum Token {
     /// A number in decimal.
     Num(u64),
     /// A reserved word.
-    Reserved(Word),
+    Reserved(ReservedWord),
     /// The type of integers of so many bits, 1 to 64: `u1` to `u64`.
     Uint(u8),
     /// A symbol.
@@ -101,57 +101,57 @@ pub const SYMBOLS: [Symbol; 18] = [
 ];
 
 /// All reserved words but `u1` to `u64`.
-pub const WORDS: [Word; 21] = [
-    Word::Type,
-    Word::Layout,
-    Word::Fun,
-    Word::Let,
-    Word::In,
-    Word::Match,
-    Word::Word,
-    Word::Split,
-    Word::Else,
-    Word::Inline,
-    Word::Boxed,
-    Word::Packed,
-    Word::Add,
-    Word::Sub,
-    Word::Mul,
-    Word::And,
-    Word::Or,
-    Word::Xor,
-    Word::Eq,
-    Word::Lt,
-    Word::To,
+pub const WORDS: [ReservedWord; 21] = [
+    ReservedWord::Type,
+    ReservedWord::Layout,
+    ReservedWord::Fun,
+    ReservedWord::Let,
+    ReservedWord::In,
+    ReservedWord::Match,
+    ReservedWord::Word,
+    ReservedWord::Split,
+    ReservedWord::Else,
+    ReservedWord::Inline,
+    ReservedWord::Boxed,
+    ReservedWord::Packed,
+    ReservedWord::Add,
+    ReservedWord::Sub,
+    ReservedWord::Mul,
+    ReservedWord::And,
+    ReservedWord::Or,
+    ReservedWord::Xor,
+    ReservedWord::Eq,
+    ReservedWord::Lt,
+    ReservedWord::To,
 ];
 
-impl Word {
+impl ReservedWord {
     /// The bytes that the word is written with.
     pub fn text(self) -> &'static [u8]
         ensures { result.now ≡ word_text self }
     {
         match self {
-            Word::Type => b"type",
-            Word::Layout => b"layout",
-            Word::Fun => b"fun",
-            Word::Let => b"let",
-            Word::In => b"in",
-            Word::Match => b"match",
-            Word::Word => b"word",
-            Word::Split => b"split",
-            Word::Else => b"else",
-            Word::Inline => b"inline",
-            Word::Boxed => b"boxed",
-            Word::Packed => b"packed",
-            Word::Add => b"add",
-            Word::Sub => b"sub",
-            Word::Mul => b"mul",
-            Word::And => b"and",
-            Word::Or => b"or",
-            Word::Xor => b"xor",
-            Word::Eq => b"eq",
-            Word::Lt => b"lt",
-            Word::To => b"to",
+            ReservedWord::Type => b"type",
+            ReservedWord::Layout => b"layout",
+            ReservedWord::Fun => b"fun",
+            ReservedWord::Let => b"let",
+            ReservedWord::In => b"in",
+            ReservedWord::Match => b"match",
+            ReservedWord::Word => b"word",
+            ReservedWord::Split => b"split",
+            ReservedWord::Else => b"else",
+            ReservedWord::Inline => b"inline",
+            ReservedWord::Boxed => b"boxed",
+            ReservedWord::Packed => b"packed",
+            ReservedWord::Add => b"add",
+            ReservedWord::Sub => b"sub",
+            ReservedWord::Mul => b"mul",
+            ReservedWord::And => b"and",
+            ReservedWord::Or => b"or",
+            ReservedWord::Xor => b"xor",
+            ReservedWord::Eq => b"eq",
+            ReservedWord::Lt => b"lt",
+            ReservedWord::To => b"to",
         }
     }
 }

@@ -3,11 +3,11 @@
 ghost use Rattle.std.specs.Prelude.{◌≡◌};
 ghost use Rattle.rb_syntax.specs.Words as text;
 
-use crate::token::{SYMBOLS, Symbol, WORDS, Word};
+use crate::token::{ReservedWord, SYMBOLS, Symbol, WORDS};
 use rb_core::decimal::number_in;
 
 /// The reserved word that is written so, `u1` to `u64` aside; `None` where there is none.
-pub fn word_of(name: &[u8]) -> Option<Word>
+pub fn word_of(name: &[u8]) -> Option<ReservedWord>
     ensures { result ≡ text.word_of name.now }
 {
     WORDS.iter().copied().find(|word| word.text() == name)

@@ -2,7 +2,7 @@
 use Rattle.std.specs.Prelude.{ℕ, zero, suc, List, [], ◌∷◌, ◌++◌, length, drop, Bool, false, if◌then◌else◌, Option, Some, None, Result, Ok, Err}
 use Rattle.rb_syntax.specs.declared.token.Symbol.{Symbol}
 use Rattle.rb_syntax.specs.declared.token.Symbol.TheVariants as symbol
-use Rattle.rb_syntax.specs.declared.token.Word.{Word}
+use Rattle.rb_syntax.specs.declared.token.ReservedWord.{ReservedWord}
 use Rattle.rb_syntax.specs.declared.token.Token.{Token}
 use Rattle.rb_read.specs.inner.Starting.{is_symbol, is_word}
 
@@ -57,7 +57,7 @@ abbrev pub expect : Symbol → Reader (Unit {0})
 expect s = passing (λ t. is_symbol s t)
 
 -- takes the reserved word `w`; else it is stuck where another token stands, or none
-abbrev pub expect_word : Word → Reader (Unit {0})
+abbrev pub expect_word : ReservedWord → Reader (Unit {0})
 expect_word w = passing (λ t. is_word w t)
 
 -- what is read of a list, with the parts `xs` in front of it; a fault stays

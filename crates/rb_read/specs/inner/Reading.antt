@@ -14,7 +14,7 @@ use Rattle.rb_core.specs.declared.layout_decl.LayItem.TheVariants as lay_item
 use Rattle.rb_core.specs.declared.layout_decl.PartKind.{PartKind}
 use Rattle.rb_core.specs.declared.layout_decl.PartKind.TheVariants as kind
 use Rattle.rb_core.specs.declared.layout_decl.PartDecl.{PartDecl}
-use Rattle.rb_syntax.specs.declared.token.Word.TheVariants as word
+use Rattle.rb_syntax.specs.declared.token.ReservedWord.TheVariants as word
 use Rattle.rb_syntax.specs.declared.token.Symbol.TheVariants as symbol
 use Rattle.rb_syntax.specs.declared.token.Token.{Token}
 use Rattle.rb_syntax.specs.declared.token.Token.TheVariants as token

@@ -2,8 +2,8 @@
 -- a conversion to a width, a binding, or a match. The form `Other` says that no expression begins with the word.
 use Rattle.std.specs.Prelude.{ℕ, Bool, true, false, ◌==◌}
 use Rattle.rb_core.specs.declared.expression.Op.TheVariants as op
-use Rattle.rb_syntax.specs.declared.token.Word.{Word}
-use Rattle.rb_syntax.specs.declared.token.Word.TheVariants as word
+use Rattle.rb_syntax.specs.declared.token.ReservedWord.{ReservedWord}
+use Rattle.rb_syntax.specs.declared.token.ReservedWord.TheVariants as word
 use Rattle.rb_syntax.specs.declared.token.Symbol.{Symbol}
 use Rattle.rb_syntax.specs.declared.token.Symbol.TheVariants as symbol
 use Rattle.rb_syntax.specs.declared.token.Token.{Token}
@@ -33,7 +33,7 @@ symbol_number symbol.FatArrow = 16
 symbol_number symbol.Underscore = 17
 
 -- a number for each reserved word, by which words are compared: different words have different numbers
-abbrev pub word_number : Word → ℕ
+abbrev pub word_number : ReservedWord → ℕ
 word_number word.Type = 0
 word_number word.Layout = 1
 word_number word.Fun = 2
@@ -62,7 +62,7 @@ is_symbol s (token.Symbol t) = symbol_number t == symbol_number s
 is_symbol s _ = false
 
 -- whether a token is the reserved word `w`
-abbrev pub is_word : Word → Token → Bool
+abbrev pub is_word : ReservedWord → Token → Bool
 is_word w (token.Reserved v) = word_number v == word_number w
 is_word w _ = false
 
@@ -72,7 +72,7 @@ is_number (token.Num n) = true
 is_number _ = false
 
 -- the form of the expression that a reserved word begins, or `Other` where it begins none
-unfoldable pub form_of : Word → Form
+unfoldable pub form_of : ReservedWord → Form
 form_of word.Add = form.Operation op.Add
 form_of word.Sub = form.Operation op.Sub
 form_of word.Mul = form.Operation op.Mul

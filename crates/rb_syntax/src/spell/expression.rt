@@ -5,7 +5,7 @@
 ghost use Rattle.std.specs.Prelude.{◌≡◌, ◌∷◌, ℕ, suc, map, OnOk};
 ghost use Rattle.rb_core.specs.declared.expression.Op.{Op};
 ghost use Rattle.rb_syntax.specs.declared.token.Symbol.TheVariants as symbol;
-ghost use Rattle.rb_syntax.specs.declared.token.Word.TheVariants as word;
+ghost use Rattle.rb_syntax.specs.declared.token.ReservedWord.TheVariants as word;
 ghost use Rattle.rb_syntax.specs.inner.Backward.{Wrote};
 ghost use Rattle.rb_syntax.specs.Written as written;
 ghost use Rattle.rb_syntax.specs.Written.{any_with, some_with};
@@ -14,23 +14,23 @@ ghost use Rattle.rb_syntax.specs.Spelling.{expr_written, clause_written, fields_
 
 use crate::spell::pattern::put_pat;
 use crate::spell::{put_lower, put_num, put_symbol, put_ty, put_uint, put_upper, put_word};
-use crate::token::{Symbol, Token, Word};
+use crate::token::{ReservedWord, Symbol, Token};
 use crate::tree::{ClauseTree, ExprTree, NameTree, Op, TyTree};
 use std::alloc::{AllocError, Global};
 
 // The reserved word of an operator.
-fn word_of_op(op: Op) -> Word
+fn word_of_op(op: Op) -> ReservedWord
     ensures { result ≡ op_word op }
 {
     match op {
-        Op::Add => Word::Add,
-        Op::Sub => Word::Sub,
-        Op::Mul => Word::Mul,
-        Op::And => Word::And,
-        Op::Or => Word::Or,
-        Op::Xor => Word::Xor,
-        Op::Eq => Word::Eq,
-        Op::Lt => Word::Lt,
+        Op::Add => ReservedWord::Add,
+        Op::Sub => ReservedWord::Sub,
+        Op::Mul => ReservedWord::Mul,
+        Op::And => ReservedWord::And,
+        Op::Or => ReservedWord::Or,
+        Op::Xor => ReservedWord::Xor,
+        Op::Eq => ReservedWord::Eq,
+        Op::Lt => ReservedWord::Lt,
     }
 }
 
@@ -61,7 +61,7 @@ pub(crate) fn put_expr(
             put_expr(alloc, out, a.get())?;
             put_symbol(out, Symbol::OpenParen)?;
             put_uint(out, *bits)?;
-            put_word(out, Word::To)?;
+            put_word(out, ReservedWord::To)?;
             Ok(())
         }
         ExprTree::Let(_, name, ty, a, b) => put_let(alloc, out, name, ty, a.get(), b.get()),
@@ -129,13 +129,13 @@ fn put_let(
         out.old.items out.new.items) }
 {
     put_expr(alloc, out, b)?;
-    put_word(out, Word::In)?;
+    put_word(out, ReservedWord::In)?;
     put_expr(alloc, out, a)?;
     put_symbol(out, Symbol::Equals)?;
     put_ty(alloc, out, ty)?;
     put_symbol(out, Symbol::Colon)?;
     put_lower(alloc, out, name)?;
-    put_word(out, Word::Let)?;
+    put_word(out, ReservedWord::Let)?;
     Ok(())
 }
 
@@ -156,7 +156,7 @@ fn put_match(
     put_clauses(alloc, out, clauses)?;
     put_symbol(out, Symbol::OpenBrace)?;
     put_expr(alloc, out, scrutinee)?;
-    put_word(out, Word::Match)?;
+    put_word(out, ReservedWord::Match)?;
     Ok(())
 }
 

@@ -3,7 +3,7 @@
 ghost use Rattle.std.specs.Prelude.{◌≡◌, ◌∷◌, map, OnOk, IfOk};
 ghost use Rattle.rb_core.specs.declared.types.Auto.{Auto};
 ghost use Rattle.rb_syntax.specs.declared.token.Symbol.TheVariants as symbol;
-ghost use Rattle.rb_syntax.specs.declared.token.Word.TheVariants as word;
+ghost use Rattle.rb_syntax.specs.declared.token.ReservedWord.TheVariants as word;
 ghost use Rattle.rb_syntax.specs.inner.Backward.{Wrote};
 ghost use Rattle.rb_syntax.specs.Written.{each};
 ghost use Rattle.rb_syntax.specs.Spelling as spelling;
@@ -13,7 +13,7 @@ use crate::spell::expression::put_expr;
 use crate::spell::list::{Spell, put_each, put_list};
 use crate::spell::split::put_split;
 use crate::spell::{put_lower, put_num, put_symbol, put_ty, put_upper, put_word};
-use crate::token::{Symbol, Token, Word};
+use crate::token::{ReservedWord, Symbol, Token};
 use crate::tree::{
     Auto, ConTree, FileTree, FunTree, ItemTree, LayoutTree, NameTree, ParamTree, TyTree, TypeTree,
 };
@@ -63,7 +63,7 @@ fn put_type(alloc: Global, out: &mut Vec<Token>, tree: &TypeTree) -> Result<(), 
     put_list(alloc, out, Symbol::Bar, tree.cons.as_slice())?;
     put_symbol(out, Symbol::Equals)?;
     put_upper(alloc, out, &tree.name)?;
-    put_word(out, Word::Type)?;
+    put_word(out, ReservedWord::Type)?;
     Ok(())
 }
 
@@ -88,7 +88,7 @@ fn put_layout(alloc: Global, out: &mut Vec<Token>, tree: &LayoutTree) -> Result<
     put_list(alloc, out, Symbol::Comma, tree.shape.as_slice())?;
     put_symbol(out, Symbol::Less)?;
     put_upper(alloc, out, &tree.ty)?;
-    put_word(out, Word::Layout)?;
+    put_word(out, ReservedWord::Layout)?;
     Ok(())
 }
 
@@ -117,17 +117,17 @@ fn put_fun(alloc: Global, out: &mut Vec<Token>, tree: &FunTree) -> Result<(), Al
     put_list(alloc, out, Symbol::Comma, tree.params.as_slice())?;
     put_symbol(out, Symbol::OpenParen)?;
     put_lower(alloc, out, &tree.name)?;
-    put_word(out, Word::Fun)?;
+    put_word(out, ReservedWord::Fun)?;
     Ok(())
 }
 
 // The reserved word of a derived layout: `boxed` or `packed`.
-fn word_of_auto(auto: Auto) -> Word
+fn word_of_auto(auto: Auto) -> ReservedWord
     ensures { result ≡ auto_word auto }
 {
     match auto {
-        Auto::Boxed => Word::Boxed,
-        Auto::Packed => Word::Packed,
+        Auto::Boxed => ReservedWord::Boxed,
+        Auto::Packed => ReservedWord::Packed,
     }
 }
 
@@ -146,7 +146,7 @@ fn put_derived(
     put_word(out, word_of_auto(auto))?;
     put_symbol(out, Symbol::Equals)?;
     put_upper(alloc, out, name)?;
-    put_word(out, Word::Layout)?;
+    put_word(out, ReservedWord::Layout)?;
     Ok(())
 }
 

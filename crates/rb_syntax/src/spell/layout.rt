@@ -5,13 +5,13 @@ ghost use Rattle.std.specs.Prelude.{◌≡◌, ◌∷◌, ℕ, map, OnOk};
 ghost use Rattle.rb_syntax.specs.inner.Backward.{Wrote};
 ghost use Rattle.rb_syntax.specs.Written.{any_with};
 ghost use Rattle.rb_syntax.specs.declared.token.Symbol.TheVariants as symbol;
-ghost use Rattle.rb_syntax.specs.declared.token.Word.TheVariants as word;
+ghost use Rattle.rb_syntax.specs.declared.token.ReservedWord.TheVariants as word;
 ghost use Rattle.rb_syntax.specs.Spelling as spelling;
 ghost use Rattle.rb_syntax.specs.Spelling.{range_written, field_written, path_written, loc_step_written, loc_written, lay_item_written, part_written, kind_written, at_level, comma};
 
 use crate::spell::list::{Spell, put_each};
 use crate::spell::{put_num, put_symbol, put_word};
-use crate::token::{Symbol, Token, Word};
+use crate::token::{ReservedWord, Symbol, Token};
 use crate::tree::{LayItem, Loc, PartDecl, PartKind, Step};
 use std::alloc::{AllocError, Global};
 
@@ -89,7 +89,7 @@ fn put_word_of(alloc: Global, out: &mut Vec<Token>, path: &[u32], j: u64) -> Res
         (spelling.reserved word.Word ∷ spelling.num j ∷ rest)) out.old.items out.new.items) }
 {
     put_num(out, j)?;
-    put_word(out, Word::Word)?;
+    put_word(out, ReservedWord::Word)?;
     put_path(alloc, out, path)?;
     Ok(())
 }
@@ -106,7 +106,7 @@ fn put_item(alloc: Global, out: &mut Vec<Token>, item: &LayItem) -> Result<(), A
         }
         LayItem::Inline(path) => {
             put_path(alloc, out, path.as_slice())?;
-            put_word(out, Word::Inline)?;
+            put_word(out, ReservedWord::Inline)?;
             Ok(())
         }
     }
@@ -129,7 +129,7 @@ fn put_word_item(
     put_parts(alloc, out, parts)?;
     put_symbol(out, Symbol::OpenBrace)?;
     put_num(out, bits)?;
-    put_word(out, Word::Word)?;
+    put_word(out, ReservedWord::Word)?;
     Ok(())
 }
 

@@ -3,7 +3,7 @@
 ghost use Rattle.std.specs.Prelude.{◌≡◌, ◌∷◌, ℕ, suc, map, OnOk};
 ghost use Rattle.rb_core.specs.declared.layout_decl.LayItem.{LayItem};
 ghost use Rattle.rb_syntax.specs.declared.token.Symbol.TheVariants as symbol;
-ghost use Rattle.rb_syntax.specs.declared.token.Word.TheVariants as word;
+ghost use Rattle.rb_syntax.specs.declared.token.ReservedWord.TheVariants as word;
 ghost use Rattle.rb_syntax.specs.inner.Backward.{Wrote};
 ghost use Rattle.rb_syntax.specs.Written.{each, any_with, some_with};
 ghost use Rattle.rb_syntax.specs.Spelling as spelling;
@@ -11,7 +11,7 @@ ghost use Rattle.rb_syntax.specs.Spelling.{below_written, prov_written, fields_w
 
 use crate::spell::layout::{put_items, put_loc};
 use crate::spell::{put_num, put_symbol, put_upper, put_word};
-use crate::token::{Symbol, Token, Word};
+use crate::token::{ReservedWord, Symbol, Token};
 use crate::tree::{ArmTree, LayItem, Loc, PatTree, SplitTree};
 use std::alloc::{AllocError, Global};
 
@@ -123,7 +123,7 @@ fn put_else(alloc: Global, out: &mut Vec<Token>, tree: &SplitTree) -> Result<(),
     put_symbol(out, Symbol::CloseBrace)?;
     put_split(alloc, out, tree)?;
     put_symbol(out, Symbol::FatArrow)?;
-    put_word(out, Word::Else)?;
+    put_word(out, ReservedWord::Else)?;
     Ok(())
 }
 
@@ -144,7 +144,7 @@ fn put_arms(
     }
     put_symbol(out, Symbol::OpenBrace)?;
     put_loc(alloc, out, loc)?;
-    put_word(out, Word::Split)?;
+    put_word(out, ReservedWord::Split)?;
     Ok(())
 }
 

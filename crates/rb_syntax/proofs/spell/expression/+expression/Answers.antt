@@ -1,6 +1,6 @@
 use Rattle.std.proofs.Common.{◌≡◌, ◌∷◌, map, drop, arith}
 use Rattle.rb_syntax.specs.declared.token.Symbol.TheVariants as symbol
-use Rattle.rb_syntax.specs.declared.token.Word.TheVariants as word
+use Rattle.rb_syntax.specs.declared.token.ReservedWord.TheVariants as word
 use Rattle.rb_syntax.specs.Written.{token, each_behind, any_with}
 use Rattle.rb_syntax.specs.Spelling.{expr_written, clause_written, lower_written, ty_written, at_level, comma, sym, reserved}
 use Rattle.rb_syntax.proofs.ListLemmas.{fields-some}
