@@ -1,7 +1,8 @@
 //! Code that reads the bits at locations: the slot that has them, and how many instructions stand in the body then.
-//! Both were counted by hand. Bits of a slot are taken; an address whose bits begin at the bit of its alignment is
-//! masked, by a number and an `and`, and one that is all of its word is multiplied, by a number and a `mul`; a word of
-//! a block is loaded, and nothing is taken of it where the location has all its bits.
+//! Both were counted by hand, by the form in which the code is made, which no contract fixes. Bits of a slot are taken;
+//! an address whose bits begin at the bit of its alignment is masked, by a number and an `and`, any other is taken,
+//! unless it is all of its word, and multiplied, by a number and a `mul`; a word of a block is loaded, and nothing is
+//! taken of it where the location has all its bits.
 
 use rb_core::layout_decl::{Loc, Step};
 use rb_core::seq::Seq;
@@ -48,5 +49,8 @@ fn locations_are_read(rt: HostRuntime) -> Result<(), Fail> {
     };
     let multiplied = location(rt.alloc(), 1, 0, 64, &[part])?;
     assert!(rt; fetched(rt.alloc(), &mut body, &multiplied)? == (9, 8));
+    // take, const, mul, load
+    let taken = location(rt.alloc(), 0, 4, 60, &[whole])?;
+    assert!(rt; fetched(rt.alloc(), &mut body, &taken)? == (13, 12));
     Ok(())
 }
