@@ -1,5 +1,5 @@
 -- What the part by the default matrix says of a problem.
-use Rattle.std.proofs.Common.{◌≡◌, ◌<◌, List, [], ◌∷◌, length, Bool, true, false, ◌&&◌, ◌||◌, not, Some, None, refl, sym, ap, ◌∙◌}
+use Rattle.std.proofs.Common.{◌≡◌, ◌<◌, List, [], ◌∷◌, length, Bool, true, false, ◌&&◌, not, Some, None, refl, sym, ap, ◌∙◌}
 use Rattle.std.proofs.Math.Bool.{and-false}
 use Rattle.std.proofs.lemmas.Bool.{false≢true}
 use Rattle.rb_core.specs.declared.value.Value.{Value, out-Value}
@@ -84,17 +84,13 @@ module _ (types : List DataDecl) (ty : Ty) (ts : List Ty) (wanted unwanted : Lis
       by true e = none v vs (all v e)
       by false e = off _ (vector_of types ts vs) (all_rows wanted (v ∷ vs) && not (any_row unwanted (v ∷ vs))) e
 
-or-false : (b : Bool) → (b || false) ≡ b
-or-false true = refl
-or-false false = refl
-
 -- a wanted row begins with the one head
 pub one-none : (types : List DataDecl) (ty : Ty) (ts : List Ty) (wanted unwanted : List (List Pat)) (h : Head) → first_head wanted ≡ Some h
-    → ((v : Value) (vs : List Value) → any_begins (h ∷ []) (out-Value v) ≡ true → useful_by types (ty ∷ ts) wanted unwanted (v ∷ vs) ≡ false) → AreUseless types (ty ∷ ts) wanted unwanted
+    → ((v : Value) (vs : List Value) → begins h v ≡ true → useful_by types (ty ∷ ts) wanted unwanted (v ∷ vs) ≡ false) → AreUseless types (ty ∷ ts) wanted unwanted
 one-none types ty ts wanted unwanted h first none [] = refl
 one-none types ty ts wanted unwanted h first none (v ∷ vs) = by (begins h v) refl
   where
     by : (b : Bool) → begins h v ≡ b → useful_by types (ty ∷ ts) wanted unwanted (v ∷ vs) ≡ false
-    by true e = none v vs (or-false (begins h v) ∙ e)
+    by true e = none v vs e
     by false e = ap (λ b. (is_of_type types v ty && vector_of types ts vs) && (b && not (any_row unwanted (v ∷ vs)))) (first-lost v vs wanted h first e)
         ∙ and-false (is_of_type types v ty && vector_of types ts vs)

@@ -1,6 +1,6 @@
 -- What stands in patterns and values at a path, and which numbers an index keeps.
 use Rattle.std.proofs.Common.{◌≡◌, ℕ, zero, suc, ◌+◌, ◌<◌, List, [], ◌∷◌, ◌++◌, map, length, true, ◌==◌, Option, Some, None, Result, Ok, Err, refl, sym, ap, ◌∙◌, subst, arith, Bor, ◌⊎◌, inl, inr}
-use Rattle.std.specs.Prelude.{slice_get, slice_index_or, IfSome, IfOk, OnOk, Contains, MatchOption}
+use Rattle.std.specs.Prelude.{slice_get, slice_index_or, IfSome, IfOk, OnOk, Contains, unwrap_or}
 use Rattle.std.specs.Option.{option_copied}
 use Rattle.std.specs.Ordering.{nat_cmp}
 use Rattle.std.specs.BTreeMap as tree
@@ -16,7 +16,8 @@ use Rattle.rb_core.specs.Matching.{all_pass, is_con, matches_of}
 use Rattle.rb_core.specs.Values.{subs, subs_in}
 use Rattle.rb_matrix.specs.declared.index.Index.{Index}
 use Rattle.rb_matrix.specs.Apart.{PatternsAreApart}
-use Rattle.rb_matrix.specs.inner.Index.{key_of, HasKey, IsInGroup, IsGrouped, ExtendsIndex, AreNear}
+use Rattle.rb_matrix.specs.inner.Groups.{numbers_with, IsGrouped, IsNumberAdded}
+use Rattle.rb_matrix.specs.inner.Index.{key_of, HasKey, IsInGroup, ExtendsIndex, AreNear}
 use Rattle.rb_matrix.proofs.Differing.{at-con, pass-at}
 use Rattle.rb_matrix.proofs.Vectors.{and-right}
 
@@ -73,24 +74,40 @@ pub on-ok : {A E : Type 0} (r : Result A E) (P Q : Type 0) → OnOk r P → (P �
 on-ok (Ok u) P Q h f = f h
 on-ok (Err e) P Q h f = tt
 
-pub extends-keyless : (i : ℕ) (p : Pat) (old : Index) (more : List ℕ) → more ≡ old.keyless ++ i ∷ []
-    → ExtendsIndex i p old (record { path = old.path; keyless = more; groups = old.groups })
-extends-keyless i p old more is = λ ps len h j q at. elim (get-push ps p j q at) [
-  | inl l ↦ elim (h j q l) [
-    | inl c ↦ inl (subst (λ (l : List ℕ). Contains l j) (sym is) (Contains-append_left old.keyless (i ∷ []) j c))
-    | inr k ↦ inr k
+-- a number is added to its group, or to those without a key
+module _ (i : ℕ) (p : Pat) (old new : Index) (path : new.path ≡ old.path) where
+  extends-keyless : (new.numbers.keyless ≡ old.numbers.keyless ++ i ∷ []) × (new.numbers.by_key ≡ old.numbers.by_key) → ExtendsIndex i p old new
+  extends-keyless a = λ ps len h j q at. elim (get-push ps p j q at) [
+    | inl l ↦ elim (h j q l) [
+      | inl c ↦ inl (subst (λ (l : List ℕ). Contains l j) (sym a.0) (Contains-append_left old.numbers.keyless (i ∷ []) j c))
+      | inr m ↦ inr (m.0, subst (λ path. HasKey q path m.0) (sym path) m.1, subst (λ b. Contains (unwrap_or (tree.get nat_cmp b m.0) []) j) (sym a.1) m.2)
+    ]
+    | inr s ↦ inl (subst (λ (l : List ℕ). Contains l j) (sym a.0) (subst (Contains (old.numbers.keyless ++ i ∷ [])) (sym (s.0 ∙ len)) (Contains-push old.numbers.keyless i)))
   ]
-  | inr s ↦ inl (subst (λ (l : List ℕ). Contains l j) (sym is) (subst (Contains (old.keyless ++ i ∷ [])) (sym (s.0 ∙ len)) (Contains-push old.keyless i)))
-]
 
-pub extends-grouped : (i : ℕ) (p : Pat) (old new : Index) (k : ℕ) → HasKey p old.path k → IsGrouped k i old new → ExtendsIndex i p old new
-extends-grouped i p old new k has g = λ ps len h j q at. elim (get-push ps p j q at) [
-  | inl l ↦ elim (h j q l) [
-    | inl c ↦ inl (subst (λ (l : List ℕ). Contains l j) (sym g.keyless) c)
-    | inr m ↦ inr (m.0, subst (λ path. HasKey q path m.0) (sym g.path) m.1, g.kept m.0 j m.2)
-  ]
-  | inr s ↦ inr (k, subst (λ path. HasKey q path k) (sym g.path) (subst (λ (x : Pat). HasKey x old.path k) s.1 has), subst (IsInGroup new k) (sym (s.0 ∙ len)) g.here)
-]
+  module _ (k : ℕ) (has : HasKey p old.path k) (g : IsGrouped k i old.numbers new.numbers) where
+    kept : (q j : ℕ) → IsInGroup old q j → IsInGroup new q j
+    kept q j c = elim (cases_eq q k) [
+      | inl e ↦ subst (λ (l : List ℕ). Contains l j) (sym (subst (λ q. numbers_with new.numbers q ≡ numbers_with old.numbers q ++ i ∷ []) (sym e) g.here))
+          (Contains-append_left (numbers_with old.numbers q) (i ∷ []) j c)
+      | inr ne ↦ subst (λ (l : List ℕ). Contains l j) (sym (g.others q ne)) c
+    ]
+
+    here : IsInGroup new k i
+    here = subst (λ (l : List ℕ). Contains l i) (sym g.here) (Contains-push (numbers_with old.numbers k) i)
+
+    extends-grouped : ExtendsIndex i p old new
+    extends-grouped = λ ps len h j q at. elim (get-push ps p j q at) [
+      | inl l ↦ elim (h j q l) [
+        | inl c ↦ inl (subst (λ (l : List ℕ). Contains l j) (sym g.keyless) c)
+        | inr m ↦ inr (m.0, subst (λ path. HasKey q path m.0) (sym path) m.1, kept m.0 j m.2)
+      ]
+      | inr s ↦ inr (k, subst (λ path. HasKey q path k) (sym path) (subst (λ (x : Pat). HasKey x old.path k) s.1 has), subst (IsInGroup new k) (sym (s.0 ∙ len)) here)
+    ]
+
+  pub extends-added : (key : Option ℕ) → IfSome key (HasKey p old.path) → IsNumberAdded key i old.numbers new.numbers → ExtendsIndex i p old new
+  extends-added None has a = extends-keyless a
+  extends-added (Some k) has a = extends-grouped k has a
 
 -- all numbers
 pub near-all : (p : Pat) (n : ℕ) (x : Index) (js : List ℕ) → ((j : ℕ) → j < n → Contains js j) → AreNear p n x js
@@ -108,7 +125,7 @@ below-push js more n is h j lt = subst (λ (l : List ℕ). Contains l j) (sym is
 
 module _ (p : Pat) (n : ℕ) (x : Index) (js : List ℕ) (key : ℕ) (has : HasKey p x.path key) where
   -- those without a key and those of this one
-  near-some : ((j : ℕ) → Contains x.keyless j → Contains js j) → ((j : ℕ) → IsInGroup x key j → Contains js j) → AreNear p n x js
+  near-some : ((j : ℕ) → Contains x.numbers.keyless j → Contains js j) → ((j : ℕ) → IsInGroup x key j → Contains js j) → AreNear p n x js
   near-some keyless same = λ ps len h j q at. elim (h j q at) [
     | inl c ↦ inl (keyless j c)
     | inr m ↦ elim (cases_eq m.0 key) [
@@ -117,9 +134,6 @@ module _ (p : Pat) (n : ℕ) (x : Index) (js : List ℕ) (key : ℕ) (has : HasK
     ]
   ]
 
-  pub near-none : tree.get nat_cmp x.groups key ≡ None → js ≡ x.keyless → AreNear p n x js
-  near-none missing is = near-some (λ j c. subst (λ (l : List ℕ). Contains l j) (sym is) c) (λ j c. absurd (subst (λ (o : Option (List ℕ)). MatchOption o ⊥ (λ g. Contains g j)) missing c))
-
-  pub near-group : (g : List ℕ) → tree.get nat_cmp x.groups key ≡ Some g → js ≡ x.keyless ++ g → AreNear p n x js
-  near-group g there is = near-some (λ j c. subst (λ (l : List ℕ). Contains l j) (sym is) (Contains-append_left x.keyless g j c))
-      (λ j c. subst (λ (l : List ℕ). Contains l j) (sym is) (Contains-append_right x.keyless g j (subst (λ (o : Option (List ℕ)). MatchOption o ⊥ (λ g. Contains g j)) there c)))
+  pub near-group : js ≡ x.numbers.keyless ++ numbers_with x.numbers key → AreNear p n x js
+  near-group is = near-some (λ j c. subst (λ (l : List ℕ). Contains l j) (sym is) (Contains-append_left x.numbers.keyless (numbers_with x.numbers key) j c))
+      (λ j c. subst (λ (l : List ℕ). Contains l j) (sym is) (Contains-append_right x.numbers.keyless (numbers_with x.numbers key) j c))

@@ -7,6 +7,7 @@ pub mod Differing
 pub mod Examples
 pub mod Exhausts
 pub mod FirstAbsent
+pub mod Grouping
 pub mod HeadLemmas
 pub mod Inhabited
 pub mod Keys

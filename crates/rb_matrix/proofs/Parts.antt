@@ -38,7 +38,7 @@ pub same_or : (n m : ℕ) (b : Bool) → (n == m) ≡ b → (n ≡ m) ⊎ (n ≡
 same_or n m true e = inl (eqb-true n m e)
 same_or n m false e = inr (eqb-false n m e)
 
-none≢some : {A B : Type 0} (x : A) → None ≡ Some x → B
+pub none≢some : {A B : Type 0} (x : A) → None ≡ Some x → B
 none≢some x e = cc
 
 -- A head's fields at a type ----------------------------------------------------------------------

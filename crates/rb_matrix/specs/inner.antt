@@ -1,5 +1,6 @@
 pub mod Against
 pub mod Borrowed
+pub mod Groups
 pub mod Index
 pub mod Indexes
 pub mod Left

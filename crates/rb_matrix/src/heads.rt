@@ -6,6 +6,7 @@ ghost use Rattle.std.specs.Prelude.{◌≡◌, ◌+◌, ◌≤◌, ◌||◌, ℕ
 ghost use Rattle.rb_core.specs.declared.value.Value as Values;
 ghost use Rattle.rb_core.specs.declared.value.Value.TheOpen as Layers;
 ghost use Rattle.rb_matrix.specs.Heads.{layer_begins, any_begins, option_begins, row_head, sample, some_head};
+ghost use Rattle.rb_matrix.specs.inner.Groups.{key_of_head as the_key};
 ghost use Rattle.rb_matrix.specs.Known.{has, with_head, AreNumbersOf};
 
 use crate::matrix::Head;
@@ -26,6 +27,17 @@ pub fn head_of_row(row: &[Pat]) -> Option<Head>
             Pat::Num(_, number) => Some(Head::Num(*number)),
             Pat::Con(_, con, _) => Some(Head::Con(*con)),
         },
+    }
+}
+
+/// A head's key: the number that it is, or that of the constructor in its type. Heads alike have
+/// the same.
+pub(crate) fn key_of_head(head: Head) -> u64
+    ensures { result ≡ the_key head }
+{
+    match head {
+        Head::Num(number) => number,
+        Head::Con(con) => u64::from(con.con),
     }
 }
 

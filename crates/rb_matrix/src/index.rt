@@ -9,13 +9,13 @@ ghost use Rattle.rb_core.specs.Matching.{matches_of};
 ghost use Rattle.rb_core.specs.Values.{subs};
 ghost use Rattle.std.specs.Bool.{OnTrue};
 ghost use Rattle.rb_matrix.specs.inner.Against.{IsCovered};
-ghost use Rattle.rb_matrix.specs.inner.Index.{HasKey, IsIndex, IsGrouped, ExtendsIndex, AreNear};
+ghost use Rattle.rb_matrix.specs.inner.Index.{HasKey, IsIndex, ExtendsIndex, AreNear};
 
 use crate::apart::covers;
+use crate::groups::Groups;
 use rb_core::pattern::Pat;
 use rb_core::seq::Seq;
 use std::alloc::{AllocError, Global};
-use std::collections::BTreeMap;
 
 // The subpattern of a field; None where the pattern is not a constructor with such a field.
 fn field_of(pat: &Pat, field: usize) -> Option<&Pat>
@@ -94,13 +94,11 @@ fn are_covering(pats: &[Pat], numbers: &[usize], pat: &Pat) -> bool
     false
 }
 
-/// The numbers of patterns, by what stands in the patterns at one path: those of the patterns
-/// without a key, and for each key those of the patterns that have it.
+/// The numbers of patterns, in groups by what stands in the patterns at one path.
 #[derive(Drop)]
 pub struct Index {
     pub path: Seq<usize>,
-    pub keyless: Seq<usize>,
-    pub groups: BTreeMap<u64, Seq<usize>>,
+    pub numbers: Groups,
 }
 
 impl Index {
@@ -110,23 +108,8 @@ impl Index {
     {
         Index {
             path,
-            keyless: Seq::new(alloc),
-            groups: BTreeMap::new(alloc),
+            numbers: Groups::new(alloc),
         }
-    }
-
-    // Adds a number behind those of the patterns with this key; it is the first where no pattern
-    // has the key yet.
-    fn add_to_group(&mut self, alloc: Global, number: usize, key: u64) -> Result<(), AllocError>
-        ensures { OnOk result (IsGrouped key number self.old self.new) }
-    {
-        let mut group = match self.groups.remove(&key) {
-            None => Seq::new(alloc),
-            Some(group) => group,
-        };
-        group.push(number)?;
-        self.groups.insert(key, group)?;
-        Ok(())
     }
 
     /// Adds a pattern under its key at the index's path, or to those without one. Its number is how
@@ -138,23 +121,18 @@ impl Index {
     pub fn add(&mut self, alloc: Global, number: usize, pat: &Pat) -> Result<(), AllocError>
         ensures { OnOk result (ExtendsIndex number pat.now self.old self.new) }
     {
-        match key_at(pat, self.path.as_slice()) {
-            None => self.keyless.push(number),
-            Some(key) => self.add_to_group(alloc, number, key),
-        }
+        let key = key_at(pat, self.path.as_slice());
+        self.numbers.add(alloc, number, key)
     }
 
     /// How many patterns of the index have this one's key or none; where this one has none, how
     /// many have none.
     pub fn count_alike(&self, pat: &Pat) -> usize {
-        let count = self.keyless.len();
+        let count = self.numbers.keyless.len();
         let Some(key) = key_at(pat, self.path.as_slice()) else {
             return count;
         };
-        match self.groups.get(&key) {
-            None => count,
-            Some(group) => count.saturating_add(group.len()),
-        }
+        count.saturating_add(self.numbers.group(key).len())
     }
 
     /// How many numbers [`near`](Index::near) gives for this pattern: `count` where it has no key,
@@ -173,16 +151,13 @@ impl Index {
     pub fn has_covering(&self, pats: &[Pat], pat: &Pat) -> bool
         ensures { OnTrue result (IsCovered pat.now pats.now) }
     {
-        if are_covering(pats, self.keyless.as_slice(), pat) {
+        if are_covering(pats, self.numbers.keyless.as_slice(), pat) {
             return true;
         }
         let Some(key) = key_at(pat, self.path.as_slice()) else {
             return false;
         };
-        match self.groups.get(&key) {
-            None => false,
-            Some(group) => are_covering(pats, group.as_slice(), pat),
-        }
+        are_covering(pats, self.numbers.group(key), pat)
     }
 
     /// The numbers of those among the `count` patterns of the index that may have a value in common
@@ -197,9 +172,6 @@ impl Index {
         let Some(key) = key_at(pat, self.path.as_slice()) else {
             return numbers_below(alloc, count);
         };
-        match self.groups.get(&key) {
-            None => self.keyless.copy(alloc),
-            Some(group) => joined(alloc, &self.keyless, group.as_slice()),
-        }
+        joined(alloc, &self.numbers.keyless, self.numbers.group(key))
     }
 }

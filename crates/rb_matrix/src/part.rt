@@ -8,13 +8,19 @@ ghost use Rattle.rb_matrix.specs.declared.problem.Left.TheVariants.{Whole, ByHea
 ghost use Rattle.rb_matrix.specs.Heads.{column_begins, some_head};
 ghost use Rattle.rb_matrix.specs.FirstHead.{first_head};
 ghost use Rattle.rb_matrix.specs.Search.{AreInhabited, IsTypeIn, AreTypesIn};
+ghost use Rattle.rb_matrix.specs.inner.Groups.{AreGrouped};
 ghost use Rattle.rb_matrix.specs.inner.Problems.{IsPartAt, step_of, with_column};
 ghost use Rattle.rb_matrix.specs.Signature.{IsAbsent};
 ghost use Rattle.rb_matrix.specs.inner.Left.{IsReady, IsSplit, wholes};
 
+use crate::groups::Groups;
+use crate::heads::key_of_head;
 use crate::matrix::Head;
 use crate::problem::{Branches, Left, Problem, Step};
-use crate::rows::{first_head_in, heads_in, into_default, into_specialized, special_copies};
+use crate::rows::{
+    first_head_in, grouped, heads_in, into_default, into_specialized, special_copies,
+    special_numbered,
+};
 use crate::signature::absent_pattern;
 use crate::specialization::head_fields;
 use crate::stack::Stack;
@@ -90,17 +96,21 @@ fn step_for(ty: Ty, head: Head, fields: usize) -> Step
 
 // The part of a problem for a head: what is left where the first value begins with it. None where
 // there is no such vector, since the head is not of the type, or a wanted row has no specialised
-// row for it. The problem stays, and the rows that have one are copied, but not their patterns.
+// row for it. The problem stays, and the rows that have one are copied, but not their patterns. Of
+// the unwanted rows, which are grouped, only those that begin with the head or with none are gone
+// through.
 fn part_at<'a>(
     alloc: Global,
     types: &[DataDecl],
     ty: Ty,
     behind: &Problem<'a>,
+    groups: &Groups,
     head: Head,
 ) -> Result<Option<Problem<'a>>, AllocError>
     requires inhabited { AreInhabited types.now }
     requires lives { AreTypesIn types.now behind.now.tys }
     requires stands { 1 ≤ some_head (first_head behind.now.wanted) + some_head (first_head behind.now.unwanted) }
+    requires grouped { AreGrouped behind.now.unwanted groups.now }
     ensures { IfOk result (λ r. IsPartAt types.now ty behind.now.tys (with_column ty behind.now) head r) }
 {
     let Some(fields) = head_fields(types, ty, head) else {
@@ -110,7 +120,8 @@ fn part_at<'a>(
     if wanted.len() < behind.wanted.len() {
         return Ok(None);
     }
-    let unwanted = special_copies(alloc, behind.unwanted.as_slice(), head, fields.len())?;
+    let near = groups.near(key_of_head(head));
+    let unwanted = special_numbered(alloc, behind.unwanted.as_slice(), near, head, fields.len())?;
     let tys = types_joined(alloc, fields, &behind.tys)?;
     let step = step_for(ty, head, fields.len());
     let steps = steps_with(alloc, behind.steps.as_slice(), step)?;
@@ -197,6 +208,7 @@ pub fn next_part<'a>(
         ty,
         behind,
         mut heads,
+        groups,
     } = branches;
     let mut left = Vec::new(alloc);
     let Some(head) = heads.pop() else {
@@ -207,8 +219,13 @@ pub fn next_part<'a>(
         add_part(&mut left, part)?;
         return Ok(left);
     }
-    let part = part_at(alloc, types, ty, &behind, head)?;
-    left.push(Left::ByHead(Branches { ty, behind, heads }))?;
+    let part = part_at(alloc, types, ty, &behind, &groups, head)?;
+    left.push(Left::ByHead(Branches {
+        ty,
+        behind,
+        heads,
+        groups,
+    }))?;
     add_part(&mut left, part)?;
     Ok(left)
 }
@@ -273,15 +290,20 @@ pub fn parts_of<'a>(
 {
     let mut left = Vec::new(alloc);
     if let Some(head) = first_head_in(behind.wanted.as_slice()) {
-        let mut heads = Seq::new(alloc);
-        heads.push(head)?;
-        left.push(Left::ByHead(Branches { ty, behind, heads }))?;
+        let part = last_part(alloc, types, ty, behind, head)?;
+        add_part(&mut left, part)?;
         return Ok(left);
     }
     let heads = heads_in(alloc, behind.unwanted.as_slice())?;
     match absent_pattern(alloc, types, ty, heads.as_slice())? {
         None => {
-            left.push(Left::ByHead(Branches { ty, behind, heads }))?;
+            let groups = grouped(alloc, behind.unwanted.as_slice())?;
+            left.push(Left::ByHead(Branches {
+                ty,
+                behind,
+                heads,
+                groups,
+            }))?;
             Ok(left)
         }
         Some(absent) => {

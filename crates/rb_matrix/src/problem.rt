@@ -2,6 +2,7 @@
 //! of its first column; the problem is their parent, and the one that the search begins with is the
 //! root.
 
+use crate::groups::Groups;
 use crate::matrix::Head;
 use crate::row::Row;
 use crate::stack::Stack;
@@ -32,12 +33,14 @@ pub struct Problem<'a> {
 
 /// The parts of a problem that are not made yet, one for each of these heads: for its vectors that
 /// begin with the head. The last head's part is made first. The problem stands here without its
-/// first column's type, which stands beside it.
+/// first column's type, which stands beside it. Its unwanted rows are grouped, by their numbers, by
+/// the heads that they begin with.
 #[derive(Drop)]
 pub struct Branches<'a> {
     pub ty: Ty,
     pub behind: Problem<'a>,
     pub heads: Seq<Head>,
+    pub groups: Groups,
 }
 
 /// A piece of what is left of a search.

@@ -7,10 +7,12 @@ ghost use Rattle.std.specs.Prelude.{◌≡◌, ◌∷◌, ◌++◌, ◌==◌, []
 ghost use Rattle.std.specs.Bool.{OnTrue};
 ghost use Rattle.rb_matrix.specs.Heads.{row_head};
 ghost use Rattle.rb_matrix.specs.inner.Borrowed.{patterns_of};
+ghost use Rattle.rb_matrix.specs.inner.Groups.{row_key};
 ghost use Rattle.rb_matrix.specs.inner.Open.{is_open as the_open};
 ghost use Rattle.rb_matrix.specs.Rows.{row_matches};
 ghost use Rattle.rb_matrix.specs.Specialize.{special_row, default_row};
 
+use crate::heads::key_of_head;
 use crate::matrix::Head;
 use crate::open::is_open;
 use crate::stack::Stack;
@@ -188,6 +190,17 @@ impl<'a> Row<'a> {
                 Pat::Num(_, number) => Some(Head::Num(*number)),
                 Pat::Con(_, con, _) => Some(Head::Con(*con)),
             },
+        }
+    }
+
+    /// The key of the row's head: the number that it is, or that of the constructor in its type.
+    /// None where the row begins with a wildcard or a variable, or is empty.
+    pub fn key(&self) -> Option<u64>
+        ensures { result ≡ row_key self.now }
+    {
+        match self.head() {
+            None => None,
+            Some(head) => Some(key_of_head(head)),
         }
     }
 

@@ -2,15 +2,17 @@
 //! specialised matrix of a head and in the default matrix: their specialised and their default
 //! rows. A row that has none is left out.
 
-ghost use Rattle.std.specs.Prelude.{◌≡◌, ◌≤◌, length, IfOk};
+ghost use Rattle.std.specs.Prelude.{◌≡◌, ◌≤◌, [], length, IfOk, slice_index_or};
 ghost use Rattle.rb_core.specs.declared.value.Value as Values;
 ghost use Rattle.rb_core.specs.declared.value.Value.TheOpen as Layers;
 ghost use Rattle.rb_matrix.specs.Heads.{any_begins, column_begins};
 ghost use Rattle.rb_matrix.specs.FirstHead.{first_head};
+ghost use Rattle.rb_matrix.specs.inner.Groups.{merged, rows_at, AreGrouped};
 ghost use Rattle.rb_matrix.specs.inner.Open.{any_open};
 ghost use Rattle.rb_matrix.specs.Counts.{rows_heads};
 ghost use Rattle.rb_matrix.specs.Specialize.{special_row, special, defaults};
 
+use crate::groups::{Groups, Merged};
 use crate::heads::add_head;
 use crate::matrix::Head;
 use crate::numbers::Numbers;
@@ -85,6 +87,64 @@ pub fn special_copies<'a>(
     let mut kept = Seq::new(alloc);
     for row in rows {
         if let Some(special) = special_copy(alloc, row, head, fields)? {
+            kept.push(special)?;
+        }
+    }
+    Ok(kept)
+}
+
+/// The rows in groups, by their numbers: those that begin with heads alike, and those that begin
+/// with none, ascending.
+///
+/// # Errors
+///
+/// Want of memory.
+pub fn grouped(alloc: Global, rows: &[Row]) -> Result<Groups, AllocError>
+    ensures { IfOk result (AreGrouped rows.now) }
+{
+    let mut groups = Groups::new(alloc);
+    for number in 0..rows.len() {
+        groups.add(alloc, number, rows[number].key())?;
+    }
+    Ok(groups)
+}
+
+// The specialised row of the row with this number for a head with so many fields, or None where it
+// has none, or where no row has the number. The row stays.
+fn special_at<'a>(
+    alloc: Global,
+    rows: &[Row<'a>],
+    number: usize,
+    head: Head,
+    fields: usize,
+) -> Result<Option<Row<'a>>, AllocError>
+    ensures { IfOk result (λ r. r ≡ special_row head fields (slice_index_or rows.now number [])) }
+{
+    match rows.get(number) {
+        None => Ok(None),
+        Some(row) => special_copy(alloc, row, head, fields),
+    }
+}
+
+/// The specialised rows of the rows with these numbers for a head with so many fields, in the order
+/// of the numbers; a row that has none is left out. The rows stay.
+///
+/// # Errors
+///
+/// Want of memory, also for more wildcards in a row than a `usize` counts.
+pub fn special_numbered<'a>(
+    alloc: Global,
+    rows: &[Row<'a>],
+    mut numbers: Merged,
+    head: Head,
+    fields: usize,
+) -> Result<Seq<Row<'a>>, AllocError>
+    ensures { IfOk result (λ r. r ≡ special head fields
+        (rows_at rows.now (merged numbers.entry.ones.now numbers.entry.others.now))) }
+{
+    let mut kept = Seq::new(alloc);
+    while let Some(number) = numbers.next() {
+        if let Some(special) = special_at(alloc, rows, number, head, fields)? {
             kept.push(special)?;
         }
     }

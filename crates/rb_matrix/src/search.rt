@@ -5,9 +5,12 @@
 //! wider or longer patterns. An unwanted row of wildcards and variables alone ends its branch, so
 //! rows that each look at one column take a time that grows with their number. Time grows as in
 //! Maranget's algorithm: exponentially in the number of columns at worst, where rows that look at
-//! several columns take turns, and about with the product of rows and heads for tables as one
-//! writes them. Memory does not: the parts of a problem are made one after another, each when the
-//! one before has no answer, so that of each problem on the way one part is held. Rows borrow their
+//! several columns take turns. Unwanted rows are grouped by their heads, so a row that begins with
+//! a head is gone through for the part of that head, and one that begins with a wildcard for the part
+//! of each; for the part that is made last, of the problem itself, all rows are gone through once
+//! more. A number is looked up among the heads, and a constructor compared with each of them.
+//! Memory does not grow so: the parts of a problem are made one after another, each when the one
+//! before has no answer, so that of each problem on the way one part is held. Rows borrow their
 //! patterns, and the wildcards for a head's fields are only counted, so that a row of a part takes a
 //! word for each pattern behind these, however deep the patterns are.
 

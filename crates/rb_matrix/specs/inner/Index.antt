@@ -3,9 +3,7 @@
 -- to the value or the pattern itself. A pattern's key is the number that stands in it at the path, or that of the
 -- constructor that does, if one of them does; a group is the numbers of the patterns that have one key. A layer is
 -- the outermost node of a value, with its subvalues below it.
-use Rattle.std.specs.Prelude.{◌≡◌, ℕ, List, [], ◌∷◌, ◌++◌, length, Contains, true, Some, slice_get, slice_index_or, MatchOption, ◌⊎◌}
-use Rattle.std.specs.Ordering.{nat_cmp}
-use Rattle.std.specs.BTreeMap as tree
+use Rattle.std.specs.Prelude.{◌≡◌, ℕ, List, [], ◌∷◌, ◌++◌, length, Contains, true, Some, slice_get, slice_index_or, ◌⊎◌}
 use Rattle.rb_core.specs.declared.value.Value.{Value, out-Value}
 use Rattle.rb_core.specs.declared.value.Value.TheOpen as V
 use Rattle.rb_core.specs.declared.value.Value.TheOpen.{Value-F}
@@ -14,6 +12,7 @@ use Rattle.rb_core.specs.Matching.{matches_of}
 use Rattle.rb_core.specs.Values.{subs}
 use Rattle.rb_matrix.specs.declared.index.Index.{Index}
 use Rattle.rb_matrix.specs.Apart.{PatternsAreApart}
+use Rattle.rb_matrix.specs.inner.Groups.{numbers_with}
 
 -- the number that a value, given by its layer, is, or that of its constructor in its type
 abbrev pub head_number : Value-F Value → ℕ
@@ -32,11 +31,11 @@ HasKey p path k = (v : Value) → matches_of p v ≡ true → key_of v path ≡ 
 
 -- number j stands in the group of key k; where there is no such group, no number does
 abbrev pub IsInGroup : Index → ℕ → ℕ → Type 0
-IsInGroup x k j = MatchOption (tree.get nat_cmp x.groups k) ⊥ (λ g. Contains g j)
+IsInGroup x k j = Contains (numbers_with x.numbers k) j
 
 -- pattern p, with number j, stands among those without a key, or in the group of a key that it has
 abbrev pub IsIndexed : Index → ℕ → Pat → Type 0
-IsIndexed x j p = Contains x.keyless j ⊎ ((k : ℕ) × HasKey p x.path k × IsInGroup x k j)
+IsIndexed x j p = Contains x.numbers.keyless j ⊎ ((k : ℕ) × HasKey p x.path k × IsInGroup x k j)
 
 -- x is an index of these patterns: each has its place among the numbers in x, which may hold other numbers too
 abbrev pub IsIndex : List Pat → Index → Type 0
@@ -45,14 +44,6 @@ IsIndex ps x = (j : ℕ) (p : Pat) → slice_get ps j ≡ Some p → IsIndexed x
 -- wherever the old index is one of i patterns, the new one is an index of these and of p behind them
 abbrev pub ExtendsIndex : ℕ → Pat → Index → Index → Type 0
 ExtendsIndex i p old new = (ps : List Pat) → length ps ≡ i → IsIndex ps old → IsIndex (ps ++ p ∷ []) new
-
--- the new index is the old one with number i in the group of key k: the path and the patterns without a key stay,
--- and each group keeps what it holds
-pub record IsGrouped (k i : ℕ) (old new : Index) : Type 0 where
-  pub path : new.path ≡ old.path
-  pub keyless : new.keyless ≡ old.keyless
-  pub here : IsInGroup new k i
-  pub kept : (q j : ℕ) → IsInGroup old q j → IsInGroup new q j
 
 -- wherever x is an index of n patterns, each of them has its number among js, or no value matches both it and p
 abbrev pub AreNear : Pat → ℕ → Index → List ℕ → Type 0

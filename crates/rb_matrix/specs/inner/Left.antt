@@ -16,6 +16,7 @@ use Rattle.rb_matrix.specs.declared.problem.Outcome.TheVariants.{Solved, Split}
 use Rattle.rb_matrix.specs.Heads.{any_begins, some_head}
 use Rattle.rb_matrix.specs.FirstHead.{first_head}
 use Rattle.rb_matrix.specs.Search.{AreTypesIn, useful_by}
+use Rattle.rb_matrix.specs.inner.Groups.{AreGrouped}
 use Rattle.rb_matrix.specs.inner.Problems.{closed_all, with_column, FoundIn, NoneIn, cost, part_cost}
 
 -- the problem whose branches these are: it stands in them without its first column's type
@@ -33,12 +34,13 @@ wholes None = []
 wholes (Some c) = Whole c ∷ []
 
 -- each column of a whole problem, and of branches each behind the first, is of a type over the data types; branches
--- stand only where some row begins with a head
+-- stand only where some row begins with a head, and their unwanted rows are grouped by the heads that they begin with
 abbrev pub IsReady : List DataDecl → Left → Type 0
 IsReady types (Whole p) = AreTypesIn types p.tys
 IsReady types (ByHead b) =
     AreTypesIn types b.behind.tys
     × (1 ≤ some_head (first_head b.behind.wanted) + some_head (first_head b.behind.unwanted))
+    × AreGrouped b.behind.unwanted b.groups
 
 -- Nothing is found --------------------------------------------------------------------------------
 

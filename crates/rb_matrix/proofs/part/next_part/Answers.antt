@@ -12,7 +12,7 @@ returns-then-is_empty c =
 
 pub returns : goal.returns
 returns c =
-    let others : Left = ByHead (record { ty = c.args.branches.ty; behind = c.args.branches.behind; heads = c.pop.new.self }) in
+    let others : Left = ByHead (record { ty = c.args.branches.ty; behind = c.args.branches.behind; heads = c.pop.new.self; groups = c.args.branches.groups }) in
     subst (IsSplit c.args.types.now (ByHead c.args.branches))
     (sym (c.in_ok-add_part-2.ensures ∙ ap (λ l. l ++ wholes c.in_ok-part-2.part) (c.in_ok-push.ensures.items ∙ ap (λ l. l ++ others ∷ []) c.new-left.ensures.items)))
     (next-split c.args.types.now c.args.branches c.in-Some.head c.pop.new.self c.in_ok-part-2.part c.in-Some.ensures c.in_ok-part-2.ensures)

@@ -2,6 +2,7 @@ use Rattle.std.proofs.Common.{◌∷◌, ◌++◌, [], List, length, refl, sym, 
 use Rattle.std.specs.Option.{option_copied}
 use Rattle.rb_matrix.specs.declared.problem.Step.{Step}
 use Rattle.rb_matrix.specs.Specialize.{special}
+use Rattle.rb_matrix.specs.inner.Groups.{merged, near, rows_at}
 use Rattle.rb_matrix.specs.inner.Problems.{with_column}
 use Rattle.rb_matrix.proofs.Parts.{no-fields}
 use Rattle.rb_matrix.proofs.Splits.{part-gone, part-at}
@@ -22,7 +23,10 @@ pub returns : goal.returns
 returns c =
     let at = sym c.head_fields.ensures ∙ ap option_copied c.in-Some.is in
     let w = c.in_ok-wanted.ensures ∙ ap (special c.args.head (length c.in-Some.fields.now)) c.as_slice.ensures in
-    let u = c.in_ok-unwanted.ensures ∙ ap (special c.args.head (length c.in-Some.fields.now)) c.as_slice-2.ensures in
+    let n = length c.in-Some.fields.now in
+    let u = c.in_ok-unwanted.ensures ∙ ap (λ rows. special c.args.head n (rows_at rows (merged c.near-near.result.ones.now c.near-near.result.others.now))) c.as_slice-2.ensures
+    ∙ ap (λ ns. special c.args.head n (rows_at c.args.behind.now.unwanted ns)) (c.near-near.ensures ∙ ap (near c.args.groups.now) c.key_of_head.ensures)
+    ∙ c.requires.grouped c.args.head n in
     let s = c.in_ok-steps.ensures ∙ ap (λ (l : List Step). l ++ c.step_for-step.result ∷ []) c.as_slice-3.ensures
     ∙ ap (λ (x : Step). c.args.behind.now.steps ++ x ∷ []) c.step_for-step.ensures in
     part-at c.args.types.now c.args.ty c.args.behind.now.tys (with_column c.args.ty c.args.behind.now) refl c.args.head c.in-Some.fields.now at

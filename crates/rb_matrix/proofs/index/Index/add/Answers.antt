@@ -1,15 +1,12 @@
-use Rattle.std.proofs.Common.{◌≡◌, ◌∷◌, [], ◌++◌, subst}
-use Rattle.rb_matrix.specs.inner.Index.{HasKey, IsGrouped}
-use Rattle.rb_matrix.proofs.Keys.{on-ok, extends-keyless, extends-grouped}
+use Rattle.std.proofs.Common.{refl, subst}
+use Rattle.std.specs.Prelude.{IfSome}
+use Rattle.rb_matrix.specs.inner.Groups.{IsNumberAdded}
+use Rattle.rb_matrix.specs.inner.Index.{HasKey}
+use Rattle.rb_matrix.proofs.Keys.{on-ok, extends-added}
 use Rattle.rb_matrix.proofs.index.Index.add.Goals as goal
 
-pub returns-in-None : goal.returns-in-None
-returns-in-None c =
-    let x = c.args.self.now in let i = c.args.number in
-    on-ok c.push.result (c.push.new.self ≡ x.keyless ++ i ∷ []) _ c.push.ensures.ok (λ e. extends-keyless i c.args.pat.now x c.push.new.self e)
-
-pub returns-in-Some : goal.returns-in-Some
-returns-in-Some c =
-    let x = c.args.self.now in let i = c.args.number in let k = c.in-Some.key in let p = c.args.pat.now in
-    on-ok c.add_to_group.result (IsGrouped k i x c.add_to_group.new.self) _ c.add_to_group.ensures
-    (λ g. extends-grouped i p x c.add_to_group.new.self k (subst (λ path. HasKey p path k) c.as_slice.ensures c.in-Some.ensures) g)
+pub returns : goal.returns
+returns c =
+    let x = c.args.self.now in let i = c.args.number in let p = c.args.pat.now in let key = c.key_at-key.result in
+    on-ok c.add.result (IsNumberAdded key i x.numbers c.add.new.self) _ c.add.ensures
+    (extends-added i p x (record { path = x.path; numbers = c.add.new.self }) refl key (subst (λ path. IfSome key (HasKey p path)) c.as_slice.ensures c.key_at-key.ensures))
