@@ -4,7 +4,7 @@ use Rattle.std.specs.List.{list_all, flat_map}
 use Rattle.rb_names.specs.Definitions as names
 use Rattle.rb_names.specs.Written.{AreCounted, con_is_counted, type_is_counted, item_is_counted}
 use Rattle.rb_read.specs.declared.limits.Count.{Count}
-use Rattle.rb_read.specs.Limits.{counted, field_count, limit_of, is_over, type_counts, item_counts, types_in, functions_in, counts}
+use Rattle.rb_read.specs.Limits.{count_of, field_count, limit_of, is_over, type_counts, item_counts, types_in, functions_in, counts}
 use Rattle.rb_read.specs.declared.fault.Quantity.TheVariants.{Functions}
 use Rattle.rb_syntax.specs.declared.tree.ConTree.{ConTree}
 use Rattle.rb_syntax.specs.declared.tree.TypeTree.{TypeTree}
@@ -74,7 +74,7 @@ same_functions (top.Derived name a ∷ is) = same_functions is
 pub are_counted : (is : List ItemTree) → find is_over (counts is) ≡ None → AreCounted is
 are_counted is e =
     let all = none_over (counts is) e in
-    let t = both (nat_le (length (types_in is)) 1000) (list_all within (counted Functions (length (functions_in is)) ∷ flat_map item_counts is)) all in
+    let t = both (nat_le (length (types_in is)) 1000) (list_all within (count_of Functions (length (functions_in is)) ∷ flat_map item_counts is)) all in
     let f = both (nat_le (length (functions_in is)) 10000) (list_all within (flat_map item_counts is)) t.1 in
     record {
       types = ap (λ ts. nat_le (length ts) 1000) (sym (same_types is)) ∙ t.0;

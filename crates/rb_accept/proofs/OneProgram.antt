@@ -24,7 +24,7 @@ use Rattle.rb_layout.specs.declared.layout.Layout.{Layout}
 use Rattle.rb_lines.specs.Answer.{Due}
 use Rattle.rb_names.specs.Completing.{IsCompleted}
 use Rattle.rb_names.specs.Numbering.{Resolved}
-use Rattle.rb_names.specs.Programs.{numbered}
+use Rattle.rb_names.specs.Programs.{program_of}
 use Rattle.rb_names.specs.declared.complete.Completed.{Completed}
 use Rattle.rb_read.proofs.OneAnswer.{answered}
 use Rattle.rb_read.specs.Files.{IsFileAnswer}
@@ -77,7 +77,7 @@ the_program : Program → Resolved Program → Program
 the_program p (Ok q) = q
 the_program p (Err fault) = p
 
-same_written : (file : FileTree) (p q : Program) → numbered file ≡ Ok p → numbered file ≡ Ok q → p ≡ q
+same_written : (file : FileTree) (p q : Program) → program_of file ≡ Ok p → program_of file ≡ Ok q → p ≡ q
 unfolding the_program
 same_written file p q h k = ap (λ (r : Resolved Program). the_program p r) (sym h ∙ k)
 
@@ -86,7 +86,7 @@ same_written file p q h k = ap (λ (r : Resolved Program). the_program p r) (sym
 same_completed : (bytes : List ℕ) (placed qs : List Placed) (c d : Completed) → IsNamedWith bytes placed c → IsNamedWith bytes qs d → c ≡ d
 same_completed bytes placed qs c d h k =
     let file : k.file ≡ h.file = same_file bytes qs placed k.file h.file k.read h.read in
-    let named : numbered h.file ≡ Ok k.written = subst (λ (f : FileTree). numbered f ≡ Ok k.written) file k.named in
+    let named : program_of h.file ≡ Ok k.written = subst (λ (f : FileTree). program_of f ≡ Ok k.written) file k.named in
     let written : k.written ≡ h.written = same_written h.file k.written h.written named h.named in
     let here : IsCompleted h.file k.written d = subst (λ (f : FileTree). IsCompleted f k.written d) file k.completed in
     one_completion h.file h.written c d h.completed (subst (λ (p : Program). IsCompleted h.file p d) written here)
@@ -148,7 +148,7 @@ accepted_unrefused bytes p due a (misread placed cut fault answer e) =
     never_misread (tokens a.placed) a.named.file fault a.named.read.tree (subst (λ (ps : List Placed). IsFileAnswer (tokens ps) (Err fault)) same answer)
 accepted_unrefused bytes p due a (misnamed placed file read fault named e) =
     let same : file ≡ a.named.file = same_file bytes placed a.placed file a.named.file read a.named.read in
-    absurd (cc (sym a.named.named ∙ ap (λ (f : FileTree). numbered f) (sym same) ∙ named))
+    absurd (cc (sym a.named.named ∙ ap (λ (f : FileTree). program_of f) (sym same) ∙ named))
 accepted_unrefused bytes p due a (mistyped placed q named fault known first e) =
     let same : p ≡ q = same_program bytes a.placed placed p q a.named named in
     never_mistyped q fault known (subst (λ (x : Program). IsTyped x) same a.typed) first

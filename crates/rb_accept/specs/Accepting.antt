@@ -25,7 +25,7 @@ use Rattle.rb_lines.specs.Lines.{named_line, no_memory_line}
 use Rattle.rb_lines.specs.declared.status.Status.TheVariants as status
 use Rattle.rb_lines.specs.FileLines.{at_byte, limit_line, nesting_line, unknown_line, twice_line, no_main_line, empty_line, mismatch_line, arity_line, missing_line, recursive_line, wide_line}
 use Rattle.rb_names.specs.Completing.{IsCompleted}
-use Rattle.rb_names.specs.Programs.{numbered}
+use Rattle.rb_names.specs.Programs.{program_of}
 use Rattle.rb_names.specs.declared.complete.Completed.{Completed}
 use Rattle.rb_names.specs.declared.fault.NameFault.{NameFault}
 use Rattle.rb_names.specs.declared.fault.NameFault.TheVariants as names
@@ -54,7 +54,7 @@ pub record IsNamedWith (bytes : List ℕ) (placed : List Placed) (c : Completed)
   pub file : FileTree
   pub read : FileIsRead bytes placed file
   pub written : Program
-  pub named : numbered file ≡ Ok written
+  pub named : program_of file ≡ Ok written
   pub completed : IsCompleted file written c
 
 -- a program with its derived layouts, and the fault of the first of them that is refused, if there is one
@@ -141,7 +141,7 @@ pub data IsRefused (bytes : List ℕ) (due : Due) : Type 0 where
       → IsFileAnswer (tokens placed) (Err fault)
       → due ≡ read_due placed (length bytes) fault → IsRefused bytes due
   misnamed : (placed : List Placed) (file : FileTree) → FileIsRead bytes placed file → (fault : NameFault)
-      → numbered file ≡ Err fault
+      → program_of file ≡ Err fault
       → due ≡ name_due placed (length bytes) fault → IsRefused bytes due
   mistyped : (placed : List Placed) (p : Program) → IsProgramOf bytes placed p → (fault : TypeFault)
       → fault ≢ types.Memory → IsFirstFault p fault

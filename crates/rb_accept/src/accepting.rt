@@ -13,7 +13,7 @@ ghost use Rattle.rb_core.specs.TypedPrograms.{IsTyped};
 ghost use Rattle.rb_core.specs.WellNumbered.{IsWellNumbered};
 ghost use Rattle.rb_layout.specs.Agreement.{AreAgreed};
 ghost use Rattle.rb_lines.specs.View.{IsRefusal};
-ghost use Rattle.rb_names.specs.Programs.{numbered};
+ghost use Rattle.rb_names.specs.Programs.{program_of};
 ghost use Rattle.rb_syntax.specs.Cutting.{HasTokens};
 ghost use Rattle.rb_accept.specs.Accepting.{IsNamed, IsNamedWith, IsProgramOf, FileIsRead, IsRefused, completed_as};
 ghost use Rattle.rb_accept.specs.Reading.{file_limit};
@@ -84,7 +84,7 @@ fn read(alloc: Global, bytes: &[u8], placed: &[Placed]) -> Result<FileTree, Refu
 fn name(alloc: Global, bytes: &[u8], placed: &[Placed], file: &FileTree) -> Result<Program, Refusal>
     requires few { length bytes.now ≤ file_limit }
     requires read { FileIsRead bytes.now placed.now file.now }
-    ensures named { IfOk result (λ p. numbered file.now ≡ Ok p) }
+    ensures named { IfOk result (λ p. program_of file.now ≡ Ok p) }
     ensures well { IfOk result IsWellNumbered }
     ensures refused { IfErr result (IsRefusal (IsRefused bytes.now)) }
 {
@@ -107,7 +107,7 @@ fn add_layouts(
     program: Program,
 ) -> Result<Completed, Refusal>
     requires read { FileIsRead bytes.now placed.now file.now }
-    requires named { numbered file.now ≡ Ok program }
+    requires named { program_of file.now ≡ Ok program }
     requires well { IsWellNumbered program }
     ensures named { IfOk result (IsNamedWith bytes.now placed.now) }
     ensures well { IfOk result (λ c. IsWellNumbered c.program) }

@@ -42,13 +42,15 @@
 //!
 //! A file may have thousands of leaves, literals, positions or types, so no rule looks at all pairs of them:
 //!
-//! | module | what it spares |
-//! |---|---|
-//! | `sharing` | comparing all pairs of leaves: they are grouped by their constructors at the place that tells most apart, and compared in their groups |
-//! | `passing` | going through a whole tree of splits for each leaf: in one walk each leaf is asked what the splits above it ask |
-//! | `alike` | asking a leaf for each literal beside an `else`, where one that is alike there excludes them all |
-//! | `runs`, `search` | looking through all parts for each open position: each part's position is looked up, and gets its run |
-//! | `order` | a search for a cycle from each type: one walk finds an order, and no cycle is where all edges lead down |
+//! - `sharing` spares comparing all pairs of leaves: they are grouped by their constructors at the place that tells
+//!   most apart, and compared in their groups.
+//! - `passing` spares going through a whole tree of splits for each leaf: in one walk each leaf is asked what the
+//!   splits above it ask.
+//! - `alike` spares asking a leaf for each literal beside an `else`, where one that is alike there excludes them all.
+//! - `runs` and `search` spare looking through all parts for each open position: each part's position is looked up,
+//!   and gets its run.
+//! - `order` spares a search for a cycle from each type: one walk finds an order, and no cycle is where all edges
+//!   lead down.
 #![tactic(auto)]
 
 pub mod agree;

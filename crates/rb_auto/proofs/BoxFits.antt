@@ -18,7 +18,7 @@ use Rattle.rb_auto.specs.declared.room.Room.{Room}
 use Rattle.rb_auto.specs.Fields.{cons_of}
 use Rattle.rb_auto.specs.FieldWords.{constructor_words}
 use Rattle.rb_auto.specs.Items.{groups}
-use Rattle.rb_auto.specs.Derived.{derived}
+use Rattle.rb_auto.specs.Derived.{derived_layout}
 use Rattle.rb_auto.specs.inner.Standing.{EachDerivedLeaf, TagFits}
 use Rattle.rb_auto.specs.inner.PackedRules.{FieldsFit}
 use Rattle.rb_auto.proofs.Leaves.{leaf-is, leaf-written}
@@ -74,13 +74,13 @@ module _ (p : Program) (decls : List LayoutDecl) (rooms : List Room) (all : List
 
 -- the items of a boxed leaf of a completed program
 pub box-items-of : (p : Program) (decls : List LayoutDecl) (rooms : List Room) (t n : ℕ) (c : Con) → slice_get (cons_of p.types t) n ≡ Some c
-    → decl_of decls t ≡ Some (derived p rooms t Boxed) → items_of decls t n ≡ box_written n (constructor_words p rooms c.fields)
+    → decl_of decls t ≡ Some (derived_layout p rooms t Boxed) → items_of decls t n ≡ box_written n (constructor_words p rooms c.fields)
 box-items-of p decls rooms t n c at is =
     ap (λ (d : Option LayoutDecl). items_in (slice_get (leaves_in d) n)) is ∙ ap (λ (w : Option WrittenLeaf). items_in w) (leaf-written p rooms t Boxed n c at)
     ∙ boxed-items n (constructor_words p rooms c.fields)
 
 pub box-has-fitting-parts : (p : Program) (decls : List LayoutDecl) (rooms : List Room) (t : ℕ) → TagFits p t Boxed → FieldsFit p decls rooms t
-    → decl_of decls t ≡ Some (derived p rooms t Boxed)
+    → decl_of decls t ≡ Some (derived_layout p rooms t Boxed)
     → EachDerivedLeaf p decls rooms t Boxed (λ n leaf. (i : ℕ) (item : Item) → slice_get (items_of decls t n) i ≡ Some item
     → ItemFits decls (open_positions p.types leaf.prov) item)
 box-has-fitting-parts p decls rooms t tag_fits fields is n leaf e i item at =

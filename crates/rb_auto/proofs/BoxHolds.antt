@@ -22,7 +22,7 @@ use Rattle.rb_auto.specs.declared.form.Form.TheVariants.{Boxed}
 use Rattle.rb_auto.specs.declared.room.Room.{Room}
 use Rattle.rb_auto.specs.FieldWords.{constructor_words}
 use Rattle.rb_auto.specs.Items.{groups}
-use Rattle.rb_auto.specs.Derived.{derived}
+use Rattle.rb_auto.specs.Derived.{derived_layout}
 use Rattle.rb_auto.specs.Completed.{with_layouts}
 use Rattle.rb_auto.specs.inner.Standing.{EachDerivedLeaf}
 use Rattle.rb_auto.specs.inner.PackedRules.{FieldsFit}
@@ -155,7 +155,7 @@ module _ (all : List Ty) where
   all-names (x ∷ items) h = paths-append (field_opens 0 all) (item_paths x) (paths_of items) h.0 (all-names items h.1)
 
 pub box-holds-its-fields : (p : Program) (decls : List LayoutDecl) (rooms : List Room) (t : ℕ) → FieldsFit p decls rooms t
-    → decl_of decls t ≡ Some (derived p rooms t Boxed)
+    → decl_of decls t ≡ Some (derived_layout p rooms t Boxed)
     → EachDerivedLeaf p decls rooms t Boxed (λ n leaf. HoldsOnce (with_layouts p decls) leaf (items_of decls t n))
 box-holds-its-fields p decls rooms t fields is n leaf e =
     let c = leaf-is p rooms t Boxed decls n leaf e in

@@ -12,7 +12,7 @@ use Rattle.rb_layout.specs.declared.layout.Part.{Part}
 use Rattle.rb_layout.specs.declared.layout.Kind.{Kind}
 use Rattle.rb_layout.specs.declared.layout.Kind.TheVariants.{Const, Word, Pointer}
 use Rattle.rb_layout.specs.Positions.{Open}
-use Rattle.rb_layout.specs.Flattening.{WithBlocks, Laying, in_turn, item_laid, kind_if_open, kind_laid, part_laid, parts_of, pointed, type_at, whole_kind, without_blocks}
+use Rattle.rb_layout.specs.Flattening.{WithBlocks, Laying, in_turn, item_laid, kind_if_open, kind_laid, part_laid, parts_of, pointer_to_block, type_at, whole_kind, without_blocks}
 use Rattle.rb_layout.proofs.Computing.{const_at, part_at, pointer_at, whole_at, word_at, word_of_laid}
 use Rattle.rb_auto.specs.declared.field_words.FieldWord.{FieldWord}
 use Rattle.rb_auto.specs.FieldWords.{content, content_in}
@@ -95,12 +95,12 @@ module _ (decls : List LayoutDecl) (opens : List Open) where
       ∙ ap (λ (x : WithBlocks (List FlatWord)). record { it = flat_word opens w ∷ x.it; blocks = x.blocks }) (fields-laid ws (n + 0))
 
   pointer-laid : (n : ℕ) (items : List LayItem) (laid : WithBlocks (List FlatWord)) → in_turn (map (item_laid decls opens) items) n ≡ laid
-      → kind_laid decls opens (K.Pointer 8 items) n ≡ pointed 8 n laid
-  pointer-laid n items laid is = pointer_at decls opens n 8 items ∙ ap (pointed 8 n) is
+      → kind_laid decls opens (K.Pointer 8 items) n ≡ pointer_to_block 8 n laid
+  pointer-laid n items laid is = pointer_at decls opens n 8 items ∙ ap (pointer_to_block 8 n) is
 
   group-laid : (g : List FieldWord) (n : ℕ) → item_laid decls opens (group_item g) n ≡ record { it = pointer_word n ∷ []; blocks = group_block opens g ∷ [] }
   group-laid g n =
-      whole-laid 64 n (K.Pointer 8 (map field_item g)) (pointed 8 n (record { it = map (flat_word opens) g; blocks = [] }))
+      whole-laid 64 n (K.Pointer 8 (map field_item g)) (pointer_to_block 8 n (record { it = map (flat_word opens) g; blocks = [] }))
       (pointer-laid n (map field_item g) (record { it = map (flat_word opens) g; blocks = [] }) (fields-laid g n))
       ∙ ap (λ m. record { it = pointer_word m ∷ []; blocks = group_block opens g ∷ [] }) (plus_none n)
 

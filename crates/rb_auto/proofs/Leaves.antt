@@ -22,7 +22,7 @@ use Rattle.rb_auto.specs.declared.room.Room.{Room}
 use Rattle.rb_auto.specs.Fields.{cons_of}
 use Rattle.rb_auto.specs.FieldWords.{constructor_words}
 use Rattle.rb_auto.specs.Items.{form_parts, form_tag, form_width, leaf_items}
-use Rattle.rb_auto.specs.Derived.{arms_from, derived, leaf, provenance, tag_loc, tree_of}
+use Rattle.rb_auto.specs.Derived.{arms_from, derived_layout, leaf, provenance, tag_loc, tree_of}
 use Rattle.rb_auto.specs.inner.Standing.{flat_derived}
 
 pub get-map : {A B : Type 0} (f : A → B) (xs : List A) (n : ℕ) (y : B) → slice_get (map f xs) n ≡ Some y → (x : A) × (slice_get xs n ≡ Some x) × (y ≡ f x)
@@ -80,13 +80,13 @@ module _ (p : Program) (rooms : List Room) (t : ℕ) (form : Form) where
       shift : (m i : ℕ) → m + 1 + i ≡ m + suc i
       shift m i = omega arith
 
-  pub written-leaf : (n : ℕ) (w : WrittenLeaf) → slice_get (leaves (derived p rooms t form).tree) n ≡ Some w
+  pub written-leaf : (n : ℕ) (w : WrittenLeaf) → slice_get (leaves (derived_layout p rooms t form).tree) n ≡ Some w
       → (c : Con) × (slice_get (cons_of p.types t) n ≡ Some c) × (w ≡ leaf_at n c)
   written-leaf n w e =
       let r = leaf-from 0 (cons_of p.types t) n w (ap (λ (ls : List WrittenLeaf). slice_get ls n) (sym (tree-leaves (form_tag form) (cons_of p.types t))) ∙ e) in
       (r.0, r.1, r.2 ∙ ap (λ j. leaf_at j r.0) (zero-add n))
 
-  pub leaf-written : (n : ℕ) (c : Con) → slice_get (cons_of p.types t) n ≡ Some c → slice_get (leaves (derived p rooms t form).tree) n ≡ Some (leaf_at n c)
+  pub leaf-written : (n : ℕ) (c : Con) → slice_get (cons_of p.types t) n ≡ Some c → slice_get (leaves (derived_layout p rooms t form).tree) n ≡ Some (leaf_at n c)
   leaf-written n c e =
       ap (λ (ls : List WrittenLeaf). slice_get ls n) (tree-leaves (form_tag form) (cons_of p.types t)) ∙ from-leaf 0 (cons_of p.types t) n c e
       ∙ ap (λ j. Some (leaf_at j c)) (zero-add n)
@@ -100,7 +100,7 @@ module _ (p : Program) (rooms : List Room) (t : ℕ) (form : Form) where
         → (c : Con) × (slice_get (cons_of p.types t) n ≡ Some c) × (x ≡ flat_leaf p.types decls (leaf_at n c))
     unfolding flat
     leaf-is n x e =
-        let m = get-map flat (leaves (derived p rooms t form).tree) n x e in
+        let m = get-map flat (leaves (derived_layout p rooms t form).tree) n x e in
         let w = written-leaf n m.0 m.1 in
         (w.0, w.1, m.2 ∙ ap flat w.2)
 
@@ -108,7 +108,7 @@ module _ (p : Program) (rooms : List Room) (t : ℕ) (form : Form) where
         → slice_get (flat_derived p decls rooms t form).leaves n ≡ Some (flat_leaf p.types decls (leaf_at n c))
     unfolding flat
     has-leaf n c e =
-        map-get flat (leaves (derived p rooms t form).tree) n (leaf_at n c)
+        map-get flat (leaves (derived_layout p rooms t form).tree) n (leaf_at n c)
         (ap (λ (ls : List WrittenLeaf). slice_get ls n) (tree-leaves (form_tag form) (cons_of p.types t)) ∙ from-leaf 0 (cons_of p.types t) n c e ∙ ap (λ j. Some (leaf_at j c)) (zero-add n))
 
     -- its one root word

@@ -31,7 +31,7 @@ use Rattle.rb_auto.specs.declared.room.Room.{Room}
 use Rattle.rb_auto.specs.declared.room.Room.TheVariants.{Bits}
 use Rattle.rb_auto.specs.Fields.{HasField, IsFinite}
 use Rattle.rb_auto.specs.Items.{form_width}
-use Rattle.rb_auto.specs.Derived.{derived}
+use Rattle.rb_auto.specs.Derived.{derived_layout}
 use Rattle.rb_auto.specs.Rooms.{AreRooms, AreTheRooms, kind_of}
 use Rattle.rb_auto.specs.Completed.{Completes, HaveTypedProvenances, completed, with_layouts}
 use Rattle.rb_auto.specs.Obeying.{DerivedAreOnNoCycle, DerivedFlattenNothing, DerivedObey, FieldsHaveShapes, ObeysAt, PackedHaveNoPointer}
@@ -67,14 +67,14 @@ module _ (p : Program) (kinds : List (Option Auto)) (rooms : List Room) (numbere
   have-blocks Boxed = box-has-blocks p decls rooms t few-words
   have-blocks (Packed tag width) = has-no-blocks p decls rooms t tag width
 
-  fit-parts : (form : Form) → IsForm p kinds rooms t form → FieldsFit p decls rooms t → decl_of decls t ≡ Some (derived p rooms t form)
+  fit-parts : (form : Form) → IsForm p kinds rooms t form → FieldsFit p decls rooms t → decl_of decls t ≡ Some (derived_layout p rooms t form)
       → EachDerivedLeaf p decls rooms t form (λ n leaf. (i : ℕ) (item : Item) → slice_get (items_of decls t n) i ≡ Some item → ItemFits decls (open_positions p.types leaf.prov) item)
   fit-parts Boxed form fields is = box-has-fitting-parts p decls rooms t (tag-fits p kinds rooms numbered are t lt Boxed form) fields is
   fit-parts (Packed tag width) form fields is =
       has-fitting-parts p decls rooms t tag width (tag-fits p kinds rooms numbered are t lt (Packed tag width) form) fields
       (has-room p kinds rooms numbered are t lt tag width form) is
 
-  hold-fields : (form : Form) → FieldsFit p decls rooms t → decl_of decls t ≡ Some (derived p rooms t form)
+  hold-fields : (form : Form) → FieldsFit p decls rooms t → decl_of decls t ≡ Some (derived_layout p rooms t form)
       → EachDerivedLeaf p decls rooms t form (λ n leaf. HoldsOnce (with_layouts p decls) leaf (items_of decls t n))
   hold-fields Boxed fields is = box-holds-its-fields p decls rooms t fields is
   hold-fields (Packed tag width) fields is = holds-its-fields p decls rooms t tag width fields is
@@ -91,7 +91,7 @@ module _ (p : Program) (kinds : List (Option Auto)) (added : List LayoutDecl) (n
     pub are : AreTheRooms p kinds rooms
     pub form : Form
     pub is_form : IsForm p kinds rooms t form
-    pub is_decl : decl_of decls t ≡ Some (derived p rooms t form)
+    pub is_decl : decl_of decls t ≡ Some (derived_layout p rooms t form)
 
   found-by : (t : ℕ) (d : LayoutDecl) → decl_of p.layouts t ≡ None → decl_of added t ≡ Some d → Found t
   found-by t d none e =
@@ -124,7 +124,7 @@ module _ (p : Program) (kinds : List (Option Auto)) (added : List LayoutDecl) (n
     same-layout : (t : ℕ) (f : Found t) (layout : Layout) → layout_of layouts t ≡ Some layout → flat_derived p decls f.rooms t f.form ≡ layout
     same-layout t f layout e =
         let is = layout-is t layout e in
-        ap (λ (d : LayoutDecl). flat_layout (completed p added) d) (same_Some (derived p f.rooms t f.form) is.0 (sym f.is_decl ∙ is.1)) ∙ is.2
+        ap (λ (d : LayoutDecl). flat_layout (completed p added) d) (same_Some (derived_layout p f.rooms t f.form) is.0 (sym f.is_decl ∙ is.1)) ∙ is.2
 
     leaf-at : (t : ℕ) (f : Found t) (layout : Layout) (n : ℕ) (leaf : Leaf) → layout_of layouts t ≡ Some layout → slice_get layout.leaves n ≡ Some leaf
         → slice_get (flat_derived p decls f.rooms t f.form).leaves n ≡ Some leaf
@@ -197,7 +197,7 @@ module _ (p : Program) (kinds : List (Option Auto)) (added : List LayoutDecl) (n
     no-cycle : HaveTypedProvenances p → (t : ℕ) → t < length p.types → (f : Found t) (form : Form) → f.form ≡ form → IsForm p kinds f.rooms t form → HasNoCycle (HoldsField p.types layouts) t
     no-cycle typed t lt f Boxed same is =
         let order = are_in_order (completed p added) have in
-        let at = order.each t (derived p f.rooms t f.form) lt f.is_decl in
+        let at = order.each t (derived_layout p f.rooms t f.form) lt f.is_decl in
         box-is-on-no-cycle p decls f.rooms t layouts (at ∙ ap (λ (form : Form). Some (flat_derived p decls f.rooms t form)) same)
     no-cycle typed t lt f (Packed tag width) same is =
         let finite : IsFinite p.types t = (f.are.are.each t (Bits is.1) is.2).1 in finite-is-on-no-cycle p layouts t (hold-what-they-reach typed) finite

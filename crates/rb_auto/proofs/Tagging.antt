@@ -21,7 +21,7 @@ use Rattle.rb_auto.specs.declared.room.Room.TheVariants.{Word, Recursive, Bits}
 use Rattle.rb_auto.specs.Fields.{HasField, cons_of}
 use Rattle.rb_auto.specs.Widths.{bits_from, con_width, counted_width, greatest, need, packed_width, room_width, shape, shape_or, tag_bits, tag_of}
 use Rattle.rb_auto.specs.Items.{form_width}
-use Rattle.rb_auto.specs.Derived.{derived}
+use Rattle.rb_auto.specs.Derived.{derived_layout}
 use Rattle.rb_auto.specs.Rooms.{AreRooms, AreTheRooms, kind_of}
 use Rattle.rb_auto.specs.Answers.{Derives, IsDerivedAnswer, answer, answer_by, packed_answer}
 use Rattle.rb_auto.specs.Completed.{Completes}
@@ -64,15 +64,15 @@ IsForm p kinds rooms t (Packed tag width) =
     (kind_of kinds t ≡ Some Kinds.Packed) × (n : ℕ) × (slice_get rooms t ≡ Some (Bits n)) × (n ≤ 64) × (tag ≡ tag_of p t) × (width ≡ max n 1)
 
 abbrev pub IsDerived : Program → List (Option Auto) → List Room → ℕ → LayoutDecl → Type 0
-IsDerived p kinds rooms t d = (form : Form) × (d ≡ derived p rooms t form) × IsForm p kinds rooms t form
+IsDerived p kinds rooms t d = (form : Form) × (d ≡ derived_layout p rooms t form) × IsForm p kinds rooms t form
 
 same-ok : (a b : LayoutDecl) → ◌≡◌ {A = Derives} (Ok a) (Ok b) → a ≡ b
 same-ok a b e = cc
 
 module _ (p : Program) (kinds : List (Option Auto)) (rooms : List Room) (t : ℕ) (d : LayoutDecl) where
   fit-form : (n : ℕ) → kind_of kinds t ≡ Some Kinds.Packed → slice_get rooms t ≡ Some (Bits n) → (b : Bool) → nat_le n 64 ≡ b
-      → ◌≡◌ {A = Derives} (Ok d) (if b then Ok (derived p rooms t (Packed (tag_of p t) (max n 1))) else Err (PackedWide t n)) → IsDerived p kinds rooms t d
-  fit-form n kind room true le e = (Packed (tag_of p t) (max n 1), same-ok d (derived p rooms t (Packed (tag_of p t) (max n 1))) e, (kind, n, room, leb-true n 64 le, refl, refl))
+      → ◌≡◌ {A = Derives} (Ok d) (if b then Ok (derived_layout p rooms t (Packed (tag_of p t) (max n 1))) else Err (PackedWide t n)) → IsDerived p kinds rooms t d
+  fit-form n kind room true le e = (Packed (tag_of p t) (max n 1), same-ok d (derived_layout p rooms t (Packed (tag_of p t) (max n 1))) e, (kind, n, room, leb-true n 64 le, refl, refl))
   fit-form n kind room false le e = absurd cc
 
   packed-form : (room : Option Room) → kind_of kinds t ≡ Some Kinds.Packed → slice_get rooms t ≡ room → ◌≡◌ {A = Derives} (Ok d) (packed_answer p rooms t room) → IsDerived p kinds rooms t d
@@ -83,7 +83,7 @@ module _ (p : Program) (kinds : List (Option Auto)) (rooms : List Room) (t : ℕ
 
   kind-form : (kind : Option Auto) → kind_of kinds t ≡ kind → ◌≡◌ {A = Derives} (Ok d) (answer_by p rooms t kind) → IsDerived p kinds rooms t d
   kind-form None is e = absurd cc
-  kind-form (Some Kinds.Boxed) is e = (Boxed, same-ok d (derived p rooms t Boxed) e, is)
+  kind-form (Some Kinds.Boxed) is e = (Boxed, same-ok d (derived_layout p rooms t Boxed) e, is)
   kind-form (Some Kinds.Packed) is e = packed-form (slice_get rooms t) is refl e
 
   pub answer-form : ◌≡◌ {A = Derives} (Ok d) (answer p kinds rooms t) → IsDerived p kinds rooms t d

@@ -12,7 +12,7 @@ use Rattle.rb_auto.specs.declared.room.Room.TheVariants.{Word, Recursive, Bits}
 use Rattle.rb_auto.specs.declared.fault.AutoFault.{AutoFault}
 use Rattle.rb_auto.specs.declared.fault.AutoFault.TheVariants.{PackedRecursive, PackedWide, Memory}
 use Rattle.rb_auto.specs.Widths.{tag_of}
-use Rattle.rb_auto.specs.Derived.{derived}
+use Rattle.rb_auto.specs.Derived.{derived_layout}
 use Rattle.rb_auto.specs.Rooms.{kind_of, AreTheRooms}
 
 -- what deriving the layout of a type answers: the layout, or why there is none
@@ -23,7 +23,7 @@ Derives = Result LayoutDecl AutoFault
 -- at least; or that it needs over 64
 abbrev pub packed_fit : Program → List Room → ℕ → ℕ → Derives
 packed_fit p rooms t n =
-    if nat_le n 64 then Ok (derived p rooms t (Packed (tag_of p t) (max n 1))) else Err (PackedWide t n)
+    if nat_le n 64 then Ok (derived_layout p rooms t (Packed (tag_of p t) (max n 1))) else Err (PackedWide t n)
 
 -- the answer for a packed type t of this room: it is refused where it reaches itself or needs over 64 bits; want of
 -- memory where there is no room, or one that no packed type has
@@ -36,7 +36,7 @@ packed_answer p rooms t (Some (Bits n)) = packed_fit p rooms t n
 -- the answer for type t, for which this kind of layout is to be derived; want of memory where none is
 abbrev pub answer_by : Program → List Room → ℕ → Option Auto → Derives
 answer_by p rooms t None = Err Memory
-answer_by p rooms t (Some Kinds.Boxed) = Ok (derived p rooms t Boxed)
+answer_by p rooms t (Some Kinds.Boxed) = Ok (derived_layout p rooms t Boxed)
 answer_by p rooms t (Some Kinds.Packed) = packed_answer p rooms t (slice_get rooms t)
 
 -- the answer for type t, by the kinds of layouts that are to be derived and the rooms of all types

@@ -44,5 +44,6 @@ module _ (p : Program) (rooms : List Room) (t : ℕ) (form : Form) where
   tree_of tag cs = S.Split (tag_loc tag) (arms_from 0 cs) None
 
   -- the layout that is derived for type t in this form
-  abbrev pub derived : LayoutDecl
-  derived = record { at = 0; ty = t; shape = form_width form ∷ []; tree = tree_of (form_tag form) (cons_of p.types t) }
+  abbrev pub derived_layout : LayoutDecl
+  derived_layout =
+      record { at = 0; ty = t; shape = form_width form ∷ []; tree = tree_of (form_tag form) (cons_of p.types t) }

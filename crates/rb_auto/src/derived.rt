@@ -8,7 +8,7 @@
 ghost use Rattle.std.specs.Prelude.{◌≡◌, IfOk, None};
 ghost use Rattle.rb_core.specs.declared.layout_decl.LayTree.TheVariants as S;
 ghost use Rattle.rb_auto.specs.Fields.{cons_of};
-ghost use Rattle.rb_auto.specs.Derived.{arms_from, derived, leaf, provenance, tag_loc, tree_of};
+ghost use Rattle.rb_auto.specs.Derived.{arms_from, derived_layout, leaf, provenance, tag_loc, tree_of};
 ghost use Rattle.rb_auto.specs.Items.{form_tag};
 
 use crate::field_words::words_of;
@@ -133,7 +133,7 @@ pub(crate) fn derived(
     ty: u32,
     form: Form,
 ) -> Result<LayoutDecl, AllocError>
-    ensures { IfOk result (λ decl. decl ≡ derived program.now rooms.now ty form) }
+    ensures { IfOk result (λ decl. decl ≡ derived_layout program.now rooms.now ty form) }
 {
     let cons = cons_of(program.types.as_slice(), ty);
     let tree = tree_of(alloc, program, rooms, ty, form, cons)?;

@@ -30,8 +30,8 @@ scatter_of w slices number =
 abbrev pub named_bits_of : ℕ → List Slice → ℕ
 named_bits_of number slices = sum_by (λ (s : Slice). take_of number s.a s.l * 2 ^ s.a) slices
 
--- a number is gathered from the word w, bit by bit: for each slice its bits a up to a + l are bits o up to o + l of
--- the word, and its other bits are 0
+-- a number is gathered from the word w, bit by bit: each slice gives l bits of the word, from bit o on, to the number
+-- from its bit a on, and bits that no slice gives are 0
 pub record IsGathered (w : ℕ) (slices : List Slice) (number : ℕ) : Type 0 where
   pub inside : All (λ (s : Slice). (i : ℕ) → i < s.l → bit_at number (s.a + i) ≡ bit_at w (s.o + i)) slices
   pub outside : (i : ℕ) → All (λ (s : Slice). IsOutside s.a s.l i) slices → bit_at number i ≡ 0

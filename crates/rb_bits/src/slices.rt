@@ -16,8 +16,8 @@ pub struct Slice {
     pub l: u32,
 }
 
-/// The number whose bits `a` up to `a + l` are bits `o` up to `o + l` of `w`, for each slice, and
-/// whose other bits are 0; without a slice it is 0.
+/// The number that slices of a word hold: each slice gives `l` bits of `w`, from bit `o` on, to the
+/// number from its bit `a` on. Bits that no slice gives are 0, so without a slice it is 0.
 pub fn gather(w: u64, slices: &[Slice]) -> u64
     requires { AreSlices slices.now }
     ensures value { result ≡ gather_of w slices.now }

@@ -14,7 +14,7 @@ pub fn mask(o: u32, l: u32) -> u64
     (u64::MAX >> (64 - l)) << o
 }
 
-/// The number that stands in bits `o` up to `o + l` of `w`, at least one and all within 64.
+/// What the `l` bits of `w` from bit `o` on spell; they are one at least, and all within 64.
 pub fn take(w: u64, o: u32, l: u32) -> u64
     requires { IsRange o l }
     ensures value { result ≡ take_of w o l }

@@ -8,7 +8,7 @@ use Rattle.rb_core.specs.declared.outcome.Event.{Event}
 use Rattle.rb_core.specs.declared.outcome.Event.TheVariants.{Built}
 use Rattle.rb_core.specs.declared.outcome.SourceEnd.TheVariants.{Done}
 use Rattle.rb_core.specs.declared.pattern.Pat.{Pat}
-use Rattle.rb_core.specs.Meaning.{built}
+use Rattle.rb_core.specs.Meaning.{construction_outcome}
 use Rattle.rb_target.specs.Meaning.{World, CallEnd as Run}
 use Rattle.rb_target.specs.Sheet.{Sheet}
 use Rattle.rb_layout.specs.declared.agreed.LaidOut.{LaidOut}
@@ -35,11 +35,11 @@ module _ (plan : Plan) (con : ConRef) (vs : List Value) (out : Run) (w : World) 
   cost = ap (cost_of_built plan.layouts con.ty) (outs-Con con.con vs)
 
   paid : (l : Laid) → lay w.memory.limit w.memory.next (blocks_of plan.layouts con.ty v) ≡ l
-      → Ends (w.switches + choose_of plan.layouts con.ty con.con) out w.memory l (Done v w.left) (λ u w'. Ok u w' × Same w') → Does plan w.switches out w.memory (built con vs w.left) Ok
+      → Ends (w.switches + choose_of plan.layouts con.ty con.con) out w.memory l (Done v w.left) (λ u w'. Ok u w' × Same w') → Does plan w.switches out w.memory (construction_outcome con vs w.left) Ok
   paid (Over full) is r = let few = r.2 in let same = cost in event_over plan w.switches out w.memory event v w.left full r.0 Ok is r.1 (omega (arith, few, same))
   paid (Fits bs top) is r = let few = r.3 in let same = cost in event_fits plan w.switches out w.memory event v w.left top bs r.0 Ok is r.1 r.2 (omega (arith, few, same)) r.4.0
 
-builds_shown : (plan : Plan) (con : ConRef) (hs : List Held) (shown : List Pat) (old new : Sheet) (held : Held) → IsConstructed plan con hs shown old new held → Applies plan (AreAsShown shown) (λ calls. built con) hs old new (Named con.ty) held.slots
+builds_shown : (plan : Plan) (con : ConRef) (hs : List Held) (shown : List Pat) (old new : Sheet) (held : Held) → IsConstructed plan con hs shown old new held → Applies plan (AreAsShown shown) (λ calls. construction_outcome con) hs old new (Named con.ty) held.slots
 builds_shown plan con hs shown old new held made = record {
   adds = made.adds;
   given = made.given;

@@ -8,7 +8,7 @@ use Rattle.rb_core.specs.declared.types.Ty.{Ty}
 use Rattle.rb_core.specs.declared.types.Ty.TheVariants.{Named}
 use Rattle.rb_core.specs.declared.types.ConRef.{ConRef}
 use Rattle.rb_core.specs.declared.pattern.Pat.{Pat}
-use Rattle.rb_core.specs.Meaning.{built}
+use Rattle.rb_core.specs.Meaning.{construction_outcome}
 use Rattle.rb_core.specs.Values.{fields_of}
 use Rattle.rb_target.specs.Sheet.{Sheet}
 use Rattle.rb_layout.specs.declared.agreed.LaidOut.{LaidOut}
@@ -28,5 +28,5 @@ Builds agreed con hs shown old new held =
     (plan : Plan) → IsPlanOf agreed plan
     → (fields : List Ty) → fields_of plan.program.types con ≡ Some fields → map held_type hs ≡ fields
     → AllGiven plan old.slots hs
-    → (held.ty ≡ Named con.ty) × Applies plan (AreAsShown shown) (λ calls. built con) hs old new (Named con.ty)
-    held.slots
+    → (held.ty ≡ Named con.ty)
+    × Applies plan (AreAsShown shown) (λ calls. construction_outcome con) hs old new (Named con.ty) held.slots

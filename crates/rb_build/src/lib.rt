@@ -12,8 +12,10 @@
 //! ```text
 //! layout Tree <64> = split 0[0:2] {
 //!     0 => Empty               : { word 64 { [0:64] = 0 } }
-//!     1 => Node(Red, _, _, _)   : { word 64 { [0:2] = 1, [3:61] -> 8 { inline .1, inline .3, word 32 { [0:32] .2 } } } }
-//!     2 => Node(Black, _, _, _) : { word 64 { [0:2] = 2, [3:61] -> 8 { inline .1, inline .3, word 32 { [0:32] .2 } } } }
+//!     1 => Node(Red, _, _, _)   : { word 64 { [0:2] = 1, [3:61] -> 8 {
+//!         inline .1, inline .3, word 32 { [0:32] .2 } } } }
+//!     2 => Node(Black, _, _, _) : { word 64 { [0:2] = 2, [3:61] -> 8 {
+//!         inline .1, inline .3, word 32 { [0:32] .2 } } } }
 //! }
 //! ```
 //!

@@ -5,7 +5,7 @@ use Rattle.std.proofs.lemmas.Bool.Decides.{eqb_tells, leb_tells}
 use Rattle.std.proofs.lemmas.Option.{same_Some}
 use Rattle.std.proofs.Math.Nat.{div-lt_iff_lt-mul, mul-le-mul_right}
 use Rattle.rb_bytes.specs.Laws.{IsLeastMultiple}
-use Rattle.rb_bytes.specs.Memory.{AreBlocks, size_at, lies_within, aligned}
+use Rattle.rb_bytes.specs.Memory.{AreBlocks, size_at, lies_within, least_multiple}
 
 pub eqb_other : (m n : ℕ) → m ≢ n → eqb m n ≡ false
 eqb_other m n ne = elim (eqb_tells m n) [ inl h ↦ absurd (ne h.1) | inr h ↦ h.0 ]
@@ -78,14 +78,14 @@ pub within_size : (o : Option ℕ) (to : ℕ) → lies_within o to ≡ true → 
 within_size None to e = cc
 within_size (Some n) to e = elim (leb_tells to n) [ inl h ↦ (n, refl, h.1) | inr h ↦ absurd (false≢true (sym h.0 ∙ e)) ]
 
-pub aligned_from : (from align : ℕ) → 0 < align → from ≤ aligned from align
+pub aligned_from : (from align : ℕ) → 0 < align → from ≤ least_multiple from align
 aligned_from from align pos =
     let x = from + (align - 1) in
     let h : align * (x / align) + x % align ≡ x = omega arith in
     let r : x % align < align = omega arith in omega arith
 
 -- the address of a place is the least multiple
-pub aligned_least : (from align : ℕ) → 0 < align → IsLeastMultiple from align (aligned from align)
+pub aligned_least : (from align : ℕ) → 0 < align → IsLeastMultiple from align (least_multiple from align)
 aligned_least from align pos = record {
   multiple = ((from + (align - 1)) / align, refl);
   above = aligned_from from align pos;

@@ -5,8 +5,8 @@ use Rattle.std.proofs.lemmas.List.{append_assoc, drop_more, drop-drop, drop-set-
 use Rattle.std.proofs.lemmas.Nat.{pow-add, pow_pos}
 use Rattle.std.specs.Prelude.{vec_capacity}
 use Rattle.rb_bits.specs.LittleEndian.{IsByteCount, from_le_bytes, to_le_bytes}
-use Rattle.rb_bytes.specs.Memory.{Memory, IsAlign, IsWidth, byte_at, empty_memory, aligned, place_of, size_at, lies_within, read_le, write_le, then_byte, store_of}
-use Rattle.rb_bytes.specs.Starts.{written, written_in, size_in, blocks_from, bytes_of, memory_of, IsKept}
+use Rattle.rb_bytes.specs.Memory.{Memory, IsAlign, IsWidth, byte_at, empty_memory, least_multiple, place_of, size_at, lies_within, read_le, write_le, then_byte, store_of}
+use Rattle.rb_bytes.specs.Starts.{byte_by_mark, written_in, size_in, blocks_from, bytes_of, memory_of, IsKept}
 use Rattle.rb_bytes.specs.declared.fault.Full.{Full}
 use Rattle.rb_bytes.specs.declared.fault.Trap.{Trap}
 use Rattle.rb_bytes.specs.declared.fault.Trap.TheVariants.{Unwritten}
@@ -23,11 +23,11 @@ count_of_width width (inr (inl e)) = inr (inl (omega arith))
 count_of_width width (inr (inr (inl e))) = inr (inr (inl (omega arith)))
 count_of_width width (inr (inr (inr e))) = inr (inr (inr (omega arith)))
 
-written_some : (mark byte : ℕ) → 0 < mark → written mark byte ≡ Some byte
+written_some : (mark byte : ℕ) → 0 < mark → byte_by_mark mark byte ≡ Some byte
 written_some zero byte pos = absurd (omega arith)
 written_some (suc mark) byte pos = refl
 
-pub byte_at-written_in : (marks bytes : List ℕ) (a : ℕ) → length marks ≡ length bytes → byte_at (written_in marks bytes) a ≡ written (get_or marks a 0) (get_or bytes a 0)
+pub byte_at-written_in : (marks bytes : List ℕ) (a : ℕ) → length marks ≡ length bytes → byte_at (written_in marks bytes) a ≡ byte_by_mark (get_or marks a 0) (get_or bytes a 0)
 byte_at-written_in [] bytes a even = refl
 byte_at-written_in (mark ∷ marks) [] a even = absurd (omega arith)
 byte_at-written_in (mark ∷ marks) (byte ∷ bytes) zero even = refl
@@ -37,7 +37,7 @@ pub byte_marked : (marks bytes : List ℕ) (a : ℕ) → length marks ≡ length
 byte_marked marks bytes a even pos = byte_at-written_in marks bytes a even ∙ written_some (get_or marks a 0) (get_or bytes a 0) pos
 
 pub byte_unmarked : (marks bytes : List ℕ) (a : ℕ) → length marks ≡ length bytes → get_or marks a 0 ≡ 0 → byte_at (written_in marks bytes) a ≡ None
-byte_unmarked marks bytes a even none = byte_at-written_in marks bytes a even ∙ ap (λ mark. written mark (get_or bytes a 0)) none
+byte_unmarked marks bytes a even none = byte_at-written_in marks bytes a even ∙ ap (λ mark. byte_by_mark mark (get_or bytes a 0)) none
 
 length-written_in : (marks bytes : List ℕ) → length marks ≡ length bytes → length (written_in marks bytes) ≡ length bytes
 length-written_in [] bytes even = even
@@ -118,7 +118,7 @@ written_in-set [] [] at byte even = refl
 written_in-set [] (b ∷ bytes) at byte even = absurd (omega arith)
 written_in-set (mark ∷ marks) [] at byte even = absurd (omega arith)
 written_in-set (mark ∷ marks) (b ∷ bytes) zero byte even = refl
-written_in-set (mark ∷ marks) (b ∷ bytes) (suc at) byte even = ap (λ xs. written mark b ∷ xs) (written_in-set marks bytes at byte (omega arith))
+written_in-set (mark ∷ marks) (b ∷ bytes) (suc at) byte even = ap (λ xs. byte_by_mark mark b ∷ xs) (written_in-set marks bytes at byte (omega arith))
 
 none_over : (at : ℕ) (xs : List ℕ) → over at 0 xs [] ≡ xs
 none_over at xs = take-append-drop at xs
@@ -221,7 +221,7 @@ resized_is to more len xs xs' count same resized =
     resized ∙ ap (λ ys. ys ++ replicate (to - len) 0) (take_all to xs (omega arith)) ∙ ap (λ n. xs ++ replicate n 0) e
 
 -- the lists end before the next block
-pub below_place : (c : Inside) → IsKept c → (align at : ℕ) → IsAlign align → at ≡ aligned c.next align → length c.bytes.items ≤ at
+pub below_place : (c : Inside) → IsKept c → (align at : ℕ) → IsAlign align → at ≡ least_multiple c.next align → length c.bytes.items ≤ at
 below_place c kept align at aligns is = omega (arith, kept.below, aligned_from c.next align (align_positive align aligns), is)
 
 nothing_more : (n : ℕ) → written_in (replicate n 0) (replicate n 0) ≡ replicate n None
@@ -232,7 +232,7 @@ written_in-grown : (marks bytes : List ℕ) (more : ℕ) → length marks ≡ le
 written_in-grown [] [] more even = nothing_more more
 written_in-grown [] (byte ∷ bytes) more even = absurd (omega arith)
 written_in-grown (mark ∷ marks) [] more even = absurd (omega arith)
-written_in-grown (mark ∷ marks) (byte ∷ bytes) more even = ap (λ xs. written mark byte ∷ xs) (written_in-grown marks bytes more (omega arith))
+written_in-grown (mark ∷ marks) (byte ∷ bytes) more even = ap (λ xs. byte_by_mark mark byte ∷ xs) (written_in-grown marks bytes more (omega arith))
 
 no_sizes : (n : ℕ) → map size_in (replicate n 0) ≡ replicate n None
 no_sizes zero = refl
@@ -243,7 +243,7 @@ blocks_from-grown [] n at = blocks_none (replicate n None) at (none_at n)
 blocks_from-grown (None ∷ starts) n at = blocks_from-grown starts n (at + 1)
 blocks_from-grown (Some size ∷ starts) n at = ap (λ bs. (at, size) ∷ bs) (blocks_from-grown starts n (at + 1))
 
-module _ (c c' : Inside) (kept : IsKept c) (size align at : ℕ) (pos : 0 < size) (aligns : IsAlign align) (is : at ≡ aligned c.next align) (fits : at + size ≤ c.limit)
+module _ (c c' : Inside) (kept : IsKept c) (size align at : ℕ) (pos : 0 < size) (aligns : IsAlign align) (is : at ≡ least_multiple c.next align) (fits : at + size ≤ c.limit)
     (more : ℕ) (count : length c.bytes.items + more ≡ at + size) (bytes' : c'.bytes.items ≡ c.bytes.items ++ replicate more 0) (marks' : c'.marks.items ≡ c.marks.items ++ replicate more 0)
     (sizes' : c'.sizes.items ≡ set (c.sizes.items ++ replicate more 0) at size) (room' : (c.limit ≤ vec_capacity c'.bytes) × (c.limit ≤ vec_capacity c'.marks) × (c.limit ≤ vec_capacity c'.sizes))
     (blocks' : c'.blocks ≡ c.blocks + 1) (next' : c'.next ≡ at + size) (limit' : c'.limit ≡ c.limit) where

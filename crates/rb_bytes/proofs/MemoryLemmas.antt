@@ -6,7 +6,7 @@ use Rattle.std.proofs.lemmas.Bool.Decides.{leb_tells}
 use Rattle.std.proofs.lemmas.List.{length-replicate}
 use Rattle.std.proofs.Math.Nat.{one-le-pow}
 use Rattle.rb_bits.specs.LittleEndian.{from_le_bytes}
-use Rattle.rb_bytes.specs.Memory.{Memory, IsGood, IsAlign, IsSize, IsWidth, byte_at, empty_memory, aligned, place_of, size_at, lies_within, read_le, write_le, load_of, store_of}
+use Rattle.rb_bytes.specs.Memory.{Memory, IsGood, IsAlign, IsSize, IsWidth, byte_at, empty_memory, least_multiple, place_of, size_at, lies_within, read_le, write_le, load_of, store_of}
 use Rattle.rb_bytes.specs.Laws.{Extends, AreApart, Spells, IsLeastMultiple, IsFirstUnwritten, ChangesOnly, IsPlaced, IsStored, IsLoaded}
 use Rattle.rb_bytes.specs.declared.fault.Full.{Full}
 use Rattle.rb_bytes.specs.declared.fault.Trap.{Trap}
@@ -70,22 +70,22 @@ block_good m a size good above pos fits = record {
   fresh = λ at le. good.fresh at (omega arith);
 }
 
-pub placed_is : (m : Memory) (size align : ℕ) → aligned m.next align + size ≤ m.limit
-    → ◌≡◌ {A = Result ℕ Full × Memory} (place_of m size align) (Ok (aligned m.next align), record m { next = aligned m.next align + size; blocks = m.blocks ++ (aligned m.next align, size) ∷ [] })
+pub placed_is : (m : Memory) (size align : ℕ) → least_multiple m.next align + size ≤ m.limit
+    → ◌≡◌ {A = Result ℕ Full × Memory} (place_of m size align) (Ok (least_multiple m.next align), record m { next = least_multiple m.next align + size; blocks = m.blocks ++ (least_multiple m.next align, size) ∷ [] })
 placed_is m size align le =
-    elim (leb_tells (aligned m.next align + size) m.limit) [ inl h ↦ rw h.0 refl | inr h ↦ absurd (omega (arith, h.1)) ]
+    elim (leb_tells (least_multiple m.next align + size) m.limit) [ inl h ↦ rw h.0 refl | inr h ↦ absurd (omega (arith, h.1)) ]
 
-pub full_is : (m : Memory) (size align : ℕ) → m.limit < aligned m.next align + size
+pub full_is : (m : Memory) (size align : ℕ) → m.limit < least_multiple m.next align + size
     → ◌≡◌ {A = Result ℕ Full × Memory} (place_of m size align) (Err (record { next = m.next; size = size; align = align; limit = m.limit }), m)
 full_is m size align lt =
-    elim (leb_tells (aligned m.next align + size) m.limit) [ inl h ↦ absurd (omega (arith, h.1)) | inr h ↦ rw h.0 refl ]
+    elim (leb_tells (least_multiple m.next align + size) m.limit) [ inl h ↦ absurd (omega (arith, h.1)) | inr h ↦ rw h.0 refl ]
 
 -- what holds of a memory with one more block, and of the memory itself, holds after a place
 after_place : (P : Memory → Type 0) (m : Memory) (size align : ℕ) → P m
-    → (aligned m.next align + size ≤ m.limit → P (record m { next = aligned m.next align + size; blocks = m.blocks ++ (aligned m.next align, size) ∷ [] }))
+    → (least_multiple m.next align + size ≤ m.limit → P (record m { next = least_multiple m.next align + size; blocks = m.blocks ++ (least_multiple m.next align, size) ∷ [] }))
     → P (place_of m size align).1
 after_place P m size align same more =
-    elim (cases_lt m.limit (aligned m.next align + size)) [
+    elim (cases_lt m.limit (least_multiple m.next align + size)) [
       | inl lt ↦ subst P (sym (ap (λ (r : Result ℕ Full × Memory). r.1) (full_is m size align lt))) same
       | inr le ↦ subst P (sym (ap (λ (r : Result ℕ Full × Memory). r.1) (placed_is m size align le))) (more le)
     ]
@@ -94,7 +94,7 @@ after_place P m size align same more =
 pub place_good : (m : Memory) (size align : ℕ) → IsGood m → IsSize size → IsAlign align → IsGood (place_of m size align).1
 place_good m size align good sizes aligns =
     after_place IsGood m size align good
-    (λ fits. block_good m (aligned m.next align) size good (aligned_from m.next align (align_positive align aligns)) sizes.0 fits)
+    (λ fits. block_good m (least_multiple m.next align) size good (aligned_from m.next align (align_positive align aligns)) sizes.0 fits)
 
 -- ---- what stays
 pub Extends-refl : (m : Memory) → Extends m m
@@ -114,7 +114,7 @@ place_extends m size align aligns =
     (λ fits. record {
       limit = refl;
       next = omega (arith, aligned_from m.next align (align_positive align aligns));
-      blocks = ((aligned m.next align, size) ∷ [], refl);
+      blocks = ((least_multiple m.next align, size) ∷ [], refl);
       written = λ a b is. is;
     })
 
@@ -122,18 +122,18 @@ place_extends m size align aligns =
 pub place_found : (m : Memory) (size align : ℕ) → IsGood m → IsAlign align → IfOk (place_of m size align).0 (λ a. size_at (place_of m size align).1.blocks a ≡ Some size)
 place_found m size align good aligns =
     let P : Result ℕ Full × Memory → Type 0 = λ r. IfOk r.0 (λ a. size_at r.1.blocks a ≡ Some size) in
-    elim (cases_lt m.limit (aligned m.next align + size)) [
+    elim (cases_lt m.limit (least_multiple m.next align + size)) [
       | inl lt ↦ subst P (sym (full_is m size align lt)) tt
       | inr le ↦
           subst P (sym (placed_is m size align le))
-          (size_at-push m.blocks 64 m.next (aligned m.next align) size good.blocks (aligned_from m.next align (align_positive align aligns)))
+          (size_at-push m.blocks 64 m.next (least_multiple m.next align) size good.blocks (aligned_from m.next align (align_positive align aligns)))
     ]
 
 -- at the least multiple of the alignment
 pub place_least : (m : Memory) (size align : ℕ) → IsAlign align → IfOk (place_of m size align).0 (IsLeastMultiple m.next align)
 place_least m size align aligns =
     let P : Result ℕ Full × Memory → Type 0 = λ r. IfOk r.0 (IsLeastMultiple m.next align) in
-    elim (cases_lt m.limit (aligned m.next align + size)) [
+    elim (cases_lt m.limit (least_multiple m.next align + size)) [
       | inl lt ↦ subst P (sym (full_is m size align lt)) tt
       | inr le ↦ subst P (sym (placed_is m size align le)) (aligned_least m.next align (align_positive align aligns))
     ]
@@ -314,7 +314,7 @@ pub place_fresh : (m : Memory) (size align : ℕ) → IsGood m → IsAlign align
     → IfOk (place_of m size align).0 (λ a. (k : ℕ) → a ≤ k → byte_at (place_of m size align).1.bytes k ≡ None)
 place_fresh m size align good aligns =
     let P : Result ℕ Full × Memory → Type 0 = λ r. IfOk r.0 (λ a. (k : ℕ) → a ≤ k → byte_at r.1.bytes k ≡ None) in
-    elim (cases_lt m.limit (aligned m.next align + size)) [
+    elim (cases_lt m.limit (least_multiple m.next align + size)) [
       | inl lt ↦ subst P (sym (full_is m size align lt)) tt
       | inr le ↦
           subst P (sym (placed_is m size align le))

@@ -77,8 +77,8 @@ abbrev pub empty_memory : ℕ → Memory
 empty_memory limit = record { limit = limit; next = least_region; blocks = []; bytes = replicate limit None }
 
 -- the least multiple of the alignment that is not below an address; 0 for the alignment 0
-abbrev pub aligned : ℕ → ℕ → ℕ
-aligned from align = (from + (align - 1)) / align * align
+abbrev pub least_multiple : ℕ → ℕ → ℕ
+least_multiple from align = (from + (align - 1)) / align * align
 
 -- What a place of a block of `size` bytes at a multiple of `align` answers, and the memory after it: the block stands
 -- at the least multiple from the next address on, which is the answer, its end is the next address then, and no byte
@@ -86,7 +86,7 @@ aligned from align = (from + (align - 1)) / align * align
 -- alignment and the memory's limit, and nothing changes.
 abbrev pub place_of : Memory → ℕ → ℕ → Result ℕ Full × Memory
 place_of m size align =
-    let a = aligned m.next align in
+    let a = least_multiple m.next align in
     if leb (a + size) m.limit
     then (Ok a, record m { next = a + size; blocks = m.blocks ++ (a, size) ∷ [] })
     else (Err (record { next = m.next; size = size; align = align; limit = m.limit }), m)
@@ -122,8 +122,8 @@ write_le bytes zero at word = bytes
 write_le bytes (suc n) at word = write_le (slice_set bytes at (Some (word % 256))) n (at + 1) (word / 256)
 
 -- What a load answers at a base, an offset and a width: the number in the access's bytes, the lowest first. It is
--- `Astray` where no block begins at the base or the bytes leave it, else `Unwritten` with the address of the first of
--- them that was never written.
+-- `Astray` where the base is no block's, or the access goes past the block's end; else `Unwritten` with the address
+-- of the first of the bytes that was never written.
 unfoldable pub load_of : Memory → ℕ → ℕ → ℕ → Result ℕ Trap
 load_of m base offset width =
     if lies_within (size_at m.blocks base) (offset + width / 8)
@@ -131,8 +131,8 @@ load_of m base offset width =
     else Err (Astray base offset)
 
 -- What a store answers at a base, an offset and a width, and the memory after it: the low bytes of the word, as many
--- as the access has, are in the access's bytes. Where no block begins at the base or the bytes leave it, the answer
--- is `Astray`, and nothing changes.
+-- as the access has, are in the access's bytes. Where the base is no block's, or the access goes past the block's end,
+-- the answer is `Astray`, and nothing changes.
 unfoldable pub store_of : Memory → ℕ → ℕ → ℕ → ℕ → Result (Unit {0}) Trap × Memory
 store_of m base offset width word =
     if lies_within (size_at m.blocks base) (offset + width / 8)

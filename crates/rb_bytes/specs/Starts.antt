@@ -6,15 +6,15 @@ use Rattle.rb_bytes.specs.Memory.{Memory, IsGood}
 use Rattle.rb_bytes.specs.declared.checked.CheckedMemory.TheInside.{Inside}
 
 -- the byte at an address, by its mark: a mark of 0 says that nothing was written there
-abbrev pub written : ℕ → ℕ → Option ℕ
-written zero byte = None
-written (suc mark) byte = Some byte
+abbrev pub byte_by_mark : ℕ → ℕ → Option ℕ
+byte_by_mark zero byte = None
+byte_by_mark (suc mark) byte = Some byte
 
 -- the bytes of all addresses, by their marks; as long as the shorter of the two lists
 abbrev pub written_in : List ℕ → List ℕ → List (Option ℕ)
 written_in [] bytes = []
 written_in (mark ∷ marks) [] = []
-written_in (mark ∷ marks) (byte ∷ bytes) = written mark byte ∷ written_in marks bytes
+written_in (mark ∷ marks) (byte ∷ bytes) = byte_by_mark mark byte ∷ written_in marks bytes
 
 -- the size of the block that begins at an address; 0 says that none does
 abbrev pub size_in : ℕ → Option ℕ

@@ -220,7 +220,7 @@ impl ByteMemory for CheckedMemory {
     ///
     /// # Errors
     ///
-    /// `Astray` where no block begins at the base or the bytes leave it, by its size, else
+    /// `Astray` where the base is no block's, or the access goes past the block's size; else
     /// `Unwritten` for the first of the bytes without a mark.
     fn load(&self, base: u64, offset: u64, width: u64) -> Result<u64, Trap> {
         if !self.holds(base, offset, width / 8) {
@@ -239,8 +239,8 @@ impl ByteMemory for CheckedMemory {
     ///
     /// # Errors
     ///
-    /// `Astray` where no block begins at the base or the bytes leave it, by its size; then nothing
-    /// changes.
+    /// `Astray` where the base is no block's, or the access goes past the block's size; then
+    /// nothing changes.
     fn store(&mut self, base: u64, offset: u64, width: u64, word: u64) -> Result<(), Trap> {
         if !self.holds(base, offset, width / 8) {
             return Err(Trap::Astray(base, offset));

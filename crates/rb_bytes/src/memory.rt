@@ -64,9 +64,9 @@ pub trait ByteMemory {
     ///
     /// # Errors
     ///
-    /// `Astray` exactly where no block begins at the base or the bytes do not lie within it, else
-    /// `Unwritten` for the first of them that was never written. Where a memory does not check, its
-    /// caller sees to it that neither comes.
+    /// `Astray` exactly where the base is no block's, or the access goes past the block's end; else
+    /// `Unwritten` for the first of the bytes that was never written. Where a memory does not check,
+    /// its caller sees to it that neither comes.
     fn load(&self, base: u64, offset: u64, width: u64) -> Result<u64, Trap>
         requires width { IsWidth width }
         requires unchecked { CHECKS ≡ false → IsOk (load_of (memory self.now) base offset width) }
@@ -77,7 +77,7 @@ pub trait ByteMemory {
     ///
     /// # Errors
     ///
-    /// `Astray` exactly where no block begins at the base or the bytes do not lie within it. Where
+    /// `Astray` exactly where the base is no block's, or the access goes past the block's end. Where
     /// a memory does not check, its caller sees to it that none comes.
     fn store(&mut self, base: u64, offset: u64, width: u64, word: u64) -> Result<(), Trap>
         requires width { IsWidth width }

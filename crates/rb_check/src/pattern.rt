@@ -2,7 +2,7 @@
 
 ghost use Rattle.std.specs.Prelude.{◌≡◌, ◌==◌, length, map, take, drop, OnOk};
 ghost use Rattle.std.specs.List.{list_any};
-ghost use Rattle.rb_core.specs.Typing.{also_bound, fields_match, pattern_binders, pattern_params, repeated};
+ghost use Rattle.rb_core.specs.Typing.{also_bound, fields_match, pattern_binders, pattern_params, first_repeat};
 ghost use Rattle.rb_check.specs.inner.Answers.{LeavesTyping, binders_of_params, within};
 ghost use Rattle.rb_check.specs.inner.Below.{ParamsBelow};
 
@@ -17,7 +17,7 @@ use rb_core::typing::TypeFault;
 /// The token of the first variable that stands before in the list, too. Where numbers rise, as those
 /// of a file's binders do, only a variable that does stand before is sought there.
 pub fn repeated(params: &[Param]) -> Option<u32>
-    ensures { result ≡ repeated params.now }
+    ensures { result ≡ first_repeat params.now }
 {
     let mut above = 0;
     for (i, param) in params.iter().enumerate() {
@@ -70,7 +70,7 @@ pub fn bind_whole(
 
 // The token of the first variable from `start` on that stands before from there, too.
 fn repeated_from(params: &[Param], start: usize) -> Option<u32>
-    ensures { result ≡ repeated (drop start params.now) }
+    ensures { result ≡ first_repeat (drop start params.now) }
 {
     match params.get(start..) {
         None => None,

@@ -10,7 +10,7 @@ use Rattle.rb_core.specs.declared.types.DataDecl.{DataDecl}
 use Rattle.rb_core.specs.declared.outcome.Event.{Event}
 use Rattle.rb_core.specs.declared.program.Program.{Program}
 use Rattle.rb_core.specs.Values.{is_of_type, all_of_types}
-use Rattle.rb_bytes.specs.Memory.{Memory, IsGood, aligned}
+use Rattle.rb_bytes.specs.Memory.{Memory, IsGood, least_multiple}
 use Rattle.rb_bytes.specs.Growth.{Grown}
 use Rattle.rb_bytes.specs.declared.fault.Full.{Full as Unplaced}
 use Rattle.rb_bytes.proofs.GrowthLemmas.{Grown-extends}
@@ -32,10 +32,10 @@ abbrev full_at : ℕ → ℕ → Request → Unplaced
 full_at limit next r = record { next = next; size = r.size; align = r.align; limit = limit }
 
 abbrev lay_by : ℕ → ℕ → Request → List Request → Bool → Laid
-lay_by limit next r rs b = if b then block_before (aligned next r.align, r.size) (lay limit (aligned next r.align + r.size) rs) else Over (full_at limit next r)
+lay_by limit next r rs b = if b then block_before (least_multiple next r.align, r.size) (lay limit (least_multiple next r.align + r.size) rs) else Over (full_at limit next r)
 
 abbrev before_by : ℕ → ℕ → Request → List Request → Bool → List (ℕ × ℕ)
-before_by limit next r rs b = if b then (aligned next r.align, r.size) ∷ laid_before limit (aligned next r.align + r.size) rs else []
+before_by limit next r rs b = if b then (least_multiple next r.align, r.size) ∷ laid_before limit (least_multiple next r.align + r.size) rs else []
 
 fits_behind : (b : ℕ × ℕ) (l : Laid) (bs : List (ℕ × ℕ)) (p : ℕ) → block_before b l ≡ Fits bs p → (cs : List (ℕ × ℕ)) × (l ≡ Fits cs p) × (bs ≡ b ∷ cs)
 fits_behind b (Fits cs q) bs p e = let x : b ∷ cs ≡ bs = cc in let y : q ≡ p = cc in (cs, ap (Fits cs) y, sym x)
@@ -51,11 +51,11 @@ fits_more limit next [] bs p e qs =
     let x : [] ≡ bs = cc in
     let y : next ≡ p = cc in
     (ap (λ n. lay limit n qs) y ∙ ap (λ cs. behind_all cs (lay limit p qs)) x, ap (λ n. laid_before limit n qs) y ∙ ap (λ cs. cs ++ laid_before limit p qs) x)
-fits_more limit next (r ∷ rs) bs p e qs = elim (leb_tells (aligned next r.align + r.size) limit) [
+fits_more limit next (r ∷ rs) bs p e qs = elim (leb_tells (least_multiple next r.align + r.size) limit) [
   | inl t ↦
-      let b : ℕ × ℕ = (aligned next r.align, r.size) in
-      let f = fits_behind b (lay limit (aligned next r.align + r.size) rs) bs p (sym (ap (lay_by limit next r rs) t.0) ∙ e) in
-      let q = fits_more limit (aligned next r.align + r.size) rs f.0 p f.1 qs in (
+      let b : ℕ × ℕ = (least_multiple next r.align, r.size) in
+      let f = fits_behind b (lay limit (least_multiple next r.align + r.size) rs) bs p (sym (ap (lay_by limit next r rs) t.0) ∙ e) in
+      let q = fits_more limit (least_multiple next r.align + r.size) rs f.0 p f.1 qs in (
         ap (lay_by limit next r (rs ++ qs)) t.0 ∙ ap (block_before b) q.0 ∙ ap (λ cs. behind_all cs (lay limit p qs)) (sym f.2),
         ap (before_by limit next r (rs ++ qs)) t.0 ∙ ap (λ cs. b ∷ cs) q.1 ∙ ap (λ cs. cs ++ laid_before limit p qs) (sym f.2),
       )
@@ -65,11 +65,11 @@ fits_more limit next (r ∷ rs) bs p e qs = elim (leb_tells (aligned next r.alig
 pub over_more : (limit next : ℕ) (rs : List Request) (full : Unplaced) → lay limit next rs ≡ Over full → (qs : List Request)
     → (lay limit next (rs ++ qs) ≡ Over full) × (laid_before limit next (rs ++ qs) ≡ laid_before limit next rs)
 over_more limit next [] full e qs = absurd cc
-over_more limit next (r ∷ rs) full e qs = elim (leb_tells (aligned next r.align + r.size) limit) [
+over_more limit next (r ∷ rs) full e qs = elim (leb_tells (least_multiple next r.align + r.size) limit) [
   | inl t ↦
-      let b : ℕ × ℕ = (aligned next r.align, r.size) in
-      let o = over_behind b (lay limit (aligned next r.align + r.size) rs) full (sym (ap (lay_by limit next r rs) t.0) ∙ e) in
-      let q = over_more limit (aligned next r.align + r.size) rs full o qs in (
+      let b : ℕ × ℕ = (least_multiple next r.align, r.size) in
+      let o = over_behind b (lay limit (least_multiple next r.align + r.size) rs) full (sym (ap (lay_by limit next r rs) t.0) ∙ e) in
+      let q = over_more limit (least_multiple next r.align + r.size) rs full o qs in (
         ap (lay_by limit next r (rs ++ qs)) t.0 ∙ ap (block_before b) q.0,
         ap (before_by limit next r (rs ++ qs)) t.0 ∙ ap (λ cs. b ∷ cs) q.1 ∙ sym (ap (before_by limit next r rs) t.0),
       )

@@ -31,8 +31,7 @@ use Rattle.rb_rel.proofs.Existence.{PartIs, con_log, declared_type, makings, par
 use Rattle.rb_rel.proofs.Growth.{Represents-kept}
 use Rattle.rb_rel.proofs.Lists.{both, got}
 use Rattle.rb_rel.proofs.Makings.{making-Num}
-use Rattle.rb_rel.proofs.Layers.{address_at}
-use Rattle.rb_rel.proofs.Storing.{with_blocks}
+use Rattle.rb_rel.specs.Storing.{address_at, with_blocks}
 use Rattle.rb_coding.specs.Packing.{word_made}
 use Rattle.rb_values.specs.Nodes.{at, posts}
 use Rattle.rb_coding.specs.declared.table.Table.{Table}

@@ -3,7 +3,7 @@ use Rattle.std.proofs.Common.{◌≡◌, ℕ, zero, suc, ◌+◌, ◌/◌, ◌<�
 use Rattle.std.specs.Prelude.{slice_get, slice_index, leb, if◌then◌else◌}
 use Rattle.std.proofs.lemmas.Bool.Decides.{leb_tells}
 use Rattle.std.proofs.lemmas.Option.{same_Some}
-use Rattle.rb_bytes.specs.Memory.{Memory, IsGood, aligned, place_of, write_le}
+use Rattle.rb_bytes.specs.Memory.{Memory, IsGood, least_multiple, place_of, write_le}
 use Rattle.rb_bytes.specs.Growth.{Grown}
 use Rattle.rb_bytes.specs.declared.fault.Full.{Full}
 use Rattle.rb_bytes.proofs.GrowthLemmas.{Grown-refl, Grown-trans}
@@ -14,9 +14,8 @@ use Rattle.rb_layout.specs.declared.layout.Kind.{Kind}
 use Rattle.rb_layout.specs.declared.layout.Kind.TheVariants.{Const, Bits, Word, Pointer}
 use Rattle.rb_layout.specs.Words.{size_of, begins_at}
 use Rattle.rb_rel.specs.Placing.{Laid, Fits, Over, Request, request_of, block_before, lay}
-use Rattle.rb_rel.proofs.Packing.{number_of}
-use Rattle.rb_rel.proofs.Storing.{written, with_block, with_blocks, IsBlock, filled_grown}
-use Rattle.rb_rel.proofs.Layers.{address_at}
+use Rattle.rb_rel.specs.Storing.{number_of, with_words, with_block, with_blocks, address_at}
+use Rattle.rb_rel.proofs.Storing.{IsBlock, filled_grown}
 use Rattle.rb_coding.specs.Encoding.{laid_before}
 use Rattle.rb_coding.specs.inner.Filling.{behind_all, Progress, Stopped}
 use Rattle.rb_coding.specs.Packing.{put_into, made_of}
@@ -71,7 +70,7 @@ stopped_over a b rs full s =
 -- One block --------------------------------------------------------------------------------------
 module _ (m : Memory) (size align : ℕ) where
   abbrev base : ℕ
-  base = aligned m.next align
+  base = least_multiple m.next align
 
   abbrev refused : Full
   refused = record { next = m.next; size = size; align = align; limit = m.limit }
@@ -105,20 +104,20 @@ module _ (m : Memory) (size align : ℕ) where
     | inr f ↦ (let h : ◌≡◌ {A = Result ℕ Full × Memory} (Err full, m') (Err refused, m) = e ∙ ap placing f.0 in record { over = f.0; is_full = (let x : ◌≡◌ {A = Result ℕ Full} (Err full) (Err refused) = ap (λ (y : Result ℕ Full × Memory). y.0) h in cc); is_memory = ap (λ (y : Result ℕ Full × Memory). y.1) h })
   ]
 
-pub progress_one : (m : Memory) → IsGood m → (block : Block) → IsBlock block → (number : FlatWord → ℕ) → leb (aligned m.next block.align + size_of block) m.limit ≡ true
-    → aligned m.next block.align + size_of block ≤ m.limit → Progress m (with_block number m block) (request_of block ∷ []) ((aligned m.next block.align, size_of block) ∷ [])
+pub progress_one : (m : Memory) → IsGood m → (block : Block) → IsBlock block → (number : FlatWord → ℕ) → leb (least_multiple m.next block.align + size_of block) m.limit ≡ true
+    → least_multiple m.next block.align + size_of block ≤ m.limit → Progress m (with_block number m block) (request_of block ∷ []) ((least_multiple m.next block.align, size_of block) ∷ [])
 progress_one m good block is number fits room =
-    let a = aligned m.next block.align in
+    let a = least_multiple m.next block.align in
     record {
       lays = λ qs. ap (λ b. if b then block_before (a, size_of block) (lay m.limit (a + size_of block) qs) else Over (record { next = m.next; size = size_of block; align = block.align; limit = m.limit })) fits;
       before = λ qs. ap (λ b. if b then (a, size_of block) ∷ laid_before m.limit (a + size_of block) qs else []) fits;
       grown = filled_grown m good block is number room;
     }
 
-pub stop_one : (m : Memory) → IsGood m → (r : Request) → leb (aligned m.next r.align + r.size) m.limit ≡ false
+pub stop_one : (m : Memory) → IsGood m → (r : Request) → leb (least_multiple m.next r.align + r.size) m.limit ≡ false
     → Stopped m m (r ∷ []) (record { next = m.next; size = r.size; align = r.align; limit = m.limit })
 stop_one m good r over =
-    let a = aligned m.next r.align in
+    let a = least_multiple m.next r.align in
     record {
       bs = [];
       over = λ qs. ap (λ b. if b then block_before (a, r.size) (lay m.limit (a + r.size) qs) else Over (record { next = m.next; size = r.size; align = r.align; limit = m.limit })) over;
@@ -128,7 +127,7 @@ stop_one m good r over =
 
 -- Words of blocks ---------------------------------------------------------------------------------
 written_more' : (number : FlatWord → ℕ) (fs : List FlatWord) (i : ℕ) (f : FlatWord) (at : ℕ) (bytes : List (Option ℕ)) → slice_get fs i ≡ Some f
-    → written number (take (suc i) fs) at bytes ≡ write_le (written number (take i fs) at bytes) (f.width / 8) (at + begins_at fs i) (number f)
+    → with_words number (take (suc i) fs) at bytes ≡ write_le (with_words number (take i fs) at bytes) (f.width / 8) (at + begins_at fs i) (number f)
 written_more' number [] i f at bytes is = absurd cc
 written_more' number (g ∷ fs) zero f at bytes is =
     let z : at ≡ at + 0 = omega arith in
@@ -136,11 +135,11 @@ written_more' number (g ∷ fs) zero f at bytes is =
 written_more' number (g ∷ fs) (suc i) f at bytes is =
     let z : at + g.width / 8 + begins_at fs i ≡ at + (g.width / 8 + begins_at fs i) = omega arith in
     written_more' number fs i f (at + g.width / 8) (write_le bytes (g.width / 8) at (number g)) is
-    ∙ ap (λ a. write_le (written number (take i fs) (at + g.width / 8) (write_le bytes (g.width / 8) at (number g))) (f.width / 8) a (number f)) z
+    ∙ ap (λ a. write_le (with_words number (take i fs) (at + g.width / 8) (write_le bytes (g.width / 8) at (number g))) (f.width / 8) a (number f)) z
 
 pub written_more : (number : FlatWord → ℕ) (fs : List FlatWord) (i : ℕ) (f : FlatWord) (at : ℕ) (bytes : List (Option ℕ)) → slice_get fs i ≡ Some f
-    → written number (take (i + 1) fs) at bytes ≡ write_le (written number (take i fs) at bytes) (f.width / 8) (at + begins_at fs i) (number f)
-written_more number fs i f at bytes is = let z : suc i ≡ i + 1 = omega arith in subst (λ n. written number (take n fs) at bytes ≡ write_le (written number (take i fs) at bytes) (f.width / 8) (at + begins_at fs i) (number f)) z (written_more' number fs i f at bytes is)
+    → with_words number (take (i + 1) fs) at bytes ≡ write_le (with_words number (take i fs) at bytes) (f.width / 8) (at + begins_at fs i) (number f)
+written_more number fs i f at bytes is = let z : suc i ≡ i + 1 = omega arith in subst (λ n. with_words number (take n fs) at bytes ≡ write_le (with_words number (take i fs) at bytes) (f.width / 8) (at + begins_at fs i) (number f)) z (written_more' number fs i f at bytes is)
 
 begins_more' : (fs : List FlatWord) (i : ℕ) (f : FlatWord) → slice_get fs i ≡ Some f → begins_at fs (suc i) ≡ begins_at fs i + f.width / 8
 begins_more' [] i f is = absurd cc
@@ -153,15 +152,15 @@ begins_more fs i f is = let z : suc i ≡ i + 1 = omega arith in subst (λ n. be
 abbrev SameOn : (FlatWord → ℕ) → (FlatWord → ℕ) → List FlatWord → Type 0
 SameOn number number' fs = (j : ℕ) (f : FlatWord) → slice_get fs j ≡ Some f → number f ≡ number' f
 
-pub written_same : (number number' : FlatWord → ℕ) (fs : List FlatWord) (at : ℕ) (bytes : List (Option ℕ)) → SameOn number number' fs → written number fs at bytes ≡ written number' fs at bytes
+pub written_same : (number number' : FlatWord → ℕ) (fs : List FlatWord) (at : ℕ) (bytes : List (Option ℕ)) → SameOn number number' fs → with_words number fs at bytes ≡ with_words number' fs at bytes
 written_same number number' [] at bytes s = refl
 written_same number number' (f ∷ fs) at bytes s =
-    ap (λ n. written number fs (at + f.width / 8) (write_le bytes (f.width / 8) at n)) (s 0 f refl)
+    ap (λ n. with_words number fs (at + f.width / 8) (write_le bytes (f.width / 8) at n)) (s 0 f refl)
     ∙ written_same number number' fs (at + f.width / 8) (write_le bytes (f.width / 8) at (number' f)) (λ j x e. s (suc j) x e)
 
 pub filled_same : (number number' : FlatWord → ℕ) (m : Memory) (block : Block) → SameOn number number' block.words → with_block number m block ≡ with_block number' m block
 filled_same number number' m block s =
-    let a = aligned m.next block.align in
+    let a = least_multiple m.next block.align in
     ap (λ (bytes : List (Option ℕ)). record { limit = m.limit; next = a + size_of block; blocks = m.blocks ++ (a, size_of block) ∷ []; bytes = bytes }) (written_same number number' block.words a m.bytes s)
 
 pub fill_same : (number number' : FlatWord → ℕ) (m : Memory) (blocks : List Block) → ((b : ℕ) (block : Block) → slice_get blocks b ≡ Some block → SameOn number number' block.words) → with_blocks number m blocks ≡ with_blocks number' m blocks

@@ -32,10 +32,10 @@ use Rattle.rb_rel.proofs.Agreeing.{lawful}
 use Rattle.rb_rel.proofs.Declared.{declared}
 use Rattle.rb_rel.proofs.Existence.{PartIs, below_is, root_opens, has_layout, first_leaf}
 use Rattle.rb_rel.proofs.Known.{ltb_is}
-use Rattle.rb_rel.proofs.Layers.{Sound, sound, stored, made, numbered, layer_shown, can_hold, fits_at, address_at}
+use Rattle.rb_rel.proofs.Layers.{Sound, sound, stored, made, numbered, layer_shown, can_hold, fits_at}
+use Rattle.rb_rel.specs.Storing.{address_at, number_of, with_blocks}
 use Rattle.rb_rel.proofs.Lists.{get-mapped}
-use Rattle.rb_rel.proofs.Packing.{number_of, packed}
-use Rattle.rb_rel.proofs.Storing.{with_blocks}
+use Rattle.rb_rel.proofs.Packing.{packed}
 use Rattle.rb_coding.specs.inner.Filling.{ArePlaceable, Progress}
 use Rattle.rb_coding.specs.Packing.{put_into, made_of, word_made}
 use Rattle.rb_coding.proofs.GrowLemmas.{fill_same, progress_fits}

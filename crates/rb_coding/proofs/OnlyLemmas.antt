@@ -1,7 +1,7 @@
 -- Memories that have some of their blocks and no others.
 use Rattle.std.proofs.Common.{◌≡◌, ℕ, ◌+◌, ◌/◌, ◌≤◌, true, inl, inr, map, List, [], ◌∷◌, ◌++◌, Option, Some, None, Ok, refl, sym, subst, ap, ◌∙◌, arith, append_assoc, append-nil}
 use Rattle.std.proofs.lemmas.Bool.Decides.{eqb_tells}
-use Rattle.rb_bytes.specs.Memory.{Memory, AreBlocks, IsGood, aligned, byte_at, load_of, size_at, lies_within}
+use Rattle.rb_bytes.specs.Memory.{Memory, AreBlocks, IsGood, least_multiple, byte_at, load_of, size_at, lies_within}
 use Rattle.rb_bytes.specs.Growth.{Grown, AreWhole}
 use Rattle.rb_bytes.specs.Laws.{Extends}
 use Rattle.rb_bytes.proofs.BlockLemmas.{block_bounds, size_at-append, within_size}
@@ -20,7 +20,8 @@ use Rattle.rb_rel.specs.Placing.{Fits, Request, request_of, requests_of, lay}
 use Rattle.rb_rel.specs.Relation.{IsFound, LeafStands, Made, Represents, number, built, Represent}
 use Rattle.rb_rel.proofs.Elsewhere.{made_elsewhere}
 use Rattle.rb_rel.proofs.Growth.{Represents-kept}
-use Rattle.rb_rel.proofs.Storing.{with_block, with_blocks, laid_more}
+use Rattle.rb_rel.proofs.Storing.{laid_more}
+use Rattle.rb_rel.specs.Storing.{with_block, with_blocks}
 use Rattle.rb_coding.specs.Encoding.{only, StandsAlone, StandApart}
 use Rattle.rb_coding.specs.inner.Filling.{Progress}
 
@@ -81,7 +82,7 @@ pub filled_only : (made : FlatWord → ℕ) (blocks : List Block) (m : Memory) (
 filled_only made [] m own bs p e = let none : bs ≡ [] = cc in ap (only m) (sym (append-nil own) ∙ ap (λ xs. own ++ xs) (sym none))
 filled_only made (b ∷ blocks) m own bs p e =
     let l = laid_more made m.limit m.next (request_of b) (map request_of blocks) bs p e in
-    let at : ℕ × ℕ = (aligned m.next b.align, size_of b) in
+    let at : ℕ × ℕ = (least_multiple m.next b.align, size_of b) in
     filled_only made blocks (with_block made m b) (own ++ at ∷ []) l.1 p l.2
     ∙ ap (only (with_blocks made (with_block made m b) blocks)) (append_assoc own (at ∷ []) l.1 ∙ ap (λ xs. own ++ xs) (sym l.3))
 

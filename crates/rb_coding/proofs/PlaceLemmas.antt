@@ -3,7 +3,7 @@ use Rattle.std.proofs.Common.{◌≡◌, ℕ, zero, suc, ◌+◌, ◌/◌, ◌<�
 use Rattle.std.specs.Prelude.{slice_get, slice_index, if◌then◌else◌}
 use Rattle.std.proofs.lemmas.List.{map-append, length-append}
 use Rattle.std.proofs.lemmas.Nat.{pow_pos}
-use Rattle.rb_bytes.specs.Memory.{Memory, IsGood, IsAlign, aligned, store_of, write_le, size_at, lies_within}
+use Rattle.rb_bytes.specs.Memory.{Memory, IsGood, IsAlign, least_multiple, store_of, write_le, size_at, lies_within}
 use Rattle.rb_bytes.specs.declared.fault.Trap.{Trap}
 use Rattle.rb_bytes.specs.declared.fault.Trap.TheVariants.{Astray}
 use Rattle.rb_bytes.proofs.BlockLemmas.{size_at-push, aligned_from}
@@ -12,8 +12,8 @@ use Rattle.rb_layout.specs.declared.layout.Block.{Block}
 use Rattle.rb_layout.specs.declared.layout.FlatWord.{FlatWord}
 use Rattle.rb_layout.specs.Words.{size_of, bytes_taken, begins_at}
 use Rattle.rb_rel.specs.Placing.{Request, request_of}
-use Rattle.rb_rel.proofs.Storing.{written, with_block, with_blocks, IsBlock, begins_within, within_yes}
-use Rattle.rb_rel.proofs.Layers.{address_at}
+use Rattle.rb_rel.proofs.Storing.{IsBlock, begins_within, within_yes}
+use Rattle.rb_rel.specs.Storing.{with_words, with_block, with_blocks, address_at}
 use Rattle.rb_coding.specs.inner.Filling.{Progress, Stopped, ArePlaceable}
 use Rattle.rb_coding.specs.Packing.{word_made}
 use Rattle.rb_coding.proofs.GrowLemmas.{IsPlace, IsNoPlace, progress_none, progress_one, progress_trans, stop_one, stop_after, stop_wider, fill_more, filled_same, made_same, written_more, requests_more, address_is_index, index_before, take_whole}
@@ -26,7 +26,7 @@ got (y ∷ xs) (suc i) x lt is = got xs i x (omega (arith, lt)) is
 
 module _ (m : Memory) (base : ℕ) (fs : List FlatWord) (placed : size_at m.blocks base ≡ Some (bytes_taken fs)) (number : FlatWord → ℕ) where
   abbrev pub stored : ℕ → Memory
-  stored i = record m { bytes = written number (take i fs) base m.bytes }
+  stored i = record m { bytes = with_words number (take i fs) base m.bytes }
 
   inside : (i : ℕ) (f : FlatWord) → slice_get fs i ≡ Some f → lies_within (size_at m.blocks base) (begins_at fs i + f.width / 8) ≡ true
   inside i f is = ap (λ o. lies_within o (begins_at fs i + f.width / 8)) placed ∙ within_yes (bytes_taken fs) (begins_at fs i + f.width / 8) (begins_within fs i f is)
@@ -68,14 +68,14 @@ block_is blocks can i block is = record { some = (can.sizes i block is).0; width
 module _ (subs : List ℕ → List ℕ) (blocks : List Block) (can : ArePlaceable blocks) (old m : Memory) (addresses : List ℕ) (i : ℕ) (block : Block) (is : slice_get blocks i ≡ Some block) (p : Placing subs blocks old m addresses i) where
   -- the number that a word of the block is made of, by the addresses so far
   pub placing_next : (m1 m2 : Memory) (base : ℕ) → IsPlace m (size_of block) block.align m1 base
-      → m2 ≡ record m1 { bytes = written (word_made subs (slice_index addresses)) block.words base m1.bytes }
+      → m2 ≡ record m1 { bytes = with_words (word_made subs (slice_index addresses)) block.words base m1.bytes }
       → Placing subs blocks old m2 (addresses ++ base ∷ []) (i + 1)
   placing_next m1 m2 base place stored =
-      let a = aligned m.next block.align in
+      let a = least_multiple m.next block.align in
       let number = word_made subs (slice_index addresses) in
-      let e1 : record m1 { bytes = written number block.words base m1.bytes } ≡ with_block number m block =
-      ap (λ (x : Memory). record x { bytes = written number block.words base x.bytes }) place.is_memory
-      ∙ ap (λ b. record m { next = a + size_of block; blocks = m.blocks ++ (a, size_of block) ∷ []; bytes = written number block.words b m.bytes }) place.is_base in
+      let e1 : record m1 { bytes = with_words number block.words base m1.bytes } ≡ with_block number m block =
+      ap (λ (x : Memory). record x { bytes = with_words number block.words base x.bytes }) place.is_memory
+      ∙ ap (λ b. record m { next = a + size_of block; blocks = m.blocks ++ (a, size_of block) ∷ []; bytes = with_words number block.words b m.bytes }) place.is_base in
       let e : m2 ≡ with_block number m block = stored ∙ e1 in
       let one = progress_one m p.progress.grown.good block (block_is blocks can i block is) number place.fits place.room in
       let both = progress_trans old m (with_block number m block) (map request_of (take i blocks)) (request_of block ∷ []) p.bs ((a, size_of block) ∷ []) p.progress one in
@@ -126,8 +126,8 @@ placing_all subs blocks old m addresses i le p =
 pub placed_found : (m m' : Memory) (block : Block) (base : ℕ) → IsGood m → IsBlock block → IsPlace m (size_of block) block.align m' base → size_at m'.blocks base ≡ Some (size_of block)
 placed_found m m' block base good is place =
     ap (λ (x : Memory). size_at x.blocks base) place.is_memory
-    ∙ ap (λ a. size_at (m.blocks ++ (aligned m.next block.align, size_of block) ∷ []) a) place.is_base
-    ∙ size_at-push m.blocks 64 m.next (aligned m.next block.align) (size_of block) good.blocks (aligned_from m.next block.align is.align)
+    ∙ ap (λ a. size_at (m.blocks ++ (least_multiple m.next block.align, size_of block) ∷ []) a) place.is_base
+    ∙ size_at-push m.blocks 64 m.next (least_multiple m.next block.align) (size_of block) good.blocks (aligned_from m.next block.align is.align)
 
 pub placed_room : (m m' : Memory) (block : Block) (base : ℕ) → IsGood m → IsPlace m (size_of block) block.align m' base → base + size_of block ≤ 16777216
 placed_room m m' block base good place = let r = place.room in let e = place.is_base in let l = good.limit in omega (arith, r, e, l)

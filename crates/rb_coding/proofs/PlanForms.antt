@@ -23,7 +23,7 @@ use Rattle.rb_layout.specs.Positions.{Open, below, opens_below, opens_of, open_p
 use Rattle.rb_rel.specs.Relation.{LeafStands, Made}
 use Rattle.rb_rel.specs.Reading.{walk}
 use Rattle.rb_rel.proofs.Agreeing.{lawful}
-use Rattle.rb_rel.proofs.Lawful.{fits_type, is_named}
+use Rattle.rb_rel.specs.Provenances.{fits_type, is_named}
 use Rattle.rb_rel.proofs.Leading.{leads}
 use Rattle.rb_rel.proofs.Leaves.{leaf_matches}
 use Rattle.rb_rel.proofs.Lists.{both, get-left, get-right, get-mapped}

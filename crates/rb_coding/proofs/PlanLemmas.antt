@@ -21,7 +21,7 @@ use Rattle.rb_core.proofs.ValueLaws as VL
 use Rattle.rb_bytes.specs.Memory.{Memory}
 use Rattle.rb_layout.specs.Positions.{Open, below, opens_below, opens_of, types_or_none}
 use Rattle.rb_rel.specs.Relation.{number}
-use Rattle.rb_rel.proofs.Lawful.{fits_type, is_named}
+use Rattle.rb_rel.specs.Provenances.{fits_type, is_named}
 use Rattle.rb_rel.proofs.Lists.{both, get-left, get-right, get-mapped}
 use Rattle.rb_rel.proofs.Opens.{fits-Con, fits-Num, opens-Con, opens-Wild, opens-Var, fitting}
 use Rattle.rb_rel.proofs.Reading.{same_nat}

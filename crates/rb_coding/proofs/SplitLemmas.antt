@@ -17,9 +17,8 @@ use Rattle.rb_layout.specs.declared.layout.FlatArm.{FlatArm}
 use Rattle.rb_layout.specs.Splits.{Test, Is, IsNone, Route, under_test, Under, arm_routes, else_routes, literals_of, routes_step, routes_arm, routes_of, routes_under, SplitAt, splits_or_none, splits_step, splits_arm, splits_of, splits_under}
 use Rattle.rb_layout.specs.A7.{IsLiteral}
 use Rattle.rb_layout.proofs.FlatForms as F
-use Rattle.rb_rel.specs.Reading.{on_loaded, read_from, read_loc}
+use Rattle.rb_rel.specs.Reading.{AreDistinct, LiteralsDistinct, on_loaded, read_from, read_loc}
 use Rattle.rb_rel.proofs.Lists.{get-append, get-map, get-left, get-right}
-use Rattle.rb_rel.proofs.Trees.{AreDistinct, LiteralsDistinct}
 use Rattle.rb_coding.specs.Arms.{under_number}
 use Rattle.rb_coding.specs.inner.Leading.{ReadsNumber, Passes, RouteLeads}
 

@@ -8,7 +8,7 @@ use Rattle.rb_core.specs.declared.value.Value.{Value}
 use Rattle.rb_core.specs.declared.types.Ty.{Ty}
 use Rattle.rb_core.specs.declared.types.DataDecl.{DataDecl}
 use Rattle.rb_core.specs.declared.program.Program.{Program}
-use Rattle.rb_bytes.specs.Memory.{Memory, aligned}
+use Rattle.rb_bytes.specs.Memory.{Memory, least_multiple}
 use Rattle.rb_bytes.specs.Growth.{Grown}
 use Rattle.rb_layout.specs.declared.layout.Layout.{Layout}
 use Rattle.rb_layout.specs.Flattening.{flat_layouts}
@@ -23,7 +23,7 @@ use Rattle.rb_coding.specs.declared.fault.EncodeFault.TheVariants.{Full, Memory 
 abbrev pub laid_before : ℕ → ℕ → List Request → List (ℕ × ℕ)
 laid_before limit next [] = []
 laid_before limit next (r ∷ rs) =
-    let a = aligned next r.align in
+    let a = least_multiple next r.align in
     if leb (a + r.size) limit then (a, r.size) ∷ laid_before limit (a + r.size) rs else []
 
 -- the memory as it would be with these blocks and no others

@@ -5,7 +5,7 @@ use Rattle.std.specs.Prelude.{ℕ, ◌-◌, ltb, List, [], ◌∷◌, if◌then�
 use Rattle.rb_bits.specs.Words.{take_of, put_of}
 use Rattle.rb_layout.specs.declared.layout.FlatWord.{FlatWord}
 use Rattle.rb_layout.specs.declared.layout.Part.{Part}
-use Rattle.rb_rel.proofs.Packing.{number_of}
+use Rattle.rb_rel.specs.Storing.{number_of}
 
 -- word w with the low l bits of the number `part` put into it from bit o on; w as it is where l is 0 or the bits
 -- leave the word

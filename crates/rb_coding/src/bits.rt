@@ -7,8 +7,8 @@ ghost use Rattle.rb_coding.specs.Packing.{put_into};
 
 use rb_bits::words::{put, take};
 
-/// The number that stands in bits `o` up to `o + l` of a word, above which there are zeros; 0 where
-/// `l` is 0.
+/// What the `l` bits of a word from bit `o` on spell, where zeros stand above the word; 0 where `l`
+/// is 0.
 pub fn take_from(word: u64, o: u64, l: u64) -> u64
     ensures { result ≡ take_of word o l }
 {

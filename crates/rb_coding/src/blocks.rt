@@ -8,7 +8,7 @@ ghost use Rattle.rb_bytes.specs.Memory.{IsGood, most_region, size_at};
 ghost use Rattle.rb_layout.specs.A4.{IsBlockWidth};
 ghost use Rattle.rb_layout.specs.Words.{bytes_taken};
 ghost use Rattle.rb_layout.specs.declared.layout.FlatWord.{FlatWord as Flat};
-ghost use Rattle.rb_rel.proofs.Storing.{written};
+ghost use Rattle.rb_rel.specs.Storing.{with_words};
 ghost use Rattle.rb_coding.specs.inner.Filling.{ArePlaceable, ArePlaced, IsMade};
 ghost use Rattle.rb_coding.specs.inner.Nodes.{subs_of};
 ghost use Rattle.rb_coding.specs.Packing.{word_made};
@@ -38,7 +38,7 @@ fn store_words<M: ByteMemory>(
     requires room { base + bytes_taken words.now ≤ most_region }
     requires widths { (j : ℕ) (f : Flat) → slice_get words.now j ≡ Some f → IsBlockWidth f.width }
     ensures value { M.memory memory.new ≡ record (M.memory memory.old) {
-      bytes = written (word_made (subs_of table.now nodes.now node) (slice_index addresses.now))
+      bytes = with_words (word_made (subs_of table.now nodes.now node) (slice_index addresses.now))
           words.now base (M.memory memory.old).bytes;
     } }
     ensures good { IsGood (M.memory memory.new) }

@@ -4,7 +4,7 @@
 //! the words of the nodes before it, and `addresses` are those of its blocks, by number.
 
 ghost use Rattle.std.specs.Prelude.{◌≡◌, ◌/◌, slice_index, map, IfOk};
-ghost use Rattle.rb_rel.proofs.Packing.{number_of};
+ghost use Rattle.rb_rel.specs.Storing.{number_of};
 ghost use Rattle.rb_coding.specs.inner.Nodes.{subs_of};
 ghost use Rattle.rb_coding.specs.Packing.{made_of, word_made};
 

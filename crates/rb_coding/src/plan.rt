@@ -13,8 +13,8 @@ ghost use Rattle.rb_coding.specs.inner.Opening.{steps_of, words_of};
 use crate::gather::field_words;
 use crate::node::one_word;
 use crate::paths::path_below;
-use crate::posts::field_list;
 use crate::todo::Step;
+use rb_core::inference::types_of_fields;
 use rb_core::pattern::Pat;
 use rb_core::seq::Seq;
 use rb_core::types::{DataDecl, Ty};
@@ -78,7 +78,7 @@ pub(crate) fn plan(
         }
         Pat::Con(_, con, pats) => {
             todo.push(Step::Join(con.con, pats.len()))?;
-            let tys = field_list(opening.types, Ty::Named(con.ty), con.con);
+            let tys = types_of_fields(opening.types, *con);
             plan_fields(alloc, opening, pats.as_slice(), tys, path, todo)
         }
     }

@@ -11,8 +11,9 @@ ghost use Rattle.rb_values.specs.Nodes.{posts};
 ghost use Rattle.rb_coding.specs.inner.Nodes.{field_list, layer_fields, typed_posts};
 
 use crate::table::start_of;
+use rb_core::inference::types_of_fields;
 use rb_core::seq::Seq;
-use rb_core::types::{DataDecl, Ty};
+use rb_core::types::{ConRef, DataDecl, Ty};
 use rb_values::forest::Forest;
 use rb_values::nodes::Layer;
 use std::alloc::{AllocError, Global};
@@ -32,19 +33,13 @@ pub(crate) fn sizes_of(alloc: Global, value: &Forest) -> Result<Seq<usize>, Allo
     Ok(sizes)
 }
 
-/// The types of the fields of a constructor of a type; none where the type has no such constructor.
-pub(crate) fn field_list(types: &[DataDecl], ty: Ty, con: u32) -> &[Ty]
+// The types of the fields of a constructor of a type; none where the type has no such constructor.
+fn field_list(types: &[DataDecl], ty: Ty, con: u32) -> &[Ty]
     ensures { result.now ≡ field_list types.now ty con }
 {
-    let Ty::Named(ty) = ty else {
-        return &[];
-    };
-    match types.get(ty as usize) {
-        None => &[],
-        Some(data) => match data.cons.get(con as usize) {
-            None => &[],
-            Some(con) => con.fields.as_slice(),
-        },
+    match ty {
+        Ty::Int(_) => &[],
+        Ty::Named(ty) => types_of_fields(types, ConRef { ty, con }),
     }
 }
 

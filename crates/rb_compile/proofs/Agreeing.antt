@@ -28,7 +28,7 @@ use Rattle.rb_core.specs.declared.typing.TypeFault.TheVariants.{Arity}
 use Rattle.rb_core.specs.Typing.{Typing, and_then, bound_type, clause_rule, clauses, each_argument, field_types, as_wanted, integer, integer_operand, operand_wanted, operator_type, param_types, pattern_binders, result_type, rule_of, type_of}
 use Rattle.rb_core.specs.Inference.{Inference, binders, clause_inferred, first_clause_type, inferred_type, match_type, operands_type, width_of, with_binder}
 use Rattle.rb_core.specs.Coverage.{branch_sites, part_sites, site_of, sites}
-use Rattle.rb_core.specs.Meaning.{Calls, Meaning, PartsOutcome, after, all_of, at_end, at_part, built, clause_meaning, combined, cut_to, first_of, first_wanted, later_wanted, meaning_of, parts_after, done, then_do, then_with, value_or}
+use Rattle.rb_core.specs.Meaning.{Calls, Meaning, PartsOutcome, after, all_of, at_end, at_part, construction_outcome, clause_meaning, operation_outcome, cut_to, first_of, first_wanted, later_wanted, meaning_of, parts_after, value_outcome, then_do, then_with, value_or}
 use Rattle.rb_core.proofs.ExpressionLaws.{Each, EachBody, induction}
 use Rattle.rb_core.proofs.InferenceForms.{clause_inferred-is, inferred-Binary, inferred-Build, inferred-Call, inferred-Let, inferred-Match, inferred-Num, inferred-To, inferred-Var}
 use Rattle.rb_core.proofs.TypingLemmas.{type-Binary, type-Build, type-Call, type-Clause, type-Let, type-Match, type-Num, type-To, type-Var}
@@ -308,21 +308,21 @@ module _ (p : Program) (calls : Calls) (f : ℕ) where
   pub same_meaning : (e : Expr) → SameMeaning e
   same_meaning = induction SameMeaning (record {
     num = λ at n wanted s s' l env env' h k. meaning-Num p calls f wanted s l env at n ∙ sym (meaning-Num p calls f wanted s' l env' at n);
-    var = λ at x wanted s s' l env env' h k. meaning-Var p calls f wanted s l env at x ∙ ap (λ v. done v l) (k x (subst (λ xs. Contains xs x) (sym (variables-Var at x)) (Contains-push [] x))) ∙ sym (meaning-Var p calls f wanted s' l env' at x);
+    var = λ at x wanted s s' l env env' h k. meaning-Var p calls f wanted s l env at x ∙ ap (λ v. value_outcome v l) (k x (subst (λ xs. Contains xs x) (sym (variables-Var at x)) (Contains-push [] x))) ∙ sym (meaning-Var p calls f wanted s' l env' at x);
     call = λ at g es each wanted s s' l env env' h k.
         let inside = fewer (part_variables p.types p.funs es) _ _ (variables-Call at g es) (λ y j. j) in
         meaning-Call p calls f wanted s l env at g es ∙ ap (λ o. then_with o (λ vs rest. calls g rest vs)) (parts_meaning es each _ s s' [] l env env' (λ x i. h x (inside x i)) (λ x i. k x (inside x i))) ∙ sym (meaning-Call p calls f wanted s' l env' at g es);
     build = λ at c es each wanted s s' l env env' h k.
         let inside = fewer (part_variables p.types p.funs es) _ _ (variables-Build at c es) (λ y j. j) in
-        meaning-Build p calls f wanted s l env at c es ∙ ap (λ o. then_with o (built c)) (parts_meaning es each _ s s' [] l env env' (λ x i. h x (inside x i)) (λ x i. k x (inside x i))) ∙ sym (meaning-Build p calls f wanted s' l env' at c es);
+        meaning-Build p calls f wanted s l env at c es ∙ ap (λ o. then_with o (construction_outcome c)) (parts_meaning es each _ s s' [] l env env' (λ x i. h x (inside x i)) (λ x i. k x (inside x i))) ∙ sym (meaning-Build p calls f wanted s' l env' at c es);
     binary = λ at op a b ha hb wanted s s' l env env' h k.
         let in_a = left (variables_in a) (variables_in b) _ (variables-Binary at op a b) in
         let in_b = right (variables_in a) (variables_in b) _ (variables-Binary at op a b) in
         let t = operands_type op wanted (inferred_type p.types p.funs a None s') in
         meaning-Binary p calls f wanted s l env at op a b
-        ∙ ap (λ u. then_do (ev a (operand_wanted op wanted) s l env) (λ v rest. then_do (ev b (Some (operands_type op wanted u)) s rest env) (combined op (width_of (operands_type op wanted u)) v))) (same_type p.types p.funs a None s s' (λ x i. h x (in_a x i)))
+        ∙ ap (λ u. then_do (ev a (operand_wanted op wanted) s l env) (λ v rest. then_do (ev b (Some (operands_type op wanted u)) s rest env) (operation_outcome op (width_of (operands_type op wanted u)) v))) (same_type p.types p.funs a None s s' (λ x i. h x (in_a x i)))
         ∙ do_same _ _ _ _ (ha (operand_wanted op wanted) s s' l env env' (λ x i. h x (in_a x i)) (λ x i. k x (in_a x i)))
-        (λ v rest. ap (λ o. then_do o (combined op (width_of t) v)) (hb (Some t) s s' rest env env' (λ x i. h x (in_b x i)) (λ x i. k x (in_b x i)))) ∙ sym (meaning-Binary p calls f wanted s' l env' at op a b);
+        (λ v rest. ap (λ o. then_do o (operation_outcome op (width_of t) v)) (hb (Some t) s s' rest env env' (λ x i. h x (in_b x i)) (λ x i. k x (in_b x i)))) ∙ sym (meaning-Binary p calls f wanted s' l env' at op a b);
     to = λ at bits a ha wanted s s' l env env' h k.
         let inside = fewer (variables_in a) _ _ (variables-To at bits a) (λ y j. j) in
         meaning-To p calls f wanted s l env at bits a ∙ ap (λ o. then_do o (cut_to bits)) (ha None s s' l env env' (λ x i. h x (inside x i)) (λ x i. k x (inside x i))) ∙ sym (meaning-To p calls f wanted s' l env' at bits a);

@@ -10,7 +10,7 @@ use Rattle.rb_target.specs.Growth.{AgreesBut, Nowhere}
 use Rattle.rb_target.specs.Sheet.{Sheet, AreWritten, most_instrs}
 use Rattle.rb_target.specs.Validity.{CallsFit, IsFine, IsLower, IsValidFun, SlotsFit, TargetsFit, dest_count}
 use Rattle.rb_fragment.specs.Adding.{CallsWell}
-use Rattle.rb_fragment.specs.Functions.{Compiles, HasShapes, empty_sheet, param_locals}
+use Rattle.rb_fragment.specs.Functions.{Compiles, HasShapes, param_locals, param_words}
 use Rattle.rb_fragment.specs.Holding.{Holds, scope_of}
 use Rattle.rb_fragment.specs.Owing.{Does, GivesValue}
 use Rattle.rb_fragment.specs.Plan.{Plan, words_needed}
@@ -19,6 +19,10 @@ use Rattle.rb_fragment.proofs.Laying.{does_map}
 use Rattle.rb_fragment.proofs.Functions.{calls_fit, params_hold, params_scope}
 use Rattle.rb_compile.specs.inner.Forms.{meant}
 use Rattle.rb_compile.specs.inner.Tails.{EmitsTail, IsReturn}
+
+-- a function's code before its first instruction
+abbrev pub empty_sheet : Plan → Fun → Sheet
+empty_sheet plan f = record { code = []; params = param_words plan f; slots = param_words plan f }
 
 module _ (plan : Plan) (g : ℕ) (f : Fun) (b : Sheet) (named : IsLower f.name)
     (e : EmitsTail plan (meant plan g f.body (Some f.result) (param_locals plan 0 f.params)) (param_locals plan 0 f.params) (empty_sheet plan f) b f.result) where

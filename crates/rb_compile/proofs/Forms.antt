@@ -11,7 +11,7 @@ use Rattle.rb_core.specs.declared.expression.Expr as X
 use Rattle.rb_core.specs.declared.outcome.Outcome.{Outcome}
 use Rattle.rb_core.specs.Typing.{type_of}
 use Rattle.rb_core.specs.Inference.{with_binder}
-use Rattle.rb_core.specs.Meaning.{Calls, with_value, done, then_do, meaning_of}
+use Rattle.rb_core.specs.Meaning.{Calls, with_value, value_outcome, then_do, meaning_of}
 use Rattle.rb_core.proofs.MeaningForms.{meaning-Num, meaning-Let}
 use Rattle.rb_core.proofs.NumberedForms.{numbered-Let}
 use Rattle.rb_core.proofs.TypedForms.{typed-Num, typed-Let}
@@ -67,13 +67,13 @@ module _ (plan : Plan) (a : Sheet) (n bits : ℕ) (small : n < 2 ^ 64) (fits : n
   const_adds : Adds plan a (pushed (with_slot a) (Const a.slots n))
   const_adds = Adds-one plan a (Const a.slots n) (0, omega arith, refl) (record { bounded = small; slots_fit = omega arith; targets = tt; calls = tt })
 
-  pub number_emits : (ls : List Local) → Emits plan (λ calls left env. done (Num n) left) ls a (pushed (with_slot a) (Const a.slots n)) (Int bits) (a.slots ∷ [])
+  pub number_emits : (ls : List Local) → Emits plan (λ calls left env. value_outcome (Num n) left) ls a (pushed (with_slot a) (Const a.slots n)) (Int bits) (a.slots ∷ [])
   number_emits ls = record {
     adds = const_adds;
     given = (omega arith, tt);
     count = refl;
     origin = λ x h. elim h [ inl e ↦ inl (omega (arith, e)) | inr e ↦ absurd e ];
-    does = λ calls clean env. one plan clean calls a (Const a.slots n) (λ s m. Holds plan clean s m ls env) (λ left. done (Num n) left) (Int bits)
+    does = λ calls clean env. one plan clean calls a (Const a.slots n) (λ s m. Holds plan clean s m ls env) (λ left. value_outcome (Num n) left) (Int bits)
         (λ next callee pc s w pre. (Num n, n, refl, refl, number bits n fits));
   }
 
@@ -85,7 +85,7 @@ number_expr plan f at n wanted ls a b held small is =
     let e = number_emits plan a n h.0 small h.2 ls in (
       h.3,
       subst (λ u. Emits plan (meant plan f (X.Num at n) wanted ls) ls a (pushed (with_slot a) (Const a.slots n)) u (a.slots ∷ [])) (sym h.1)
-          (same_emits plan (meant plan f (X.Num at n) wanted ls) (λ calls left env. done (Num n) left) ls a (pushed (with_slot a) (Const a.slots n)) (Int h.0) (a.slots ∷ [])
+          (same_emits plan (meant plan f (X.Num at n) wanted ls) (λ calls left env. value_outcome (Num n) left) ls a (pushed (with_slot a) (Const a.slots n)) (Int h.0) (a.slots ∷ [])
           (λ calls left env. meaning-Num plan.program calls f wanted (scope_of ls) left env at n) e),
     ))
 

@@ -14,7 +14,7 @@ use Rattle.rb_core.specs.declared.outcome.Outcome.{Outcome}
 use Rattle.rb_core.specs.Typing.{operand_wanted, operator_type, type_of}
 use Rattle.rb_core.specs.Inference.{width_of}
 use Rattle.rb_core.specs.WellNumbered.{is_between}
-use Rattle.rb_core.specs.Meaning.{Calls, combined, cut_to, number_of, op_value, then_do}
+use Rattle.rb_core.specs.Meaning.{Calls, operation_outcome, cut_to, number_of, op_value, then_do}
 use Rattle.rb_core.proofs.MeaningForms.{meaning-Binary, meaning-To}
 use Rattle.rb_core.proofs.NumberedForms.{both, numbered-Binary, numbered-To}
 use Rattle.rb_core.proofs.OperatorLaws.{op_fits, number_of-Num}
@@ -77,8 +77,8 @@ module _ (plan : Plan) (ea eb : Calls → ℕ → List Binding → Outcome) (op 
   after = pushed (with_slot c) instr
 
   last : (calls : Calls) (clean : Bool) (v w : Value)
-      → Fragment plan clean calls c after (λ s m. Rep plan m clean (Int bits) v (slots_at s xs) × Rep plan m clean (Int bits) w (slots_at s ys)) (combined op (width_of (Int bits)) v w) t (c.slots ∷ [])
-  last calls clean v w = one plan clean calls c instr (λ s m. Rep plan m clean (Int bits) v (slots_at s xs) × Rep plan m clean (Int bits) w (slots_at s ys)) (combined op (width_of (Int bits)) v w) t
+      → Fragment plan clean calls c after (λ s m. Rep plan m clean (Int bits) v (slots_at s xs) × Rep plan m clean (Int bits) w (slots_at s ys)) (operation_outcome op (width_of (Int bits)) v w) t (c.slots ∷ [])
+  last calls clean v w = one plan clean calls c instr (λ s m. Rep plan m clean (Int bits) v (slots_at s xs) × Rep plan m clean (Int bits) w (slots_at s ys)) (operation_outcome op (width_of (Int bits)) v w) t
       (λ next callee pc s u pre.
       let x = Rep-int plan clean u.memory bits v (slots_at s xs) pre.0 in
       let y = Rep-int plan clean u.memory bits w (slots_at s ys) pre.1 in
@@ -104,7 +104,7 @@ module _ (plan : Plan) (ea eb : Calls → ℕ → List Binding → Outcome) (op 
       ))
 
   operator_emits : AreGiven plan a.slots ls → Emits plan ea ls a b (Int bits) xs → Emits plan eb ls b c (Int bits) ys
-      → Emits plan (λ calls left env. then_do (ea calls left env) (λ v rest. then_do (eb calls rest env) (combined op (width_of (Int bits)) v))) ls a after t (c.slots ∷ [])
+      → Emits plan (λ calls left env. then_do (ea calls left env) (λ v rest. then_do (eb calls rest env) (operation_outcome op (width_of (Int bits)) v))) ls a after t (c.slots ∷ [])
   operator_emits given first second =
       let x_low : slice_index xs 0 < c.slots + 1 = (let h = first_below b.slots xs first.given first.count in omega (arith, h, second.adds.more)) in
       let y_low : slice_index ys 0 < c.slots + 1 = (let h = first_below c.slots ys second.given second.count in omega (arith, h)) in
@@ -120,10 +120,10 @@ module _ (plan : Plan) (ea eb : Calls → ℕ → List Binding → Outcome) (op 
         origin = λ y h. elim h [ inl e ↦ inl (omega (arith, e, first.adds.more, second.adds.more)) | inr e ↦ absurd e ];
         does = λ calls clean env.
             seq plan clean calls a b after (Int bits) t xs (c.slots ∷ []) (λ s m. Holds plan clean s m ls env) (λ v s m. Rep plan m clean (Int bits) v (slots_at s xs) × Holds plan clean s m ls env)
-            (λ left. ea calls left env) (λ v rest. then_do (eb calls rest env) (combined op (width_of (Int bits)) v)) first.adds tail (first.does calls clean env)
+            (λ left. ea calls left env) (λ v rest. then_do (eb calls rest env) (operation_outcome op (width_of (Int bits)) v)) first.adds tail (first.does calls clean env)
             (λ v. seq plan clean calls b c after (Int bits) t ys (c.slots ∷ []) (λ s m. Rep plan m clean (Int bits) v (slots_at s xs) × Holds plan clean s m ls env)
             (λ w s m. Rep plan m clean (Int bits) v (slots_at s xs) × Rep plan m clean (Int bits) w (slots_at s ys))
-            (λ left. eb calls left env) (combined op (width_of (Int bits)) v) second.adds adds
+            (λ left. eb calls left env) (operation_outcome op (width_of (Int bits)) v) second.adds adds
             (weaken plan clean calls b c (λ s m. Holds plan clean s m ls env) (λ s m. Rep plan m clean (Int bits) v (slots_at s xs) × Holds plan clean s m ls env) (λ left. eb calls left env) (Int bits) ys (λ s m pre. pre.1) (second.does calls clean env))
             (λ w. last calls clean v w)
             (λ w s s' m m' ext keeps rep pre. (subst (λ u. Rep plan m' clean (Int bits) v u) (sym (slots_at-kept b.slots s s' xs first.given keeps)) (Rep-kept plan clean m m' ext pre.0), rep)))
@@ -153,10 +153,10 @@ module _ (plan : Plan) (f at : ℕ) (op : Op) (ea eb : Expr) (wanted : Option Ty
       let B = second (Int n) (record { sound = ready.sound; typed = typed1; within = ready.within; numbered = wn.1; given = given1; ready_sites = sites.1 }) in
       let second1 = subst (λ u. Emits plan (meant plan f eb (Some u) ls) ls b c (Int n) hy.slots) is B.1 in
       let all = operator_emits plan (meant plan f ea (operand_wanted op wanted) ls) (meant plan f eb (Some (Int n)) ls) op n t ls a b c hx.slots hy.slots p.5 given A.1 second1 in
-      let named = same_emits plan (meant plan f (X.Binary at op ea eb) wanted ls) (λ calls left env. then_do (meant plan f ea (operand_wanted op wanted) ls calls left env) (λ v rest. then_do (meant plan f eb (Some (Int n)) ls calls rest env) (combined op (width_of (Int n)) v)))
+      let named = same_emits plan (meant plan f (X.Binary at op ea eb) wanted ls) (λ calls left env. then_do (meant plan f ea (operand_wanted op wanted) ls calls left env) (λ v rest. then_do (meant plan f eb (Some (Int n)) ls calls rest env) (operation_outcome op (width_of (Int n)) v)))
       ls a (after plan (meant plan f ea (operand_wanted op wanted) ls) (meant plan f eb (Some (Int n)) ls) op n t ls a b c hx.slots hy.slots p.5) t (c.slots ∷ [])
       (λ calls left env. meaning-Binary plan.program calls f wanted (scope_of ls) left env at op ea eb
-      ∙ ap (λ u. then_do (meant plan f ea (operand_wanted op wanted) ls calls left env) (λ v rest. then_do (meant plan f eb (Some u) ls calls rest env) (combined op (width_of u) v))) p.1) all in (
+      ∙ ap (λ u. then_do (meant plan f ea (operand_wanted op wanted) ls calls left env) (λ v rest. then_do (meant plan f eb (Some u) ls calls rest env) (operation_outcome op (width_of u) v))) p.1) all in (
         ap (operator_type op) is ∙ p.5,
         subst (λ u. Emits plan (meant plan f (X.Binary at op ea eb) wanted ls) ls a (pushed (with_slot c) (Alu (alu_op_of op) (stated_width u) c.slots (slice_index hx.slots 0) (slice_index hy.slots 0))) t (c.slots ∷ [])) (sym is) named,
       ))

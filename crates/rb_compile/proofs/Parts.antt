@@ -12,7 +12,7 @@ use Rattle.rb_core.specs.declared.expression.Expr as X
 use Rattle.rb_core.specs.Typing.{each_argument, field_types, param_types, params_of, result_of, rule_of, type_of}
 use Rattle.rb_core.specs.Values.{fields_of}
 use Rattle.rb_core.specs.WellNumbered.{all_within, expression_is_numbered}
-use Rattle.rb_core.specs.Meaning.{Calls, Meaning, all_of, built, meaning_of, spent, then_with}
+use Rattle.rb_core.specs.Meaning.{Calls, Meaning, all_of, construction_outcome, meaning_of, spent, then_with}
 use Rattle.rb_core.proofs.MeaningForms.{meaning-Build, meaning-Call}
 use Rattle.rb_core.proofs.NumberedForms.{numbered-Build, numbered-Call, numbered_part}
 use Rattle.rb_core.proofs.TypedForms.{typed-Build, typed-Call, typed_argument}
@@ -152,10 +152,10 @@ build_expr agreed plan f at con es wanted ls fields a b c hs held of_agreed is f
     let all = all_shown plan f es fields ls a b hs ready.sound ready.within ready.given long typed nc.1 sites first in
     let kinds = kinds_are plan f es fields ls a b hs ready.sound ready.within ready.given long typed nc.1 sites first in
     let done = builds plan of_agreed fields is kinds all.given in
-    let e = applied plan fields ls (AreAsShown (map shown_of es)) (λ calls. map (meaning_of plan.program calls f) es) (λ calls. built con) a b c hs (Named con.ty) held.slots all done.1 in (
+    let e = applied plan fields ls (AreAsShown (map shown_of es)) (λ calls. map (meaning_of plan.program calls f) es) (λ calls. construction_outcome con) a b c hs (Named con.ty) held.slots all done.1 in (
       done.0 ∙ tc.2,
       subst (λ u. Emits plan (meant plan f (X.Build at con es) wanted ls) ls a c u held.slots) tc.2
-          (same_emits plan (meant plan f (X.Build at con es) wanted ls) (λ calls left env. then_with (all_of (map (meaning_of plan.program calls f) es) fields (scope_of ls) [] left env) (built con)) ls a c (Named con.ty) held.slots
+          (same_emits plan (meant plan f (X.Build at con es) wanted ls) (λ calls left env. then_with (all_of (map (meaning_of plan.program calls f) es) fields (scope_of ls) [] left env) (construction_outcome con)) ls a c (Named con.ty) held.slots
           (λ calls left env. meaning-Build plan.program calls f wanted (scope_of ls) left env at con es
-          ∙ ap (λ ts. then_with (all_of (map (meaning_of plan.program calls f) es) ts (scope_of ls) [] left env) (built con)) fields_are) e),
+          ∙ ap (λ ts. then_with (all_of (map (meaning_of plan.program calls f) es) ts (scope_of ls) [] left env) (construction_outcome con)) fields_are) e),
     )

@@ -21,7 +21,7 @@ use Rattle.rb_core.specs.declared.expression.Expr.TheOpen as E
 use Rattle.rb_core.specs.declared.expression.Expr.TheFolds.{fold-roll-Expr}
 use Rattle.rb_core.specs.Matching.{all_pass, is_con, matches_of}
 use Rattle.rb_core.specs.Typing.{field_types}
-use Rattle.rb_core.specs.Meaning.{Calls, Meaning, PartsOutcome, all_of, at_part, at_parts_end, built, first_wanted, later_wanted, meaning_of, then_do, then_with}
+use Rattle.rb_core.specs.Meaning.{Calls, Meaning, PartsOutcome, all_of, at_part, at_parts_end, construction_outcome, first_wanted, later_wanted, meaning_of, then_do, then_with}
 use Rattle.rb_core.proofs.ExpressionLaws.{Each, induction}
 use Rattle.rb_core.proofs.MatchingForms.{matches-Con, matches-Wild}
 use Rattle.rb_core.proofs.MeaningForms.{meaning-Build}
@@ -65,14 +65,14 @@ value_of : SourceEnd → Option Value
 value_of (Done v l) = Some v
 value_of Stopped = None
 
-con_ends : (o : PartsOutcome) (c : ConRef) (v : Value) (rest : ℕ) → (then_with o (built c)).end ≡ Done v rest → (vs : List Value) × (k : ℕ) × (o.end ≡ AllDone vs k) × (v ≡ Con c.con vs)
+con_ends : (o : PartsOutcome) (c : ConRef) (v : Value) (rest : ℕ) → (then_with o (construction_outcome c)).end ≡ Done v rest → (vs : List Value) × (k : ℕ) × (o.end ≡ AllDone vs k) × (v ≡ Con c.con vs)
 unfolding then_with value_of
 con_ends o c v rest e = go o.end refl e
   where
     same : (a b : Value) → Some a ≡ Some b → a ≡ b
     same a b h = cc
 
-    go : (x : PartsEnd) → o.end ≡ x → (at_parts_end x (built c)).end ≡ Done v rest → (vs : List Value) × (k : ℕ) × (o.end ≡ AllDone vs k) × (v ≡ Con c.con vs)
+    go : (x : PartsEnd) → o.end ≡ x → (at_parts_end x (construction_outcome c)).end ≡ Done v rest → (vs : List Value) × (k : ℕ) × (o.end ≡ AllDone vs k) × (v ≡ Con c.con vs)
     go (AllDone vs k) is h = (vs, k, is, sym (same (Con c.con vs) v (ap value_of h)))
     go Cut is h = absurd cc
 

@@ -8,7 +8,7 @@ use Rattle.rb_core.specs.declared.binding.Binding.{Binding}
 use Rattle.rb_core.specs.declared.expression.Expr as X
 use Rattle.rb_core.specs.declared.outcome.Outcome.{Outcome}
 use Rattle.rb_core.specs.Typing.{bound_type, variable_type}
-use Rattle.rb_core.specs.Meaning.{Calls, value_or, value_in, done}
+use Rattle.rb_core.specs.Meaning.{Calls, value_or, value_in, value_outcome}
 use Rattle.rb_core.proofs.MeaningForms.{meaning-Var}
 use Rattle.rb_core.proofs.TypedForms.{typed-Var}
 use Rattle.rb_bytes.specs.Memory.{Memory}
@@ -24,7 +24,7 @@ use Rattle.rb_fragment.specs.Holding.{AreGiven, Holds, IsOfLocal, binder_in, sco
 use Rattle.rb_fragment.specs.Fragments.{Emits}
 use Rattle.rb_fragment.proofs.Adding.{Adds-refl}
 use Rattle.rb_fragment.proofs.Fragments.{nothing, one}
-use Rattle.rb_compile.specs.inner.Forms.{EmitsExpr, VariableIs, held_or, meant, variable_is}
+use Rattle.rb_compile.specs.inner.Forms.{EmitsExpr, VariableIs, held_or, meant, IsHeldOrZero}
 use Rattle.rb_compile.proofs.Forms.{number_emits, one_is, same_emits}
 
 module _ (plan : Plan) (x : ℕ) where
@@ -68,7 +68,7 @@ module _ (plan : Plan) (f : ℕ) (at x : ℕ) (wanted : Option Ty) (ls : List Lo
   static given = found plan x a.slots ls ls None (Int 64) (λ y o. o) given refl
 
   abbrev valued : Calls → ℕ → List Binding → Outcome
-  valued calls left env = done (value_in env x) left
+  valued calls left env = value_outcome (value_in env x) left
 
   named : (calls : Calls) (left : ℕ) (env : List Binding) → meant plan f (X.Var at x) wanted ls calls left env ≡ valued calls left env
   named calls left env = meaning-Var plan.program calls f wanted (scope_of ls) left env at x
@@ -120,7 +120,7 @@ module _ (plan : Plan) (f : ℕ) (at x : ℕ) (wanted : Option Ty) (ls : List Lo
 pub variable_expr : (plan : Plan) (f at x : ℕ) (wanted : Option Ty) (ls : List Local) (a b : Sheet) (held : Held) → VariableIs ls x a b held → EmitsExpr plan f (X.Var at x) wanted ls a b held
 variable_expr plan f at x wanted ls a b held is = go (held_or None x ls) refl is
   where
-    go : (o : Option Held) → held_or None x ls ≡ o → variable_is o a b held → EmitsExpr plan f (X.Var at x) wanted ls a b held
+    go : (o : Option Held) → held_or None x ls ≡ o → IsHeldOrZero o a b held → EmitsExpr plan f (X.Var at x) wanted ls a b held
     go None e h = one_is plan f (X.Var at x) wanted ls a a b (Const a.slots 0) (Int 64) held h (unbound_expr plan f at x wanted ls a e)
     go (Some k) e h =
         subst (λ (c : Sheet). EmitsExpr plan f (X.Var at x) wanted ls a c held) (sym h.0)

@@ -10,7 +10,8 @@ use Rattle.rb_target.specs.Sheet.{Sheet}
 use Rattle.rb_target.specs.Validity.{IsValid, IsValidFun}
 use Rattle.rb_target.proofs.Growing.{below_or, get-append, get-seam}
 use Rattle.rb_fragment.specs.Plan.{Plan}
-use Rattle.rb_fragment.specs.Functions.{AllCompile, Compiles, HasShapes, empty_sheet, param_locals, param_words}
+use Rattle.rb_fragment.specs.Functions.{AllCompile, Compiles, HasShapes, param_locals, param_words}
+use Rattle.rb_compile.proofs.Compiled.{empty_sheet}
 use Rattle.rb_fragment.proofs.Functions.{params_given, params_scope}
 use Rattle.rb_compile.specs.inner.Forms.{meant}
 use Rattle.rb_compile.specs.inner.Functions.{FirstCompile, FunIsReady, ProgramIsReady}

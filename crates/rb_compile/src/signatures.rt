@@ -5,9 +5,10 @@
 ghost use Rattle.std.specs.Prelude.{◌≡◌, IfOk, option_copied, slice_get};
 ghost use Rattle.rb_core.specs.Values.{fields_of};
 
+use rb_core::constructors::con_of;
 use rb_core::program::Fun;
 use rb_core::seq::Seq;
-use rb_core::types::{ConRef, DataDecl, Ty};
+use rb_core::types::{ConRef, Ty};
 use rb_layout::agreed::Agreed;
 use std::alloc::{AllocError, Global};
 
@@ -29,21 +30,8 @@ pub(crate) fn field_types(
     ensures { IfOk result (λ o. o ≡ fields_of agreed.now.covered.program.types con) }
 {
     let program = agreed.covered().program();
-    let fields = fields_in(alloc, program.types.as_slice(), con)?;
-    Ok(fields)
-}
-
-// The types of a constructor's fields, in their order; None where these types do not have the
-/// constructor.
-fn fields_in(alloc: Global, types: &[DataDecl], con: ConRef) -> Result<Option<Seq<Ty>>, AllocError>
-    ensures { IfOk result (λ o. o ≡ fields_of types.now con) }
-{
-    let Some(decl) = types.get(con.ty as usize) else {
-        return Ok(None);
-    };
-    let Some(found) = decl.cons.get(con.con as usize) else {
-        return Ok(None);
-    };
-    let fields = found.fields.copy(alloc)?;
-    Ok(Some(fields))
+    match con_of(program.types.as_slice(), con) {
+        None => Ok(None),
+        Some(con) => Ok(Some(con.fields.copy(alloc)?)),
+    }
 }

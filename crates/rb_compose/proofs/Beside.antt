@@ -14,7 +14,8 @@ use Rattle.rb_layout.specs.declared.layout.Part.{Part}
 use Rattle.rb_layout.specs.declared.layout.Kind.{Kind}
 use Rattle.rb_layout.specs.declared.layout.Kind.TheVariants.{Const, Bits, Word, Pointer}
 use Rattle.rb_fragment.specs.Reads.{is_range}
-use Rattle.rb_rel.proofs.Packing.{number_of, packed, put_below}
+use Rattle.rb_rel.proofs.Packing.{packed, put_below}
+use Rattle.rb_rel.specs.Storing.{number_of}
 use Rattle.rb_compose.specs.declared.subvalue.Subvalue.{Subvalue}
 use Rattle.rb_compose.specs.Counts.{capped}
 use Rattle.rb_compose.specs.inner.Code.{after_constants, constants, is_constant, is_low, is_ready, low_bit, with_constant}

@@ -9,7 +9,7 @@ use Rattle.rb_core.specs.declared.types.Ty.TheVariants.{Int, Named}
 use Rattle.rb_core.specs.declared.program.Program.{Program}
 use Rattle.rb_core.specs.TypedPrograms.{IsTyped}
 use Rattle.rb_core.specs.Values.{part_at}
-use Rattle.rb_bytes.specs.Memory.{Memory, IsGood, aligned, write_le}
+use Rattle.rb_bytes.specs.Memory.{Memory, IsGood, least_multiple, write_le}
 use Rattle.rb_bytes.specs.Growth.{Grown}
 use Rattle.rb_target.specs.declared.instr.Instr.{Instr}
 use Rattle.rb_target.specs.Laws.{Law}
@@ -34,9 +34,10 @@ use Rattle.rb_rel.specs.Placing.{Laid, Fits, Over, leaf_requests, blocks_of, lay
 use Rattle.rb_rel.specs.Relation.{shape_length}
 use Rattle.rb_rel.proofs.Fitting.{KindFits, WordFits}
 use Rattle.rb_rel.proofs.Lists.{both}
-use Rattle.rb_rel.proofs.Layers.{Sound, open_of, address_at, can_hold, layer_shown, numbered, placed_at, stored}
-use Rattle.rb_rel.proofs.Packing.{number_of, packed}
-use Rattle.rb_rel.proofs.Storing.{laid_more, with_block, with_blocks, written}
+use Rattle.rb_rel.proofs.Layers.{Sound, open_of, can_hold, layer_shown, numbered, placed_at, stored}
+use Rattle.rb_rel.specs.Storing.{address_at, number_of, with_block, with_blocks, with_words}
+use Rattle.rb_rel.proofs.Packing.{packed}
+use Rattle.rb_rel.proofs.Storing.{laid_more}
 use Rattle.rb_fragment.specs.Plan.{Plan, Rep}
 use Rattle.rb_fragment.proofs.Represented.{Rep-int}
 use Rattle.rb_compose.specs.Counts.{capped}
@@ -66,16 +67,16 @@ module _ (f g : FlatWord → ℕ) where
   same_map [] same = refl
   same_map (x ∷ fs) same = ap (λ y. y ∷ map f fs) (same 0 x refl) ∙ ap (λ ys. g x ∷ ys) (same_map fs (λ j y e. same (suc j) y e))
 
-  same_written : (fs : List FlatWord) (at : ℕ) (bytes : List (Option ℕ)) → SameIn fs → written f fs at bytes ≡ written g fs at bytes
+  same_written : (fs : List FlatWord) (at : ℕ) (bytes : List (Option ℕ)) → SameIn fs → with_words f fs at bytes ≡ with_words g fs at bytes
   same_written [] at bytes same = refl
   same_written (x ∷ fs) at bytes same =
       same_written fs (at + x.width / 8) (write_le bytes (x.width / 8) at (f x)) (λ j y e. same (suc j) y e)
-      ∙ ap (λ n. written g fs (at + x.width / 8) (write_le bytes (x.width / 8) at n)) (same 0 x refl)
+      ∙ ap (λ n. with_words g fs (at + x.width / 8) (write_le bytes (x.width / 8) at n)) (same 0 x refl)
 
   same_blocks : (xs : List Block) (m : Memory) → ((b : ℕ) (x : Block) → slice_get xs b ≡ Some x → SameIn x.words) → with_blocks f m xs ≡ with_blocks g m xs
   same_blocks [] m same = refl
   same_blocks (x ∷ xs) m same =
-      let a = aligned m.next x.align in
+      let a = least_multiple m.next x.align in
       let one : with_block f m x ≡ with_block g m x =
       ap (λ bytes. let r : Memory = record { limit = m.limit; next = a + size_of x; blocks = (with_block g m x).blocks; bytes = bytes } in r) (same_written x.words a m.bytes (same 0 x refl)) in
       same_blocks xs (with_block f m x) (λ b y e. same (suc b) y e) ∙ ap (λ m1. with_blocks g m1 xs) one
@@ -88,7 +89,7 @@ laid_there limit next (y ∷ xs) bs p e zero x is =
     let l = laid_more (λ f. 0) limit next (request_of y) (map request_of xs) bs p e in ap (λ cs. address_at cs 0) (sym l.3)
 laid_there limit next (y ∷ xs) bs p e (suc b) x is =
     let l = laid_more (λ f. 0) limit next (request_of y) (map request_of xs) bs p e in
-    laid_there limit (aligned next y.align + size_of y) xs l.1 p l.2 b x is ∙ ap (λ cs. address_at cs (suc b)) (sym l.3)
+    laid_there limit (least_multiple next y.align + size_of y) xs l.1 p l.2 b x is ∙ ap (λ cs. address_at cs (suc b)) (sym l.3)
 
 -- what asks for nothing is nothing
 no_requests : (xs : List Block) → map request_of xs ≡ [] → xs ≡ []

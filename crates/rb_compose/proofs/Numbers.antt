@@ -15,7 +15,8 @@ use Rattle.rb_layout.specs.declared.layout.Kind.{Kind}
 use Rattle.rb_layout.specs.declared.layout.Kind.TheVariants.{Const, Bits, Word, Pointer}
 use Rattle.rb_layout.specs.A4.{IsAlignment}
 use Rattle.rb_fragment.specs.Reads.{is_range}
-use Rattle.rb_rel.proofs.Packing.{number_of, packed, put_below}
+use Rattle.rb_rel.proofs.Packing.{packed, put_below}
+use Rattle.rb_rel.specs.Storing.{number_of}
 use Rattle.rb_compose.specs.Counts.{capped}
 use Rattle.rb_compose.specs.inner.Code.{constants, shift_of, with_constant}
 

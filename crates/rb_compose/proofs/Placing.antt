@@ -3,7 +3,7 @@ use Rattle.std.proofs.Common.{◌≡◌, ℕ, suc, ◌+◌, ◌<◌, ◌≤◌, 
 use Rattle.std.specs.Prelude.{slice_index, if◌then◌else◌}
 use Rattle.std.proofs.lemmas.Bool.{cases_lt}
 use Rattle.std.proofs.lemmas.Bool.Decides.{leb_tells}
-use Rattle.rb_bytes.specs.Memory.{Memory, IsGood, aligned}
+use Rattle.rb_bytes.specs.Memory.{Memory, IsGood, least_multiple}
 use Rattle.rb_target.specs.declared.instr.Instr.{Instr}
 use Rattle.rb_target.specs.declared.outcome.End.TheVariants.{Full as Filled}
 use Rattle.rb_target.specs.Growth.{Keeps}
@@ -19,7 +19,8 @@ use Rattle.rb_layout.specs.declared.layout.Leaf.{Leaf}
 use Rattle.rb_layout.specs.Words.{size_of}
 use Rattle.rb_compose.specs.declared.subvalue.Subvalue.{Subvalue}
 use Rattle.rb_rel.specs.Placing.{Laid, Fits, Over, request_of, block_before, lay}
-use Rattle.rb_rel.proofs.Storing.{with_block, with_blocks, filled_good}
+use Rattle.rb_rel.proofs.Storing.{filled_good}
+use Rattle.rb_rel.specs.Storing.{with_block, with_blocks}
 use Rattle.rb_compose.specs.inner.Code.{field_slots, block_code, blocks_code, leaf_code, leaf_slots}
 use Rattle.rb_compose.proofs.Fits.{Uses, WordsOk, BlocksOk, LeafOk, SlotsBelow, at_left, at_end, slots_below_more, one_more_below, first_block, blocks_more, fresh_block, blocks_count}
 use Rattle.rb_compose.proofs.Longer.{block_longer, blocks_longer, roots_longer}
@@ -28,7 +29,7 @@ use Rattle.rb_compose.proofs.Running.{Stands, stands_first, stands_rest, Runs, r
 -- the addresses of blocks that are laid one after the other, whether they fit or not
 abbrev pub addresses : ℕ → List Block → List ℕ
 addresses next [] = []
-addresses next (x ∷ xs) = aligned next x.align ∷ addresses (aligned next x.align + size_of x) xs
+addresses next (x ∷ xs) = least_multiple next x.align ∷ addresses (least_multiple next x.align + size_of x) xs
 
 module _ (final : List Instr) (callee : Callee) (next : Next) (law : Law final callee next) where
   -- what a run does where requests are laid like this
@@ -111,7 +112,7 @@ module _ (final : List Instr) (callee : Callee) (next : Next) (law : Law final c
         let e = blocks_code hs xs (blocks ++ d ∷ []) c in
         let lx = block_longer hs blocks x b in
         let ly = blocks_longer hs xs (blocks ++ d ∷ []) c in
-        let a = aligned m.next x.align in
+        let a = least_multiple m.next x.align in
         let size = size_of x in
         let rest = lay m.limit (a + size) (map request_of xs) in
         let here = first_block hs n blocks x xs ok in

@@ -3,7 +3,7 @@ use Rattle.std.proofs.Common.{◌≡◌, ℕ, suc, ◌+◌, ◌-◌, ◌/◌, �
 use Rattle.std.specs.Prelude.{bit_or, slice_get, slice_index, slice_set, if◌then◌else◌}
 use Rattle.std.proofs.lemmas.Bool.Decides.{leb_tells}
 use Rattle.rb_bits.specs.Words.{take_of, put_of}
-use Rattle.rb_bytes.specs.Memory.{Memory, IsGood, aligned, place_of, store_of, size_at, lies_within, write_le}
+use Rattle.rb_bytes.specs.Memory.{Memory, IsGood, least_multiple, place_of, store_of, size_at, lies_within, write_le}
 use Rattle.rb_bytes.specs.declared.fault.Full.{Full}
 use Rattle.rb_bytes.specs.declared.fault.Trap.{Trap}
 use Rattle.rb_bytes.proofs.BlockLemmas.{size_at-push}
@@ -26,7 +26,8 @@ use Rattle.rb_layout.specs.A4.{IsBlockWidth}
 use Rattle.rb_layout.specs.Words.{bytes_taken, size_of}
 use Rattle.rb_compose.specs.declared.subvalue.Subvalue.{Subvalue}
 use Rattle.rb_fragment.proofs.Steps.{set_same}
-use Rattle.rb_rel.proofs.Storing.{IsBlock, written, with_block, above}
+use Rattle.rb_rel.proofs.Storing.{IsBlock, above}
+use Rattle.rb_rel.specs.Storing.{with_words, with_block}
 use Rattle.rb_compose.specs.Counts.{capped}
 use Rattle.rb_compose.specs.inner.Code.{after_constants, begun_code, block_code, constants, field_slots, is_low, is_ready, joined_code, kind_code, low_bit, part_code, parts_code, put_code, root_code, root_slots, roots_code, shift_of, slot_of, source_slot, stores_code, taken_code, taken_slot, value_code, value_slot, whole_of, word_code}
 use Rattle.rb_compose.proofs.Longer.{IsLonger, begun_by, fresh_root, from_code, joined_by, longer-fresh, low_by, longer-push, part_by, part_longer, parts_longer, root_longer, roots_longer, store_longer, stored_code, stores_longer, taken_longer, value_longer, word_by}
@@ -400,7 +401,7 @@ module _ (final : List Instr) (callee : Callee) (next : Next) (law : Law final c
       stores_run : (n a base size : ℕ) (fs : List FlatWord) (at : ℕ) (b : Sheet) (s : List ℕ) (w : World) (m : Memory) → Stands final b (stores_code hs blocks a fs at b) → w.memory ≡ m
           → (stores_code hs blocks a fs at b).slots ≤ length s → n ≤ b.slots → a < n → slice_index s a ≡ base → size_at m.blocks base ≡ Some size → at + bytes_taken fs ≤ size
           → ((k : ℕ) (f : FlatWord) → slice_get fs k ≡ Some f → IsBlockWidth f.width) → WordsBelow blocks n fs → WordsTell blocks s fs
-          → Runs n b (stores_code hs blocks a fs at b) s w (record m { bytes = written number fs (base + at) m.bytes }) (λ s'. Unit {0})
+          → Runs n b (stores_code hs blocks a fs at b) s w (record m { bytes = with_words number fs (base + at) m.bytes }) (λ s'. Unit {0})
       stores_run n a base size [] at b s w m stands is long le lt there sized room wide below tells = runs_none n b s w m (λ s'. Unit {0}) is tt
       stores_run n a base size (f ∷ fs) at b s w m stands is long le lt there sized room wide below tells =
           let c = stored_code hs blocks a at f b in
@@ -408,14 +409,14 @@ module _ (final : List Instr) (callee : Callee) (next : Next) (law : Law final c
           let x = store_longer hs blocks a at f b in
           let y = stores_longer hs blocks a fs (at + f.width / 8) c in
           let m1 = stored m base at f in
-          let m2 : Memory = record m { bytes = written number (f ∷ fs) (base + at) m.bytes } in
+          let m2 : Memory = record m { bytes = with_words number (f ∷ fs) (base + at) m.bytes } in
           let long1 : c.slots ≤ length s = (let q = y.more in omega (arith, q, long)) in
           let z : base + (at + f.width / 8) ≡ base + at + f.width / 8 = omega arith in
           let first = store_run n a base size at f b s w m (stands_first final b c e x y stands) is long1 le lt there sized (omega (arith, room)) (wide 0 f refl) (below 0 f refl) (tells 0 f refl) in
           runs_then n n b c e s w m1 m2 (λ s'. Unit {0}) (λ s'. Unit {0}) (omega arith) first
           (λ s1 w1 is1 k1 u.
-          runs_weaken n n c e s1 w1 (record m1 { bytes = written number fs (base + (at + f.width / 8)) m1.bytes }) m2 (λ s'. Unit {0}) (λ s'. Unit {0}) (omega arith)
-          (ap (λ i. let r : Memory = record m { bytes = written number fs i (write_le m.bytes (f.width / 8) (base + at) (number f)) } in r) z) (λ s' k h. tt)
+          runs_weaken n n c e s1 w1 (record m1 { bytes = with_words number fs (base + (at + f.width / 8)) m1.bytes }) m2 (λ s'. Unit {0}) (λ s'. Unit {0}) (omega arith)
+          (ap (λ i. let r : Memory = record m { bytes = with_words number fs i (write_le m.bytes (f.width / 8) (base + at) (number f)) } in r) z) (λ s' k h. tt)
           (stores_run n a base size fs (at + f.width / 8) c s1 w1 m1 (stands_rest final b c e x stands) is1 (let q = k1.long in omega (arith, long, q)) (let q = x.more in omega (arith, le, q)) lt (k1.same a lt ∙ there) sized
           (omega (arith, room)) (λ k g h. wide (suc k) g h) (λ k g h. below (suc k) g h)
           (λ k g h i p at1. tells_kept blocks n s s1 p.kind k1 (below (suc k) g h i p at1) (tells (suc k) g h i p at1))))
@@ -425,8 +426,8 @@ module _ (final : List Instr) (callee : Callee) (next : Next) (law : Law final c
       Placing b x d = I.Place d (size_of x) x.align
 
       pub block_run : (x : Block) (b : Sheet) (s : List ℕ) (w : World) (m : Memory) → Stands final b (block_code hs blocks x b) → w.memory ≡ m → IsGood m → IsBlock x → (block_code hs blocks x b).slots ≤ length s
-          → WordsBelow blocks b.slots x.words → WordsTell blocks s x.words → aligned m.next x.align + size_of x ≤ m.limit
-          → Runs b.slots b (block_code hs blocks x b) s w (with_block number m x) (λ s'. slice_index s' b.slots ≡ aligned m.next x.align)
+          → WordsBelow blocks b.slots x.words → WordsTell blocks s x.words → least_multiple m.next x.align + size_of x ≤ m.limit
+          → Runs b.slots b (block_code hs blocks x b) s w (with_block number m x) (λ s'. slice_index s' b.slots ≡ least_multiple m.next x.align)
       block_run x b s w m stands is good block long below tells room =
           let d = b.slots in
           let place = I.Place d (size_of x) x.align in
@@ -434,7 +435,7 @@ module _ (final : List Instr) (callee : Callee) (next : Next) (law : Law final c
           let e = block_code hs blocks x b in
           let lx = longer-fresh b place in
           let ly = stores_longer hs blocks d x.words 0 c in
-          let a = aligned m.next x.align in
+          let a = least_multiple m.next x.align in
           let m1 : Memory = record m { next = a + size_of x; blocks = m.blocks ++ (a, size_of x) ∷ [] } in
           let inside : d < length s = (let q = ly.more in omega (arith, q, long)) in
           let P : Result ℕ Full × Memory → Run = λ r. after_place r.0 (with_memory (taken w) r.1) (λ i. next (length b.code + 1) (slice_set s d i) (with_memory (taken w) r.1)) in
@@ -456,14 +457,14 @@ module _ (final : List Instr) (callee : Callee) (next : Next) (law : Law final c
             world = rest.world;
             ran = ran ∙ rest.ran;
             keeps = Keeps-trans d c.slots s s1 rest.slots (omega arith) k1 rest.keeps;
-            memory = rest.memory ∙ ap (λ i. let r : Memory = record { limit = m.limit; next = a + size_of x; blocks = m.blocks ++ (a, size_of x) ∷ []; bytes = written number x.words i m.bytes } in r) z;
+            memory = rest.memory ∙ ap (λ i. let r : Memory = record { limit = m.limit; next = a + size_of x; blocks = m.blocks ++ (a, size_of x) ∷ []; bytes = with_words number x.words i m.bytes } in r) z;
             left = rest.left;
             switches = rest.switches;
             post = rest.keeps.same d (omega arith) ∙ here;
           }
 
       -- a block that does not fit is asked for in vain
-      pub block_full : (x : Block) (b : Sheet) (s : List ℕ) (w : World) (m : Memory) → Stands final b (block_code hs blocks x b) → w.memory ≡ m → m.limit < aligned m.next x.align + size_of x
+      pub block_full : (x : Block) (b : Sheet) (s : List ℕ) (w : World) (m : Memory) → Stands final b (block_code hs blocks x b) → w.memory ≡ m → m.limit < least_multiple m.next x.align + size_of x
           → (w' : World) × (next (length b.code) s w ≡ over (Filled (record { next = m.next; size = size_of x; align = x.align; limit = m.limit })) w') × (w'.switches ≤ w.switches)
       block_full x b s w m stands is none =
           let d = b.slots in

@@ -7,7 +7,7 @@ use Rattle.rb_core.specs.declared.outcome.SourceEnd.{SourceEnd}
 use Rattle.rb_core.specs.declared.outcome.SourceEnd.TheVariants.{Done, Spent}
 use Rattle.rb_core.specs.declared.outcome.PartsEnd.TheVariants.{AllDone, Cut}
 use Rattle.rb_core.specs.declared.outcome.Outcome.{Outcome}
-use Rattle.rb_core.specs.Meaning.{done, after, at_end, then_do, PartsOutcome, at_parts_end, then_with}
+use Rattle.rb_core.specs.Meaning.{value_outcome, after, at_end, then_do, PartsOutcome, at_parts_end, then_with}
 use Rattle.rb_core.specs.inner.Evaluation.{GivesOutcome, GivesParts}
 
 -- an outcome's end and log go on with what follows
@@ -43,7 +43,7 @@ Gives-all o go old mid new vs left end g h = record {
       ∙ ap (λ e. old ++ (o.log ++ (at_parts_end e go).log)) g.same_end;
 }
 
-pub Gives-here : (v : Value) (left : ℕ) (old : List Event) → GivesOutcome (done v left) old old (Done v left)
+pub Gives-here : (v : Value) (left : ℕ) (old : List Event) → GivesOutcome (value_outcome v left) old old (Done v left)
 Gives-here v left old = record { same_end = refl; same_log = sym (append-nil old) }
 
 pub Gives-after : (o : Outcome) (events old mid new : List Event) (end : SourceEnd) → mid ≡ old ++ events → GivesOutcome o mid new end → GivesOutcome (after events o) old new end

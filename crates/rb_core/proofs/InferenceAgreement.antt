@@ -14,7 +14,7 @@ use Rattle.rb_core.specs.declared.pattern.Pat.{Pat}
 use Rattle.rb_core.specs.declared.expression.Op.{Op}
 use Rattle.rb_core.specs.declared.expression.Clause.{Clause}
 use Rattle.rb_core.specs.declared.expression.Expr.{Expr}
-use Rattle.rb_core.specs.Typing.{Typing, same_type, as_wanted, type_holds, number, integer, distinct_binders, twice_at, repeated, binder_of, field_types, subpatterns, pattern_params, pattern_binders, arguments, param_types, result_type, operand_wanted, operator_type, integer_operand, operands, clauses, rule_of, clause_rule, type_of, variable_type}
+use Rattle.rb_core.specs.Typing.{Typing, same_type, as_wanted, type_holds, number, integer, distinct_binders, twice_at, first_repeat, binder_of, field_types, subpatterns, pattern_params, pattern_binders, arguments, param_types, result_type, operand_wanted, operator_type, integer_operand, operands, clauses, rule_of, clause_rule, type_of, variable_type}
 use Rattle.rb_core.specs.Inference.{Inference, binders, all_binders, operands_type, match_type, inferred_type, clause_inferred, binders_step}
 use Rattle.rb_core.proofs.PatternLaws as PL
 use Rattle.rb_core.proofs.ExpressionLaws as EL
@@ -27,7 +27,7 @@ number-is at n None t e = cc
 number-is at n (Some w) t e = (chosen (type_holds w n) w t _ e).1
 
 distinct-are : (ps : List Param) (bs : List Binder) → distinct_binders ps ≡ Ok bs → map binder_of ps ≡ bs
-distinct-are ps bs e = of_repeat (repeated ps) e
+distinct-are ps bs e = of_repeat (first_repeat ps) e
   where
     of_repeat : (o : Option ℕ) → twice_at o ps ≡ Ok bs → map binder_of ps ≡ bs
     of_repeat None h = cc

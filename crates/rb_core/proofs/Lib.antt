@@ -24,6 +24,7 @@ pub mod OperatorLaws
 pub mod PartForms
 pub mod PatternLaws
 pub mod ScopeLemmas
+pub mod TextLemmas
 pub mod TypedForms
 pub mod TypingAnswers
 pub mod TypingExamples

@@ -17,7 +17,7 @@ use Rattle.rb_core.specs.declared.expression.Expr.TheOpen as E
 use Rattle.rb_core.specs.declared.expression.Expr.TheFolds.{para-roll-Expr, para-roll-Clause}
 use Rattle.rb_core.specs.Typing.{field_types, param_types, operand_wanted}
 use Rattle.rb_core.specs.Inference.{Inference, width_of, with_binder, operands_type, match_type, inferred_type, clause_inferred}
-use Rattle.rb_core.specs.Meaning.{Meaning, Calls, Part, Branch, means, branch_means, branch_inferred, value_in, with_value, done, after, then_do, then_with, all_of, first_of, built, combined, cut_to, meaning_step, branch_step, meaning_of, clause_meaning}
+use Rattle.rb_core.specs.Meaning.{Meaning, Calls, Part, Branch, means, branch_means, branch_inferred, value_in, with_value, value_outcome, after, then_do, then_with, all_of, first_of, construction_outcome, operation_outcome, cut_to, meaning_step, branch_step, meaning_of, clause_meaning}
 
 module _ (p : Program) (calls : Calls) (f : ℕ) where
   abbrev part : Expr → Part
@@ -46,11 +46,11 @@ module _ (p : Program) (calls : Calls) (f : ℕ) where
     abbrev at_here : Meaning → Outcome
     at_here m = m wanted scope left env
 
-    pub meaning-Num : (at n : ℕ) → meaning_of p calls f (X.Num at n) wanted scope left env ≡ done (Num n) left
+    pub meaning-Num : (at n : ℕ) → meaning_of p calls f (X.Num at n) wanted scope left env ≡ value_outcome (Num n) left
     unfolding X.roll-Expr denote.Hole.Carrier.roll
     meaning-Num at n = ap at_here (para-roll-Expr Meaning (Pat × Meaning) (meaning_step p calls f) branch_step (E.Num at n))
 
-    pub meaning-Var : (at x : ℕ) → meaning_of p calls f (X.Var at x) wanted scope left env ≡ done (value_in env x) left
+    pub meaning-Var : (at x : ℕ) → meaning_of p calls f (X.Var at x) wanted scope left env ≡ value_outcome (value_in env x) left
     unfolding X.roll-Expr denote.Hole.Carrier.roll
     meaning-Var at x = ap at_here (para-roll-Expr Meaning (Pat × Meaning) (meaning_step p calls f) branch_step (E.Var at x))
 
@@ -61,15 +61,15 @@ module _ (p : Program) (calls : Calls) (f : ℕ) where
         ∙ ap (λ (ms : List Meaning). then_with (all_of ms (param_types p.funs g) scope [] left env) (λ vs rest. calls g rest vs)) (means_of_parts es)
 
     pub meaning-Build : (at : ℕ) (c : ConRef) (es : List Expr) → meaning_of p calls f (X.Build at c es) wanted scope left env
-        ≡ then_with (all_of (map (meaning_of p calls f) es) (field_types p.types c) scope [] left env) (built c)
+        ≡ then_with (all_of (map (meaning_of p calls f) es) (field_types p.types c) scope [] left env) (construction_outcome c)
     unfolding X.roll-Expr denote.Hole.Carrier.roll
     meaning-Build at c es = ap at_here (para-roll-Expr Meaning (Pat × Meaning) (meaning_step p calls f) branch_step (E.Build at c es))
-        ∙ ap (λ (ms : List Meaning). then_with (all_of ms (field_types p.types c) scope [] left env) (built c)) (means_of_parts es)
+        ∙ ap (λ (ms : List Meaning). then_with (all_of ms (field_types p.types c) scope [] left env) (construction_outcome c)) (means_of_parts es)
 
     pub meaning-Binary : (at : ℕ) (op : Op) (a b : Expr) → meaning_of p calls f (X.Binary at op a b) wanted scope left env
         ≡ then_do (meaning_of p calls f a (operand_wanted op wanted) scope left env) (λ v rest.
         then_do (meaning_of p calls f b (Some (operands_type op wanted (inferred_type p.types p.funs a None scope))) scope rest env)
-        (combined op (width_of (operands_type op wanted (inferred_type p.types p.funs a None scope))) v))
+        (operation_outcome op (width_of (operands_type op wanted (inferred_type p.types p.funs a None scope))) v))
     unfolding X.roll-Expr denote.Hole.Carrier.roll
     meaning-Binary at op a b = ap at_here (para-roll-Expr Meaning (Pat × Meaning) (meaning_step p calls f) branch_step (E.Binary at op a b))
 

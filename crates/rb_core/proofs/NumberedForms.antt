@@ -17,7 +17,7 @@ use Rattle.rb_core.specs.declared.expression.Expr.{Expr}
 use Rattle.rb_core.specs.declared.expression.Expr as X
 use Rattle.rb_core.specs.declared.expression.Expr.TheOpen as E
 use Rattle.rb_core.specs.declared.expression.Expr.TheFolds.{fold-Clause, fold-roll-Expr, fold_out-Clause}
-use Rattle.rb_core.specs.Typing.{Typing, and_then, binder_of, repeated, twice_at, distinct_binders, type_of}
+use Rattle.rb_core.specs.Typing.{Typing, and_then, binder_of, first_repeat, twice_at, distinct_binders, type_of}
 use Rattle.rb_core.specs.TypedPrograms.{IsTyped, first_fault, layout_fault, function_fault}
 use Rattle.rb_core.specs.WellNumbered.{Within, all_within, is_between, is_constructor, vars_of, expression_step, numbered_clause_step, expression_is_numbered, function_is_numbered}
 use Rattle.rb_core.proofs.InferenceAgreement.{wanted-is_found}
@@ -123,7 +123,7 @@ function_typed : (types : List DataDecl) (funs : List Fun) (f : Fun) → functio
 function_typed types funs f e =
     let r = no_error (and_then (distinct_binders f.params) (type_of types funs f.body (Some f.result))) e in
     let c = came (distinct_binders f.params) (type_of types funs f.body (Some f.result)) r.0 r.1 in
-    let scope = distinct_are f.params c.from (repeated f.params) c.first_is in
+    let scope = distinct_are f.params c.from (first_repeat f.params) c.first_is in
     let same = wanted-is_found types funs f.body f.result c.from r.0 c.then_is in
     subst (λ (s : List Binder). type_of types funs f.body (Some f.result) s ≡ Ok f.result) (sym scope) (subst (λ t. type_of types funs f.body (Some f.result) c.from ≡ Ok t) (sym same) c.then_is)
 

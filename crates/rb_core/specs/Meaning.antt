@@ -82,8 +82,8 @@ with_value env x v = env ++ record { var = x; value = v } ∷ []
 -- Outcomes
 
 -- the outcome without events that ends with value v and so many calls left
-abbrev pub done : Value → ℕ → Outcome
-done v left = record { log = []; end = Done v left }
+abbrev pub value_outcome : Value → ℕ → Outcome
+value_outcome v left = record { log = []; end = Done v left }
 
 -- the outcome without events that ends where a call is due and none is left
 abbrev pub spent : Outcome
@@ -166,25 +166,25 @@ all_of (m ∷ ms) ts scope vs left env =
 -- which does not occur in a covered program, it is done with 0
 abbrev pub first_of : List DataDecl → Ty → List (Pat × Meaning) → Option Ty → Option Ty → List Binder → Value → ℕ
     → List Binding → Outcome
-first_of types t [] wanted others scope v left env = done (Num 0) left
+first_of types t [] wanted others scope v left env = value_outcome (Num 0) left
 first_of types t (c ∷ cs) wanted others scope v left env =
     if matches_of c.0 v then c.1 wanted (scope ++ binders types c.0 t) left (env ++ bindings c.0 v)
     else first_of types t cs others others scope v left env
 
 -- what a construction does with the values vs of its fields: the event that it is built, with its type's
 -- number and its value, and then it is done with that value
-abbrev pub built : ConRef → List Value → ℕ → Outcome
-built c vs left = after (Built c.ty (Con c.con vs) ∷ []) (done (Con c.con vs) left)
+abbrev pub construction_outcome : ConRef → List Value → ℕ → Outcome
+construction_outcome c vs left = after (Built c.ty (Con c.con vs) ∷ []) (value_outcome (Con c.con vs) left)
 
 -- what an operator does with the values v and w of its operands, of `width` bits: it is done with what it gives
 -- at their numbers, and has no event
-abbrev pub combined : Op → ℕ → Value → Value → ℕ → Outcome
-combined op width v w left = done (Num (op_value op width (number_of v) (number_of w))) left
+abbrev pub operation_outcome : Op → ℕ → Value → Value → ℕ → Outcome
+operation_outcome op width v w left = value_outcome (Num (op_value op width (number_of v) (number_of w))) left
 
 -- what a conversion to so many bits does with the value v of its operand: it is done with the number that the
 -- low bits of v hold, and has no event
 abbrev pub cut_to : ℕ → Value → ℕ → Outcome
-cut_to bits v left = done (Num (number_of v % 2 ^ bits)) left
+cut_to bits v left = value_outcome (Num (number_of v % 2 ^ bits)) left
 
 -- a part of an expression, with what it does
 abbrev pub Part : Type 0
@@ -210,16 +210,16 @@ branch_inferred p branch = clause_inferred p.types p.funs branch.0
 -- `calls` has it, behind its arguments. The event of a construction stands behind those of its fields, and the
 -- event of a match, with f and the match's token, between those of its scrutinee and those of the clause
 abbrev pub meaning_step : Program → Calls → ℕ → Expr-F Part Branch → Meaning
-meaning_step p calls f (E.Num at n) wanted scope left env = done (Num n) left
-meaning_step p calls f (E.Var at x) wanted scope left env = done (value_in env x) left
+meaning_step p calls f (E.Num at n) wanted scope left env = value_outcome (Num n) left
+meaning_step p calls f (E.Var at x) wanted scope left env = value_outcome (value_in env x) left
 meaning_step p calls f (E.Call at g es) wanted scope left env =
     then_with (all_of (map means es) (param_types p.funs g) scope [] left env) (λ vs rest. calls g rest vs)
 meaning_step p calls f (E.Build at c es) wanted scope left env =
-    then_with (all_of (map means es) (field_types p.types c) scope [] left env) (built c)
+    then_with (all_of (map means es) (field_types p.types c) scope [] left env) (construction_outcome c)
 meaning_step p calls f (E.Binary at op a b) wanted scope left env =
     let t = operands_type op wanted (inferred_type p.types p.funs a.0 None scope) in
     then_do (a.1 (operand_wanted op wanted) scope left env)
-    (λ v rest. then_do (b.1 (Some t) scope rest env) (combined op (width_of t) v))
+    (λ v rest. then_do (b.1 (Some t) scope rest env) (operation_outcome op (width_of t) v))
 meaning_step p calls f (E.To at bits a) wanted scope left env = then_do (a.1 None scope left env) (cut_to bits)
 meaning_step p calls f (E.Let at x ty a b) wanted scope left env =
     then_do (a.1 (Some ty) scope left env) (λ v rest. b.1 wanted (with_binder scope x ty) rest (with_value env x v))
@@ -252,7 +252,7 @@ argument_bindings (p ∷ ps) (v ∷ vs) = record { var = p.var; value = v } ∷ 
 -- what the body of function g does at its result type, with so many calls left and its parameters bound to
 -- the arguments vs; where the program has no such function, it is done with 0
 abbrev pub body_outcome : Program → Calls → Option Fun → ℕ → ℕ → List Value → Outcome
-body_outcome p calls None g left vs = done (Num 0) left
+body_outcome p calls None g left vs = value_outcome (Num 0) left
 body_outcome p calls (Some f) g left vs =
     meaning_of p calls g f.body (Some f.result) (map binder_of f.params) left (argument_bindings f.params vs)
 

@@ -99,8 +99,8 @@ repeat_after before (p ∷ ps) =
 
 -- the token of the first parameter of a list whose variable stands before it in the list; none where no
 -- variable stands twice
-abbrev pub repeated : List Param → Option ℕ
-repeated = repeat_after []
+abbrev pub first_repeat : List Param → Option ℕ
+first_repeat = repeat_after []
 
 -- the binders of parameters in their order, where no token is given; else the fault that at this token a
 -- variable stands for the second time
@@ -111,7 +111,7 @@ twice_at (Some at) ps = Err (VariableTwice at)
 -- the binders of a whole pattern or parameter list in their order, or the fault at the first entry whose
 -- variable stands before it in the list
 abbrev pub distinct_binders : List Param → Typing (List Binder)
-distinct_binders ps = twice_at (repeated ps) ps
+distinct_binders ps = twice_at (first_repeat ps) ps
 
 -- Patterns ----------------------------------------------------------------------------------
 

@@ -28,11 +28,19 @@ abbrev pub fields_of_con : Option Con → Option (List Ty)
 fields_of_con None = None
 fields_of_con (Some c) = Some c.fields
 
+-- constructor k of a data type; none where there is no data type, or it has no such constructor
+abbrev pub con_in : Option DataDecl → ℕ → Option Con
+con_in None k = None
+con_in (Some d) k = slice_get d.cons k
+
+-- a constructor of the program; none where the program has no such constructor
+abbrev pub con_of : List DataDecl → ConRef → Option Con
+con_of types c = con_in (slice_get types c.ty) c.con
+
 -- the types of the fields of constructor k of a data type; none where there is no data type, or it has no
 -- such constructor
 abbrev pub fields_in : Option DataDecl → ℕ → Option (List Ty)
-fields_in None k = None
-fields_in (Some d) k = fields_of_con (slice_get d.cons k)
+fields_in d k = fields_of_con (con_in d k)
 
 -- the types of the fields of a constructor of the program; none where the program has no such constructor
 abbrev pub fields_of : List DataDecl → ConRef → Option (List Ty)

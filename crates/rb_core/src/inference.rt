@@ -6,6 +6,7 @@ ghost use Rattle.std.specs.Prelude.{◌≡◌, ◌++◌, ◌∷◌, [], map, Non
 ghost use Rattle.rb_core.specs.Typing.{variable_type, field_types, param_types, result_type, operand_wanted, operator_type};
 ghost use Rattle.rb_core.specs.Inference.{all_binders, binders, operands_type, match_type, inferred_type, clause_inferred};
 
+use crate::constructors::con_of;
 use crate::expression::{Clause, Expr, Op};
 use crate::pattern::Pat;
 use crate::program::{Param, Program};
@@ -232,10 +233,7 @@ pub fn wanted_of_operand(op: Op, wanted: Option<Ty>) -> Option<Ty>
 pub fn types_of_fields(types: &[DataDecl], con: ConRef) -> &[Ty]
     ensures { result.now ≡ field_types types.now con }
 {
-    let Some(data) = types.get(con.ty as usize) else {
-        return &[];
-    };
-    match data.cons.get(con.con as usize) {
+    match con_of(types, con) {
         Some(con) => con.fields.as_slice(),
         None => &[],
     }

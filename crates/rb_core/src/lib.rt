@@ -19,11 +19,13 @@
 //! A program is typed where each of its data types has a value and each expression fits the type
 //! that is wanted of it (`specs/TypedPrograms.antt`, `specs/Typing.antt`), and covered where each
 //! match has a clause for every value (`specs/Coverage.antt`): [`typed`] keeps such programs.
-//! [`eval::eval`] computes a meaning, for tests.
+//! [`eval::eval`] computes a meaning, for tests. [`text`] and [`pattern_text`] add names, types and
+//! patterns to a text.
 #![tactic(auto)]
 
 pub mod binding;
 pub mod boxed;
+pub mod constructors;
 pub mod copying;
 pub mod decimal;
 mod environment;
@@ -38,9 +40,11 @@ pub mod matching;
 pub mod operators;
 pub mod outcome;
 pub mod pattern;
+pub mod pattern_text;
 pub mod program;
 pub mod seq;
 pub mod site;
+pub mod text;
 pub mod typed;
 pub mod types;
 pub mod typing;

@@ -27,7 +27,7 @@ use Rattle.rb_layout.specs.Flattening.{flat_layouts}
 use Rattle.rb_layout.specs.Positions.{Open, root_type, below, opens_below, opens_of, open_positions, types_or_none, leaf_from, leaf_of, layout_of}
 use Rattle.rb_rel.specs.Switches.{HeadAt, begins_with, choose_of, inner_heads, is_leaf_for, head_below, heads_below, heads_of, heads_step}
 use Rattle.rb_rel.proofs.Agreeing.{lawful}
-use Rattle.rb_rel.proofs.Lawful.{fits_type, is_named}
+use Rattle.rb_rel.specs.Provenances.{fits_type, is_named}
 use Rattle.rb_rel.proofs.Lists.{both, and_true, get-append, get-map}
 use Rattle.rb_rel.proofs.Opens.{fits-Con, opens-Con, opens-Wild, opens-Var}
 use Rattle.rb_rel.proofs.Reading.{same_nat}

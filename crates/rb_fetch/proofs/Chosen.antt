@@ -39,7 +39,7 @@ use Rattle.rb_fetch.specs.declared.known.Seen.{Seen}
 use Rattle.rb_fetch.specs.Finding.{IsPlanOf, leaf_within}
 use Rattle.rb_fetch.specs.inner.Choosing.{AreOpen, AreWaysOf, ChoosesBy, ChoosesFrom, ChoosesWays, Follows, HasAll, HasOpens, IsWayOf, HasCon, IsEndOf, ChoiceIsReady, root_con}
 use Rattle.rb_fetch.specs.inner.Fields.{leaf_at}
-use Rattle.rb_fetch.specs.inner.Heads.{are_looked_at, IsNext, is_among, shown_head, shown_heads}
+use Rattle.rb_fetch.specs.inner.Heads.{AreLookedAt, IsNext, is_among, shown_head, shown_heads}
 use Rattle.rb_fetch.proofs.Constructors.{heads-Con, is_matched, shows}
 use Rattle.rb_fetch.proofs.Finding.{of_plan}
 use Rattle.rb_fetch.proofs.Ways.{given_at}
@@ -243,7 +243,7 @@ module _ (agreed : LaidOut) (typed : IsTyped agreed.covered.program) (flat : agr
         one_way given zero way e = subst (λ (y : Way). IsWayOf plan layout ended.slots y) (same_Some the_way way e) (leaf, is_leaf, given)
         one_way given (suc i) way e = absurd cc
 
-  shown_all : (looked : List (List ℕ)) (ps : List Place) (leaf : Leaf) → shown_heads ps ≡ inner_heads leaf → are_looked_at looked ps
+  shown_all : (looked : List (List ℕ)) (ps : List Place) (leaf : Leaf) → shown_heads ps ≡ inner_heads leaf → AreLookedAt looked ps
       → (j : ℕ) (h : HeadAt) → slice_get (inner_heads leaf) j ≡ Some h → is_among looked h.path ≡ true
   shown_all looked ps leaf shown all j h e =
       let g = get-map shown_head ps j h (ap (λ (hs : List HeadAt). slice_get hs j) shown ∙ e) in
@@ -253,7 +253,7 @@ module _ (agreed : LaidOut) (typed : IsTyped agreed.covered.program) (flat : agr
   leaf_of_plan plan of layout is n leaf at = ap (λ o. leaf_within o n) (sym (ap (λ ls. layout_of ls t) (sym of.layouts) ∙ is)) ∙ at
 
   pub ends : (n : ℕ) (rest : List ℕ) (seen : Seen) (xs : List Subvalue) (old new : Sheet) (way : Way) (ps : List Place) (leaf : Leaf) → leaf_at agreed.layouts t n ≡ Some leaf → shown_heads ps ≡ inner_heads leaf
-      → are_looked_at seen.looked ps → IsEndOf agreed t n xs old new way → ChoosesFrom agreed t (n ∷ rest) seen xs old new (way ∷ [])
+      → AreLookedAt seen.looked ps → IsEndOf agreed t n xs old new way → ChoosesFrom agreed t (n ∷ rest) seen xs old new (way ∷ [])
   ends n rest seen xs old new way ps leaf at shown all end plan k layout ready =
       let is_leaf = leaf_of_plan plan ready.of layout ready.is_layout n leaf at in
       let same : end.leaf ≡ leaf = same_Some end.leaf leaf (sym end.is_leaf ∙ at) in
@@ -284,7 +284,7 @@ module _ (agreed : LaidOut) (typed : IsTyped agreed.covered.program) (flat : agr
   -- the same where the first leaf is that of a list
   module _ (ls : List ℕ) (some : 1 ≤ length ls) (seen : Seen) (xs : List Subvalue) (old new : Sheet) (ps : List Place) (leaf : Leaf) (at : leaf_at agreed.layouts t (get_or ls 0 0) ≡ Some leaf)
       (shown : shown_heads ps ≡ inner_heads leaf) where
-    pub first_ends : (way : Way) (none ways : List Way) → are_looked_at seen.looked ps → IsEndOf agreed t (get_or ls 0 0) xs old new way → none ≡ [] → ways ≡ none ++ way ∷ [] → ChoosesFrom agreed t ls seen xs old new ways
+    pub first_ends : (way : Way) (none ways : List Way) → AreLookedAt seen.looked ps → IsEndOf agreed t (get_or ls 0 0) xs old new way → none ≡ [] → ways ≡ none ++ way ∷ [] → ChoosesFrom agreed t ls seen xs old new ways
     first_ends way none ways all end empty is =
         let r = first_rest ls some in
         let e : ways ≡ way ∷ [] = is ∙ ap (λ (ws : List Way). ws ++ way ∷ []) empty in

@@ -21,7 +21,7 @@ use Rattle.rb_core.proofs.PatternLaws as PL
 use Rattle.rb_core.proofs.MatchingForms.{matches-Wild, matches-Var, matches-Con}
 use Rattle.rb_core.proofs.ValueLaws.{is_of_type-Con}
 use Rattle.rb_rel.specs.Switches.{HeadAt, head_below, heads_below, heads_of, heads_step}
-use Rattle.rb_rel.proofs.Lawful.{fits_type, is_named}
+use Rattle.rb_rel.specs.Provenances.{fits_type, is_named}
 use Rattle.rb_rel.proofs.Lists.{both, and_true, get-append, get-map, get-left, get-right, get-mapped}
 use Rattle.rb_rel.proofs.Opens.{fits-Con}
 use Rattle.rb_rel.proofs.Reading.{same_nat}

@@ -19,7 +19,7 @@ use Rattle.rb_target.specs.Meaning.{slots_at}
 use Rattle.rb_target.specs.Sheet.{Sheet}
 use Rattle.rb_rel.specs.Reading.{on_loaded, read_from, read_first, read_loc}
 use Rattle.rb_fragment.specs.declared.reads.Read.{Read, Slot, Bits, Address, Loaded}
-use Rattle.rb_fragment.specs.Reads.{where_some, loaded, mean, is_range, is_width, fits, MakesRead}
+use Rattle.rb_fragment.specs.Reads.{where_some, word_of_load, mean, is_range, is_width, fits, MakesRead}
 use Rattle.rb_fragment.specs.WordReads.{AreMeant, AllFit}
 use Rattle.rb_fragment.proofs.MakingAll.{meant-at, slots_fit, slots_meant}
 use Rattle.rb_fragment.proofs.Pieces.{straight_weaken}
@@ -182,8 +182,8 @@ module _ (s : List ℕ) (m : Memory) (good : IsGood m) (x : ℕ) where
       mean-Address p.read (capped o) (capped n) t.align s m ∙ ap (λ v. where_some v (λ k. Some (take_of k (capped o) (capped n) * t.align % 2 ^ 64))) h.is_word
       ∙ ap (λ k. Some (take_of w k (capped n) * t.align % 2 ^ 64)) co ∙ ap (λ k. Some (take_of w o k * t.align % 2 ^ 64)) cn ∙ ap (λ k. Some (k * t.align % 2 ^ 64)) same ∙ ap (λ k. Some k) whole in
       let next : mean (Loaded address t.byte (capped t.width)) s m ≡ Some q.0 =
-      mean-Loaded address t.byte (capped t.width) s m ∙ ap (λ v. where_some v (λ base. loaded (load_of m base t.byte (capped t.width)))) at
-      ∙ ap (λ k. loaded (load_of m a t.byte k)) cw ∙ ap loaded q.1 in
+      mean-Loaded address t.byte (capped t.width) s m ∙ ap (λ v. where_some v (λ base. word_of_load (load_of m base t.byte (capped t.width)))) at
+      ∙ ap (λ k. word_of_load (load_of m a t.byte k)) cw ∙ ap word_of_load q.1 in
       span_means steps (step_span p t) (take_of q.0 t.o t.l) fit.3
       (record { word = q.0; is_word = next; small = load_small m a t.byte t.width q.0 good q.1; are_bits = refl }) q.2
 

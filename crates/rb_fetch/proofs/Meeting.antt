@@ -40,11 +40,11 @@ use Rattle.rb_fragment.specs.Holding.{AreHeld, held_type}
 use Rattle.rb_fragment.specs.Owing.{Ends}
 use Rattle.rb_fragment.specs.Pieces.{Branches}
 use Rattle.rb_fragment.specs.Plan.{Plan, Rep, words_needed}
-use Rattle.rb_fragment.specs.Slots.{AllBelow, AllFrom, SlotsAreApart, CodeStands, copied, copies, joining}
+use Rattle.rb_fragment.specs.Slots.{AllBelow, AllFrom, SlotsAreApart, copies, joining}
 use Rattle.rb_fragment.proofs.Adding.{Adds-refl, Adds-trans}
 use Rattle.rb_fragment.proofs.Holds.{AllBelow-more}
 use Rattle.rb_fragment.proofs.Matches.{arms_more, match_adds, match_chooses, match_slots}
-use Rattle.rb_fragment.proofs.Moves.{copied-kept, copies_run, joining_adds, joining_length, one-below, one-from, slots_at-copied, stands_from}
+use Rattle.rb_fragment.proofs.Moves.{CodeStands, copied, copied-kept, copies_run, joining_adds, joining_length, one-below, one-from, slots_at-copied, stands_from}
 use Rattle.rb_fragment.proofs.Patching.{at_closed, closed_length, hole_from, join_at, join_closed, join_from, retarget_all, retarget_none}
 use Rattle.rb_fragment.proofs.Pieces.{jumps}
 use Rattle.rb_compose.specs.declared.subvalue.Subvalue.{Subvalue}

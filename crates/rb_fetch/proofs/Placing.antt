@@ -13,11 +13,11 @@ use Rattle.rb_layout.specs.Flat.{IsFlat, IsAbove}
 use Rattle.rb_layout.specs.Pointers.{PointsTo}
 use Rattle.rb_layout.specs.Readable.{AreShort}
 use Rattle.rb_layout.specs.Words.{words_in, words_of_block, bytes_taken, begins_at}
-use Rattle.rb_rel.specs.Reading.{LeadsTo, through}
+use Rattle.rb_rel.specs.Reading.{LeadsTo}
 use Rattle.rb_rel.proofs.Agreeing.{lawful}
 use Rattle.rb_rel.proofs.Parts.{IsTidyLeaf}
 use Rattle.rb_rel.proofs.Tidy.{tidy_leaves}
-use Rattle.rb_rel.proofs.Ways.{leads_root, leads_block}
+use Rattle.rb_rel.proofs.Ways.{leads_root, leads_block, through}
 use Rattle.rb_fetch.specs.declared.place.Spot.{Spot}
 use Rattle.rb_fetch.specs.declared.place.Wanted.TheVariants.{WayTo}
 use Rattle.rb_fetch.specs.inner.Placing.{IsAgreedLeaf, points_to, NoSpot, IsSpot, IsWantedSpot, step_of, outer_count}

@@ -29,12 +29,12 @@ use Rattle.rb_layout.specs.declared.layout.Leaf.{Leaf}
 use Rattle.rb_layout.specs.Agreement.{Agrees, AreAgreed}
 use Rattle.rb_layout.specs.Flattening.{flat_layouts, type_at}
 use Rattle.rb_layout.specs.Positions.{Open, leaf_from, leaf_of, layout_of, leaves_of_layout, open_positions, pair_of, root_type, sub_in, sub_pattern, types_or_none}
-use Rattle.rb_layout.specs.inner.Walking.{open_type, walked}
+use Rattle.rb_layout.specs.inner.Walking.{open_type, type_along}
 use Rattle.rb_layout.proofs.OpenPositions.{position-typed, type-open}
 use Rattle.rb_layout.proofs.Walks.{type_at_walked}
 use Rattle.rb_rel.specs.Switches.{HeadAt, choose_of, greatest, head_below, heads_below, heads_of, heads_step, mend_leaf, mend_of}
 use Rattle.rb_rel.proofs.Agreeing.{lawful}
-use Rattle.rb_rel.proofs.Lawful.{fits_type, is_named}
+use Rattle.rb_rel.specs.Provenances.{fits_type, is_named}
 use Rattle.rb_rel.proofs.Lists.{both, get-mapped}
 use Rattle.rb_rel.proofs.Mending.{mending_recurs}
 use Rattle.rb_rel.proofs.Opens.{fits-Con}
@@ -245,14 +245,14 @@ module _ (types : List DataDecl) where
   opened p u ty (P.Num at n) is e = absurd cc
   opened p u ty (P.Con at c ps) is e = absurd cc
 
-  pub walked_found : (x : Option (Pat × Ty)) (path : List ℕ) (ty : Ty) → walked types x path ≡ Some ty → IsFoundOpen x path ty
+  pub walked_found : (x : Option (Pat × Ty)) (path : List ℕ) (ty : Ty) → type_along types x path ≡ Some ty → IsFoundOpen x path ty
   walked_found None path ty e = absurd cc
   walked_found (Some (p, u)) [] ty e =
       let o = opened p u ty (out-Pat p) refl e in record { pat = p; is_found = ap (λ z. Some (p, z)) o.0; is_open = o.1 }
   walked_found (Some (p, u)) (i ∷ path) ty e =
       let r = walked_found (sub_pattern types p i) path ty e in record { pat = r.pat; is_found = r.is_found; is_open = r.is_open }
 
-  pub found_walked : (x : Option (Pat × Ty)) (path : List ℕ) (q : Pat) (ty : Ty) → found_at types x path ≡ Some (q, ty) → walked types x path ≡ open_type (out-Pat q) ty
+  pub found_walked : (x : Option (Pat × Ty)) (path : List ℕ) (q : Pat) (ty : Ty) → found_at types x path ≡ Some (q, ty) → type_along types x path ≡ open_type (out-Pat q) ty
   found_walked None path q ty e = absurd cc
   found_walked (Some (p, u)) [] q ty e =
       let s : (p, u) ≡ (q, ty) = same_Some (p, u) (q, ty) e in ap (λ (y : Pat × Ty). open_type (out-Pat y.0) y.1) s
@@ -388,8 +388,8 @@ module _ (plan : Plan) (typed : IsTyped plan.program) (agreed : AreAgreed plan.p
   open_position f =
       let types = plan.program.types in
       let root = root_is plan typed agreed t n f.layout f.leaf f.is_layout f.is_leaf in
-      let w : walked types (Some (f.leaf.prov, Named t)) path ≡ Some ty =
-      ap (λ u. walked types (Some (f.leaf.prov, u)) path) (sym root) ∙ sym (type_at_walked types f.leaf.prov path) ∙ position-typed types f.leaf.prov f.number (record { path = path; ty = ty }) f.is_open in
+      let w : type_along types (Some (f.leaf.prov, Named t)) path ≡ Some ty =
+      ap (λ u. type_along types (Some (f.leaf.prov, u)) path) (sym root) ∙ sym (type_at_walked types f.leaf.prov path) ∙ position-typed types f.leaf.prov f.number (record { path = path; ty = ty }) f.is_open in
       let r = walked_found types (Some (f.leaf.prov, Named t)) path ty w in
       (record { layout = f.layout; leaf = f.leaf; pat = r.pat; is_layout = f.is_layout; is_leaf = f.is_leaf; is_position = r.is_found }, refl, mend_open plan.layouts r.pat ty r.is_open)
 
@@ -399,7 +399,7 @@ module _ (plan : Plan) (typed : IsTyped plan.program) (agreed : AreAgreed plan.p
       let types = plan.program.types in
       let root = root_is plan typed agreed t n f.layout f.leaf f.is_layout f.is_leaf in
       let w : type_at (open_positions types f.leaf.prov) path ≡ Some ty =
-      type_at_walked types f.leaf.prov path ∙ ap (λ u. walked types (Some (f.leaf.prov, u)) path) root ∙ found_walked types (Some (f.leaf.prov, Named t)) path f.pat ty f.is_position ∙ is_open in
+      type_at_walked types f.leaf.prov path ∙ ap (λ u. type_along types (Some (f.leaf.prov, u)) path) root ∙ found_walked types (Some (f.leaf.prov, Named t)) path f.pat ty f.is_position ∙ is_open in
       let o = type-open (open_positions types f.leaf.prov) path ty w in
       let same : o.1 ≡ record { path = path; ty = ty } = pair_is o.1 o.3 o.4 in
       (record { layout = f.layout; leaf = f.leaf; number = o.0; is_layout = f.is_layout; is_leaf = f.is_leaf; is_open = o.2 ∙ ap Some same }, refl)

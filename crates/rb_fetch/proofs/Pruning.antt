@@ -13,7 +13,8 @@ use Rattle.rb_layout.specs.declared.layout.FlatArm.{FlatArm}
 use Rattle.rb_layout.specs.Splits.{Under, SplitAt, literals_of, splits_or_none, splits_step, splits_arm, splits_of, splits_under}
 use Rattle.rb_layout.proofs.FlatForms.{Each, tree-induction}
 use Rattle.rb_layout.proofs.FlatForms as F
-use Rattle.rb_rel.specs.Reading.{walk, walk_at, walk_under}
+use Rattle.rb_rel.specs.Reading.{walk, walk_at}
+use Rattle.rb_rel.proofs.Trees.{walk_under}
 use Rattle.rb_rel.specs.Switches.{greatest, nesting}
 use Rattle.rb_rel.proofs.Counting as N
 use Rattle.rb_rel.proofs.Lists.{both, get-append}

@@ -9,7 +9,8 @@ use Rattle.rb_layout.specs.declared.layout.FlatTree.TheFolds.{fold-FlatArm, fold
 use Rattle.rb_layout.specs.declared.layout.FlatArm.{FlatArm}
 use Rattle.rb_layout.specs.Splits.{Under, SplitAt, literals_of, splits_or_none, splits_step, splits_arm, splits_of, splits_under}
 use Rattle.rb_layout.proofs.FlatForms.{fold-Leaf, fold-Split, fold-Split-else}
-use Rattle.rb_rel.specs.Reading.{read_loc, Walk, walk_else, walk_arms, walk_at, walk_step, walk_arm, walk, walk_under}
+use Rattle.rb_rel.specs.Reading.{read_loc, Walk, walk_else, walk_arms, walk_at, walk_step, walk_arm, walk}
+use Rattle.rb_rel.proofs.Trees.{walk_under}
 use Rattle.rb_rel.specs.Switches.{greatest, or_zero, nesting_step, nesting_arm, nesting}
 use Rattle.rb_rel.proofs.Counting as N
 use Rattle.rb_rel.proofs.Lists.{get-left, get-right}

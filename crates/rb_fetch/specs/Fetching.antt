@@ -11,6 +11,7 @@ use Rattle.rb_bits.specs.Words.{IsRange, take_of}
 use Rattle.rb_bytes.specs.Memory.{Memory, IsGood, IsWidth}
 use Rattle.rb_target.specs.Meaning.{slots_at}
 use Rattle.rb_target.specs.Sheet.{Sheet}
+use Rattle.rb_target.specs.Validity.{most_offset}
 use Rattle.rb_layout.specs.declared.layout.Layout.{Layout}
 use Rattle.rb_layout.specs.declared.layout.Leaf.{Leaf}
 use Rattle.rb_layout.specs.Agreement.{AreAgreed}
@@ -29,7 +30,7 @@ use Rattle.rb_fragment.specs.Slots.{AllBelow}
 -- instructions have
 abbrev pub StepsFit : ℕ → ℕ → List Step → Type 0
 StepsFit o l [] = IsRange o l
-StepsFit o l (s ∷ steps) = IsRange o l × (s.byte ≤ 511) × IsWidth s.width × StepsFit s.o s.l steps
+StepsFit o l (s ∷ steps) = IsRange o l × (s.byte ≤ most_offset) × IsWidth s.width × StepsFit s.o s.l steps
 
 -- instructions can read what stands at the location: its range and its steps are such as they have
 abbrev pub LocFits : Loc → Type 0

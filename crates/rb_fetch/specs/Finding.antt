@@ -40,8 +40,8 @@ pub record IsPlanOf (agreed : LaidOut) (plan : Plan) : Type 0 where
   pub program : plan.program ≡ agreed.covered.program
   pub layouts : plan.layouts ≡ agreed.layouts
 
--- Run on words of a value, the appended code leaves by a hole of the value's leaf, with at most as many
--- switches as splits are nested, and keeps all slots that there were.
+-- Run on words of a value, the appended code leaves by the hole that is of the value's leaf. It does a switch for each
+-- level of nested splits at most, and keeps all slots that there were.
 abbrev pub FindsLeaf : LaidOut → ℕ → List ℕ → Sheet → Sheet → List Hole → Type 0
 FindsLeaf agreed t words old new holes =
     (plan : Plan) → IsPlanOf agreed plan → AllBelow old.slots words → length words ≡ word_count plan.layouts (Named t)
@@ -54,8 +54,8 @@ pub record HasLeafMeant (plan : Plan) (t n : ℕ) (reads : List Read) (s : List 
   pub are_meant : AreMeant reads s m words
   pub has_leaf : HasLeaf plan t n words m
 
--- Run where the reads mean words of a value, which may stand in memory still, the appended code leaves by a hole of
--- the value's leaf, with at most as many switches as splits are nested.
+-- The same where the reads mean words of a value, which may stand in memory still: by the hole that is of its leaf,
+-- after a switch for each level of nested splits at most.
 abbrev pub FindsLeafOf : LaidOut → ℕ → List Read → Sheet → Sheet → List Hole → Type 0
 FindsLeafOf agreed t reads old new holes =
     (plan : Plan) → IsPlanOf agreed plan → AllFit old.slots reads → length reads ≡ word_count plan.layouts (Named t)

@@ -1,6 +1,6 @@
 //! The ways of a construction to its leaf: of the leaves of its type's layout, the one that holds
-//! the value. A hole is a jump that is still open. An open position of a leaf is a wildcard of its
-//! provenance, the pattern of the values that it holds.
+//! the value. A hole is a jump that is still open. A leaf's provenance is the pattern of the values
+//! that it holds; where that has a wildcard, the leaf has an open position.
 
 use rb_compose::subvalue::Subvalue;
 use rb_core::seq::Seq;

@@ -10,7 +10,7 @@ ghost use Rattle.std.specs.Prelude.{◌≡◌, ◌++◌, ◌∷◌, [], map, IfO
 ghost use Rattle.std.specs.Option.{option_copied};
 ghost use Rattle.rb_layout.specs.Flattening.{same_path};
 ghost use Rattle.rb_rel.specs.Switches.{heads_below, heads_of, inner_heads};
-ghost use Rattle.rb_fetch.specs.inner.Heads.{are_looked_at, bare_paths, can_be, can_be_leaf, head_under, IsNext, is_among, is_bare, leaves_beside, leaves_that_can_be, shown_heads, stands_at, take_apart, takes_apart};
+ghost use Rattle.rb_fetch.specs.inner.Heads.{AreLookedAt, bare_paths, can_be, can_be_leaf, head_under, IsNext, is_among, is_bare, leaves_beside, leaves_that_can_be, shown_heads, stands_at, take_apart, takes_apart};
 ghost use Rattle.rb_fetch.specs.inner.Fields.{leaf_at};
 
 use rb_core::inference::types_of_fields;
@@ -188,7 +188,7 @@ fn is_among(paths: &[Seq<u32>], path: &[u32]) -> bool
 /// The first of the constructors `places` whose position is not in `looked`, those that need no
 /// look any more: the leaf of the part there is asked for next. None where all are in it.
 pub(crate) fn next_place<'a>(places: &'a [Place], looked: &[Seq<u32>]) -> Option<&'a Place>
-    ensures { MatchOption result (are_looked_at looked.now places.now)
+    ensures { MatchOption result (AreLookedAt looked.now places.now)
         (λ place. IsNext looked.now places.now place.now) }
 {
     for place in places {

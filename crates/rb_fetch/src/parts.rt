@@ -1,7 +1,7 @@
 //! Leaves of a construction by number, and the parts of it that are in slots. A provenance is the
 //! pattern of the values that a leaf holds. A position is a path, field numbers from the root. A
-//! part is what stands at a position of the value that is constructed, which is the whole. An open
-//! position of a leaf is a wildcard of its provenance.
+//! part is what stands at a position of the value that is constructed, which is the whole. Where a
+//! provenance has a wildcard, its leaf has an open position.
 
 ghost use Rattle.std.specs.Prelude.{◌≡◌, ◌++◌, [], IfOk, IfSome, OnOk, map};
 ghost use Rattle.rb_core.specs.declared.types.Ty.TheVariants.{Named};

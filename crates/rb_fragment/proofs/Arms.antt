@@ -15,7 +15,7 @@ use Rattle.rb_target.specs.declared.body.Hole.{Hole}
 use Rattle.rb_fragment.proofs.Adding.{Adds-trans}
 use Rattle.rb_fragment.proofs.Holds.{AllBelow-more}
 use Rattle.rb_fragment.proofs.Laying.{does_later, does_map}
-use Rattle.rb_fragment.proofs.Moves.{copied-kept, copies_run, joining_adds, joining_length, one-below, one-from, slots_at-copied, slots_from-above, slots_from-below, slots_from-distinct, slots_from-from, slots_from-has, slots_from-length, stands_from}
+use Rattle.rb_fragment.proofs.Moves.{CodeStands, copied, copied-kept, copies_run, joining_adds, joining_length, one-below, one-from, slots_at-copied, slots_from-above, slots_from-below, slots_from-distinct, slots_from-from, slots_from-has, slots_from-length, stands_from}
 use Rattle.rb_fragment.specs.Adding.{Adds}
 use Rattle.rb_fragment.specs.Arms.{AreShared, CodeArm, IsJoin, JoinedIs, shared_held, shared_sheet}
 use Rattle.rb_fragment.specs.Fragments.{Comes, Emits}
@@ -23,7 +23,7 @@ use Rattle.rb_fragment.specs.Holding.{AreGiven, Holds, IsOfLocal}
 use Rattle.rb_fragment.specs.Owing.{Does}
 use Rattle.rb_fragment.specs.Pieces.{AtEnd, IsLater, CodePiece}
 use Rattle.rb_fragment.specs.Plan.{Plan, Rep, words_needed}
-use Rattle.rb_fragment.specs.Slots.{AllBelow, AllFrom, SlotsAreApart, IsDistinct, IsOneOf, CodeStands, copied, copies, joining, slots_from}
+use Rattle.rb_fragment.specs.Slots.{AllBelow, AllFrom, SlotsAreApart, IsDistinct, IsOneOf, copies, joining, slots_from}
 use Rattle.rb_fragment.specs.declared.held.Held.{Held}
 use Rattle.rb_fragment.specs.declared.held.Joined.{Joined}
 use Rattle.rb_fragment.specs.declared.held.Local.{Local}

@@ -4,7 +4,7 @@ use Rattle.std.specs.Prelude.{slice_get, slice_set}
 use Rattle.rb_core.specs.declared.value.Value.{Value}
 use Rattle.rb_core.specs.declared.types.Ty.{Ty}
 use Rattle.rb_core.specs.declared.outcome.Outcome.{Outcome}
-use Rattle.rb_core.specs.Meaning.{Calls, then_do, done}
+use Rattle.rb_core.specs.Meaning.{Calls, then_do, value_outcome}
 use Rattle.rb_bytes.specs.Memory.{Memory}
 use Rattle.rb_bytes.specs.Laws.{Extends}
 use Rattle.rb_target.specs.declared.instr.Instr.{Instr}
@@ -29,7 +29,7 @@ module _ (plan : Plan) (clean : Bool) (calls : Calls) where
 
   -- no code
   pub nothing : (a : Sheet) (Pre : List ℕ → Memory → Type 0) (o : ℕ → Outcome) (t : Ty) (xs : List ℕ)
-      → ((s : List ℕ) (m : Memory) (left : ℕ) → Pre s m → (v : Value) × (o left ≡ done v left) × Rep plan m clean t v (slots_at s xs))
+      → ((s : List ℕ) (m : Memory) (left : ℕ) → Pre s m → (v : Value) × (o left ≡ value_outcome v left) × Rep plan m clean t v (slots_at s xs))
       → Fragment plan clean calls a a Pre o t xs
   nothing a Pre o t xs does = record {
     runs = λ final callee next law rel agrees s w long good pre.
@@ -43,7 +43,7 @@ module _ (plan : Plan) (clean : Bool) (calls : Calls) where
   -- one instruction that writes one fresh slot
   pub one : (a : Sheet) (i : Instr) (Pre : List ℕ → Memory → Type 0) (o : ℕ → Outcome) (t : Ty)
       → ((next : Next) (callee : Callee) (pc : ℕ) (s : List ℕ) (w : World) → Pre s w.memory
-      → (v : Value) × (word : ℕ) × (act i next callee pc s w ≡ next (pc + 1) (slice_set s a.slots word) w) × (o w.left ≡ done v w.left) × Rep plan w.memory clean t v (word ∷ []))
+      → (v : Value) × (word : ℕ) × (act i next callee pc s w ≡ next (pc + 1) (slice_set s a.slots word) w) × (o w.left ≡ value_outcome v w.left) × Rep plan w.memory clean t v (word ∷ []))
       → Fragment plan clean calls a (pushed (with_slot a) i) Pre o t (a.slots ∷ [])
   one a i Pre o t does = record {
     runs = λ final callee next law rel agrees s w long good pre.

@@ -5,8 +5,8 @@ use Rattle.rb_core.specs.declared.outcome.Event.{Event}
 use Rattle.rb_core.specs.declared.outcome.SourceEnd.{SourceEnd}
 use Rattle.rb_core.specs.declared.outcome.SourceEnd.TheVariants.{Done, Spent as Stopped}
 use Rattle.rb_core.specs.declared.outcome.Outcome.{Outcome}
-use Rattle.rb_core.specs.Meaning.{after, at_end, then_do, done}
-use Rattle.rb_bytes.specs.Memory.{Memory, IsGood, aligned}
+use Rattle.rb_core.specs.Meaning.{after, at_end, then_do, value_outcome}
+use Rattle.rb_bytes.specs.Memory.{Memory, IsGood, least_multiple}
 use Rattle.rb_target.specs.Meaning.{World, CallEnd as Run, over}
 use Rattle.rb_target.specs.declared.outcome.End.TheVariants.{Full as Filled}
 use Rattle.rb_bytes.specs.declared.fault.Full.{Full as Unplaced}
@@ -41,7 +41,7 @@ behind_then limit x (Over r) qs = refl
 pub lay-append : (limit p : ℕ) (qs rs : List Request) → lay limit p (qs ++ rs) ≡ then_lay limit (lay limit p qs) rs
 lay-append limit p [] rs = behind_none (lay limit p rs)
 lay-append limit p (q ∷ qs) rs =
-    let at = aligned p q.align in
+    let at = least_multiple p q.align in
     let no : Laid = Over (record { next = p; size = q.size; align = q.align; limit = limit }) in
     let P : Bool → Type 0 = λ t. cond t (block_before (at, q.size) (lay limit (at + q.size) (qs ++ rs))) no ≡ then_lay limit (cond t (block_before (at, q.size) (lay limit (at + q.size) qs)) no) rs in
     elim (leb (at + q.size) limit) as P [
@@ -96,7 +96,7 @@ module _ (plan : Plan) where
         (bind_ends Mid base o.log m go next (lay m.limit m.next (requests_of plan.layouts o.log)) o.end d))
 
     -- nothing is built
-    pub unit : (base : ℕ) (m : Memory) (left : ℕ) (w : World) (v : Value) → IsGood m → w.memory ≡ m → w.left ≡ left → w.switches ≤ base → Ok v w → Does plan base out m (done v left) Ok
+    pub unit : (base : ℕ) (m : Memory) (left : ℕ) (w : World) (v : Value) → IsGood m → w.memory ≡ m → w.left ≡ left → w.switches ≤ base → Ok v w → Does plan base out m (value_outcome v left) Ok
     unit base m left w v good same same_left few ok =
         (w, subst (λ k. Grown m k [] m.next) (sym same) (Grown-refl m good), same_left, omega (arith, few), ok)
 
@@ -126,7 +126,7 @@ module _ (plan : Plan) where
 
   -- one event: where its requests fit, the memory has their blocks more; else the first that does not is asked for
   pub event_fits : (base : ℕ) (out : Run) (m : Memory) (e : Event) (v : Value) (left p : ℕ) (bs : List (ℕ × ℕ)) (w : World) (Ok : Value → World → Type 0) → lay m.limit m.next (requests_at plan.layouts e) ≡ Fits bs p
-      → Grown m w.memory bs p → w.left ≡ left → w.switches ≤ base + cost_at plan e → Ok v w → Does plan base out m (after (e ∷ []) (done v left)) Ok
+      → Grown m w.memory bs p → w.left ≡ left → w.switches ≤ base + cost_at plan e → Ok v w → Does plan base out m (after (e ∷ []) (value_outcome v left)) Ok
   event_fits base out m e v left p bs w Ok fits grown same few ok =
       let one : requests_at plan.layouts e ++ [] ≡ requests_at plan.layouts e = append-nil (requests_at plan.layouts e) in
       let most = base + cost_of plan (e ∷ []) in
@@ -134,7 +134,7 @@ module _ (plan : Plan) where
       (subst (λ l. Ends most out m l (Done v left) Ok) (sym fits) (w, grown, same, omega (arith, few), ok))
 
   pub event_over : (base : ℕ) (out : Run) (m : Memory) (e : Event) (v : Value) (left : ℕ) (full : Unplaced) (w : World) (Ok : Value → World → Type 0) → lay m.limit m.next (requests_at plan.layouts e) ≡ Over full
-      → out ≡ over (Filled full) w → w.switches ≤ base + cost_at plan e → Does plan base out m (after (e ∷ []) (done v left)) Ok
+      → out ≡ over (Filled full) w → w.switches ≤ base + cost_at plan e → Does plan base out m (after (e ∷ []) (value_outcome v left)) Ok
   event_over base out m e v left full w Ok fits is few =
       let one : requests_at plan.layouts e ++ [] ≡ requests_at plan.layouts e = append-nil (requests_at plan.layouts e) in
       let most = base + cost_of plan (e ∷ []) in

@@ -23,7 +23,7 @@ use Rattle.rb_fragment.specs.declared.reads.Share.{Share}
 use Rattle.rb_fragment.specs.Plan.{Plan}
 use Rattle.rb_fragment.specs.Adding.{Adds}
 use Rattle.rb_fragment.specs.Pieces.{Straight, AtEnd}
-use Rattle.rb_fragment.specs.Reads.{where_some, loaded, Meant, joined_over, mean, meant_of, is_range, is_width, fits, fits_share, MakesReadIn}
+use Rattle.rb_fragment.specs.Reads.{where_some, word_of_load, Meant, joined_over, mean, meant_of, is_range, is_width, fits, fits_share, MakesReadIn}
 use Rattle.rb_fragment.specs.inner.Addresses.{multiple}
 use Rattle.rb_fragment.specs.inner.Shares.{PutsOne, PutsShare, PutsAll, PutsShares, PutsSome}
 use Rattle.rb_fragment.proofs.Adding.{Adds-refl, Adds-trans, Adds-one, push_adds}
@@ -52,7 +52,7 @@ some_then : (o : Option ℕ) (go : ℕ → Option ℕ) (x : ℕ) → where_some 
 some_then None go x e = cc
 some_then (Some w) go x e = (w, refl, e)
 
-loaded_ok : (r : Result ℕ Trap) (x : ℕ) → loaded r ≡ Some x → r ≡ Ok x
+loaded_ok : (r : Result ℕ Trap) (x : ℕ) → word_of_load r ≡ Some x → r ≡ Ok x
 loaded_ok (Ok w) x e = ap (λ k. Ok k) (same_Some w x e)
 loaded_ok (Err t) x e = cc
 
@@ -131,7 +131,7 @@ module _ (plan : Plan) where
       then_makes r (Loaded r byte width) a b c xs b.slots made
       (Adds-one plan b (Load b.slots xs byte width) (0, omega arith, refl) (record { bounded = (low, wide); slots_fit = (omega arith, omega (arith, made.given)); targets = tt; calls = tt })) (omega arith)
       (λ w x m. load_of m w byte width ≡ Ok x)
-      (λ s m x e. let h = some_then (mean r s m) (λ w. loaded (load_of m w byte width)) x (sym (mean-Loaded r byte width s m) ∙ e) in (h.0, h.1, loaded_ok (load_of m h.0 byte width) x h.2))
+      (λ s m x e. let h = some_then (mean r s m) (λ w. word_of_load (load_of m w byte width)) x (sym (mean-Loaded r byte width s m) ∙ e) in (h.0, h.1, loaded_ok (load_of m h.0 byte width) x h.2))
       (λ w x. straight_weaken plan a.slots b c (λ s m. (word : ℕ) × (load_of m (slice_index s xs) byte width ≡ Ok word) × (word ≡ x)) (λ s m. (IsGood m × (load_of m w byte width ≡ Ok x)) × (slice_index s xs ≡ w)) (λ s m. slice_index s b.slots ≡ x) (λ s m. slice_index s b.slots ≡ x)
       (λ s m pre. (x, ap (λ y. load_of m y byte width) pre.1 ∙ pre.0.1, refl)) (λ s m p. p) (straight_load plan a.slots b made.adds.more (λ y m. y ≡ x) xs byte width made.given low wide))
 

@@ -14,7 +14,7 @@ use Rattle.rb_fragment.proofs.Pieces.{later-refl}
 use Rattle.rb_fragment.specs.Adding.{Adds, IsFitting, IsWrittenFrom}
 use Rattle.rb_fragment.specs.Pieces.{IsLater}
 use Rattle.rb_fragment.specs.Plan.{Plan}
-use Rattle.rb_fragment.specs.Slots.{AllBelow, AllFrom, SlotsAreApart, IsDistinct, IsOneOf, CodeStands, copied, copies, joining, slots_from}
+use Rattle.rb_fragment.specs.Slots.{AllBelow, AllFrom, SlotsAreApart, IsDistinct, IsOneOf, copies, joining, slots_from}
 use Rattle.rb_target.proofs.Growing.{Grows-append, Keeps-refl, Keeps-set, Keeps-trans, below_or, get-append, get-seam}
 use Rattle.rb_target.specs.Growth.{Keeps}
 use Rattle.rb_target.specs.Meaning.{from}
@@ -99,6 +99,12 @@ slots_from-has a (suc k) s lo hi = elim (below_or a s) [
   | inr le ↦ inl (omega (arith, lo, le))
 ]
 
+-- what the slots hold once `copies` has copied the words of the slots fs to the slots ds
+abbrev pub copied : List ℕ → List ℕ → List ℕ → List ℕ
+copied s [] fs = s
+copied s (d ∷ ds) [] = s
+copied s (d ∷ ds) (f ∷ fs) = copied (slice_set s d (slice_index s f)) ds fs
+
 pub copied-kept : (n : ℕ) (ds s fs : List ℕ) → AllFrom n ds → Keeps n s (copied s ds fs)
 copied-kept n [] s fs from = Keeps-refl n s
 copied-kept n (d ∷ ds) s [] from = Keeps-refl n s
@@ -113,6 +119,11 @@ copies_write (d ∷ ds) (f ∷ fs) x same (inl e) = (0, f, ap (λ y. Some (Copy 
 copies_write (d ∷ ds) (f ∷ fs) x same (inr h) = let r = copies_write ds fs x (omega (arith, same)) h in (suc r.0, r.1, r.2)
 
 -- Straight code
+
+-- these instructions stand in the code `final`, one behind the other from number pc on
+abbrev pub CodeStands : List Instr → ℕ → List Instr → Type 0
+CodeStands final pc [] = Unit {0}
+CodeStands final pc (i ∷ is) = (slice_get final pc ≡ Some i) × CodeStands final (pc + 1) is
 
 pub stands_from : (final : List Instr) (is pre rest : List Instr) (pc : ℕ) → length pre ≡ pc → ((j : ℕ) → pc ≤ j → j < pc + length is → slice_get final j ≡ slice_get (pre ++ (is ++ rest)) j) → CodeStands final pc is
 stands_from final [] pre rest pc e f = tt

@@ -19,7 +19,7 @@ use Rattle.rb_fragment.specs.declared.reads.Read.TheOpen.{Read-F}
 use Rattle.rb_fragment.specs.declared.reads.Read.TheFolds as Folds
 use Rattle.rb_fragment.specs.declared.reads.Read.TheFolds.{fold-roll-Read, fold_out-Share}
 use Rattle.rb_fragment.specs.declared.reads.Share.{Share, Share-F}
-use Rattle.rb_fragment.specs.Reads.{ReadMeaning, where_some, loaded, Meant, joined_over, mean_step, share_step, mean, meant_of, is_range, is_width, fits_step, share_fits, fits, fits_share}
+use Rattle.rb_fragment.specs.Reads.{ReadMeaning, where_some, word_of_load, Meant, joined_over, mean_step, share_step, mean, meant_of, is_range, is_width, fits_step, share_fits, fits, fits_share}
 
 -- Meaning
 
@@ -39,7 +39,7 @@ pub mean-Address : (r : Read) (o l align : ℕ) (s : List ℕ) (m : Memory) → 
 unfolding X.roll-Read denote.Hole.Carrier.roll
 mean-Address r o l align s m = ap (λ (q : ReadMeaning). q s m) (fold-roll-Read ReadMeaning Meant mean_step share_step (R.Address r o l align))
 
-pub mean-Loaded : (r : Read) (byte width : ℕ) (s : List ℕ) (m : Memory) → mean (Loaded r byte width) s m ≡ where_some (mean r s m) (λ base. loaded (load_of m base byte width))
+pub mean-Loaded : (r : Read) (byte width : ℕ) (s : List ℕ) (m : Memory) → mean (Loaded r byte width) s m ≡ where_some (mean r s m) (λ base. word_of_load (load_of m base byte width))
 unfolding X.roll-Read denote.Hole.Carrier.roll
 mean-Loaded r byte width s m = ap (λ (q : ReadMeaning). q s m) (fold-roll-Read ReadMeaning Meant mean_step share_step (R.Loaded r byte width))
 
@@ -163,7 +163,7 @@ module _ (n : ℕ) (s s' : List ℕ) (m : Memory) (k : Keeps n s s') where
         mean-Address r o l align s' m ∙ ap (λ v. where_some v (λ w. Some (take_of w o l * align % 2 ^ 64))) (ih f.0) ∙ sym (mean-Address r o l align s m);
     load = λ r byte width ih h.
         let f = both (fits n r) _ (sym (fits-Loaded n r byte width) ∙ h) in
-        mean-Loaded r byte width s' m ∙ ap (λ v. where_some v (λ base. loaded (load_of m base byte width))) (ih f.0) ∙ sym (mean-Loaded r byte width s m);
+        mean-Loaded r byte width s' m ∙ ap (λ v. where_some v (λ base. word_of_load (load_of m base byte width))) (ih f.0) ∙ sym (mean-Loaded r byte width s m);
     joined = λ ps each h. mean-Joined ps s' m ∙ over_stays ps each (sym (fits-Joined n ps) ∙ h) 0 ∙ sym (mean-Joined ps s m);
   })
 
@@ -184,8 +184,8 @@ some_of : (o : Option ℕ) (go : ℕ → Option ℕ) (x : ℕ) → where_some o 
 some_of None go x e = cc
 some_of (Some w) go x e = (w, refl, e)
 
-loaded_more : (m m' : Memory) → Extends m m' → (base byte width x : ℕ) (r : Result ℕ Trap) → load_of m base byte width ≡ r → loaded r ≡ Some x → loaded (load_of m' base byte width) ≡ Some x
-loaded_more m m' g base byte width x (Ok w) is e = ap loaded (load_extends m m' base byte width w g is) ∙ e
+loaded_more : (m m' : Memory) → Extends m m' → (base byte width x : ℕ) (r : Result ℕ Trap) → load_of m base byte width ≡ r → word_of_load r ≡ Some x → word_of_load (load_of m' base byte width) ≡ Some x
+loaded_more m m' g base byte width x (Ok w) is e = ap word_of_load (load_extends m m' base byte width w g is) ∙ e
 loaded_more m m' g base byte width x (Err t) is e = cc
 
 module _ (s : List ℕ) (m m' : Memory) (g : Extends m m') where
@@ -213,8 +213,8 @@ module _ (s : List ℕ) (m m' : Memory) (g : Extends m m') where
         let h = some_of (mean r s m) (λ w. Some (take_of w o l * align % 2 ^ 64)) x (sym (mean-Address r o l align s m) ∙ e) in
         mean-Address r o l align s m' ∙ ap (λ v. where_some v (λ w. Some (take_of w o l * align % 2 ^ 64))) (ih h.0 h.1) ∙ h.2;
     load = λ r byte width ih x e.
-        let h = some_of (mean r s m) (λ base. loaded (load_of m base byte width)) x (sym (mean-Loaded r byte width s m) ∙ e) in
-        mean-Loaded r byte width s m' ∙ ap (λ v. where_some v (λ base. loaded (load_of m' base byte width))) (ih h.0 h.1)
+        let h = some_of (mean r s m) (λ base. word_of_load (load_of m base byte width)) x (sym (mean-Loaded r byte width s m) ∙ e) in
+        mean-Loaded r byte width s m' ∙ ap (λ v. where_some v (λ base. word_of_load (load_of m' base byte width))) (ih h.0 h.1)
         ∙ loaded_more m m' g h.0 byte width x (load_of m h.0 byte width) refl h.2;
     joined = λ ps each x e. mean-Joined ps s m' ∙ over_grows ps each 0 x (sym (mean-Joined ps s m) ∙ e);
   })

@@ -8,7 +8,6 @@ use Rattle.rb_bytes.specs.Memory.{Memory, IsGood}
 use Rattle.rb_target.specs.declared.code.CodeFun.{CodeFun}
 use Rattle.rb_target.specs.Laws.{Law}
 use Rattle.rb_target.specs.Meaning.{World, Next, Callee, run_of}
-use Rattle.rb_target.specs.Sheet.{Sheet}
 use Rattle.rb_target.specs.Validity.{IsValidFun}
 use Rattle.rb_fragment.specs.declared.held.Local.{Local}
 use Rattle.rb_fragment.specs.Plan.{Plan, Reps, words_needed, words_needed_by, types_of}
@@ -25,10 +24,6 @@ param_locals plan a (p ∷ ps) =
 -- how many words a function's parameters have, in all
 abbrev pub param_words : Plan → Fun → ℕ
 param_words plan f = words_needed_by plan (types_of f)
-
--- a function's code before its first instruction
-abbrev pub empty_sheet : Plan → Fun → Sheet
-empty_sheet plan f = record { code = []; params = param_words plan f; slots = param_words plan f }
 
 -- the functions of the code have the words of the program's
 abbrev pub HasShapes : Plan → List CodeFun → Type 0

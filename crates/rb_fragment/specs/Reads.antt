@@ -7,6 +7,7 @@ use Rattle.rb_bits.specs.Words.{take_of, put_of}
 use Rattle.rb_bytes.specs.Memory.{Memory, IsGood, load_of}
 use Rattle.rb_bytes.specs.declared.fault.Trap.{Trap}
 use Rattle.rb_target.specs.Sheet.{Sheet}
+use Rattle.rb_target.specs.Validity.{most_offset}
 use Rattle.rb_fragment.specs.declared.reads.Read.{Read}
 use Rattle.rb_fragment.specs.declared.reads.Read.TheOpen as R
 use Rattle.rb_fragment.specs.declared.reads.Read.TheOpen.{Read-F}
@@ -28,9 +29,9 @@ where_some None go = None
 where_some (Some w) go = go w
 
 -- the word of a load, or None where the load goes astray
-abbrev pub loaded : Result ℕ Trap → Option ℕ
-loaded (Ok w) = Some w
-loaded (Err t) = None
+abbrev pub word_of_load : Result ℕ Trap → Option ℕ
+word_of_load (Ok w) = Some w
+word_of_load (Err t) = None
 
 -- a share with what its number means: bits o up to o + l of that stand from bit a on
 pub record Meant : Type 0 where
@@ -50,7 +51,7 @@ mean_step (R.Slot x) s m = Some (slice_index s x)
 mean_step (R.Number c) s m = Some c
 mean_step (R.Bits r o l) s m = where_some (r s m) (λ w. Some (take_of w o l))
 mean_step (R.Address r o l align) s m = where_some (r s m) (λ w. Some (take_of w o l * align % 2 ^ 64))
-mean_step (R.Loaded r byte width) s m = where_some (r s m) (λ base. loaded (load_of m base byte width))
+mean_step (R.Loaded r byte width) s m = where_some (r s m) (λ base. word_of_load (load_of m base byte width))
 mean_step (R.Joined shares) s m = joined_over 0 shares s m
 
 -- a share with its meaning, where its read is replaced by its meaning
@@ -81,7 +82,7 @@ fits_step n (R.Slot x) = nat_lt x n
 fits_step n (R.Number c) = true
 fits_step n (R.Bits r o l) = r && is_range o l
 fits_step n (R.Address r o l align) = r && is_range o l
-fits_step n (R.Loaded r byte width) = r && (nat_le byte 511 && is_width width)
+fits_step n (R.Loaded r byte width) = r && (nat_le byte most_offset && is_width width)
 fits_step n (R.Joined shares) = list_all (λ b. b) shares
 
 -- whether a share can be made, where its read tells whether it can: both its ranges are ranges of a word

@@ -1,5 +1,5 @@
 -- Lists of slots, and code that moves words between them.
-use Rattle.std.specs.Prelude.{◌≡◌, ℕ, zero, suc, ◌+◌, ◌<◌, ◌≤◌, ◌⊎◌, List, [], ◌∷◌, ◌++◌, length, Some, slice_get, slice_index, slice_set}
+use Rattle.std.specs.Prelude.{◌≡◌, ℕ, zero, suc, ◌+◌, ◌<◌, ◌≤◌, ◌⊎◌, List, [], ◌∷◌, ◌++◌, length}
 use Rattle.rb_target.specs.declared.instr.Instr.{Instr}
 use Rattle.rb_target.specs.declared.instr.Instr.TheVariants.{Copy, Jump}
 use Rattle.rb_target.specs.Sheet.{Sheet}
@@ -42,17 +42,6 @@ abbrev pub copies : List ℕ → List ℕ → List Instr
 copies [] fs = []
 copies (d ∷ ds) [] = []
 copies (d ∷ ds) (f ∷ fs) = Copy d f ∷ copies ds fs
-
--- what the slots hold once `copies` has copied the words of the slots fs to the slots ds
-abbrev pub copied : List ℕ → List ℕ → List ℕ → List ℕ
-copied s [] fs = s
-copied s (d ∷ ds) [] = s
-copied s (d ∷ ds) (f ∷ fs) = copied (slice_set s d (slice_index s f)) ds fs
-
--- these instructions stand in the code `final`, one behind the other from number pc on
-abbrev pub CodeStands : List Instr → ℕ → List Instr → Type 0
-CodeStands final pc [] = Unit {0}
-CodeStands final pc (i ∷ is) = (slice_get final pc ≡ Some i) × CodeStands final (pc + 1) is
 
 -- code behind that of b: the words of `froms` are copied to the slots `into`, which several ways share, and a jump,
 -- which is to be set, leads to where the ways meet

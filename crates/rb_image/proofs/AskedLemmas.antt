@@ -19,7 +19,7 @@ use Rattle.rb_image.specs.declared.kept.Kept.{Kept}
 use Rattle.rb_image.specs.Asked.{Asking, asked_arm, asked_arms, asked_by, asked_step, if_found, ranges_after, ranges_at}
 use Rattle.rb_image.specs.Paths.{Names}
 use Rattle.rb_image.specs.Splits.{and_then, kept_in, leaf_at, or_fault, pointed_from, range_at, range_from, range_of, step_over, word_at}
-use Rattle.rb_image.specs.inner.Checking.{given}
+use Rattle.rb_image.specs.inner.Checking.{found_or_none}
 use Rattle.rb_image.proofs.DropLemmas.{drop_item, drop_past}
 use Rattle.rb_image.proofs.FallLemmas.{same_Ok}
 use Rattle.rb_image.proofs.SpotLemmas.{In, in_left, in_right}
@@ -192,11 +192,11 @@ module _ (m : List ImageBlock) where
     })
 
 -- Locations, step by step --------------------------------------------------------------------
-given_none : {A : Type 0} (r : Result A ImageFault) → None ≡ given r → (fault : ImageFault) × ◌≡◌ {A = Result A ImageFault} r (Err fault)
+given_none : {A : Type 0} (r : Result A ImageFault) → None ≡ found_or_none r → (fault : ImageFault) × ◌≡◌ {A = Result A ImageFault} r (Err fault)
 given_none (Err fault) e = (fault, refl)
 given_none (Ok x) e = absurd cc
 
-pub given_some : {A : Type 0} (r : Result A ImageFault) (x : A) → Some x ≡ given r → ◌≡◌ {A = Result A ImageFault} r (Ok x)
+pub given_some : {A : Type 0} (r : Result A ImageFault) (x : A) → Some x ≡ found_or_none r → ◌≡◌ {A = Result A ImageFault} r (Ok x)
 given_some (Err fault) x e = absurd cc
 given_some (Ok y) x e = ap (λ z. Ok z) (same_Some y x (sym e))
 
@@ -218,12 +218,12 @@ ranges_end m range steps i found le = ap (λ ss. found ++ ranges_after m range s
 -- Trees, split by split ----------------------------------------------------------------------
 module _ (tree : FlatTree) (loc : Loc) (arms : List FlatArm) (other : Option FlatTree) (m : List ImageBlock) (ws : List Kept) (is : tree ≡ Split loc arms other) (old new all : List Kept)
     (added : new ≡ old ++ ranges_at m ws loc) (before : old ++ asked_by tree m ws ≡ all) where
-  pub turn_stopped : (o : Option Kept) → o ≡ given (range_at m ws loc) → o ≡ None → new ≡ all
+  pub turn_stopped : (o : Option Kept) → o ≡ found_or_none (range_at m ws loc) → o ≡ None → new ≡ all
   turn_stopped o is_given none =
       let f = given_none (range_at m ws loc) (sym none ∙ is_given) in
       added ∙ ap (λ xs. old ++ xs) (sym (split_stopped tree loc arms other m ws f.0 is f.1)) ∙ before
 
-  pub turn_asked : (o : Option Kept) (range : Kept) (next : Option FlatTree) → o ≡ given (range_at m ws loc) → o ≡ Some range → next ≡ under_number arms other range.number
+  pub turn_asked : (o : Option Kept) (range : Kept) (next : Option FlatTree) → o ≡ found_or_none (range_at m ws loc) → o ≡ Some range → next ≡ under_number arms other range.number
       → new ++ asked_on next m ws ≡ all
   turn_asked o range next is_given some under =
       let read = given_some (range_at m ws loc) range (sym some ∙ is_given) in

@@ -4,7 +4,7 @@ use Rattle.std.specs.Prelude.{slice_get}
 use Rattle.std.proofs.lemmas.Bool.{cases_lt}
 use Rattle.std.proofs.lemmas.Bool.Decides.{leb_tells}
 use Rattle.std.proofs.lemmas.Option.{same_Some, slice_get_within}
-use Rattle.rb_bytes.specs.Memory.{Memory, IsAlign, IsGood, IsSize, aligned, byte_at, lies_within, place_of, size_at, store_of, write_le}
+use Rattle.rb_bytes.specs.Memory.{Memory, IsAlign, IsGood, IsSize, least_multiple, byte_at, lies_within, place_of, size_at, store_of, write_le}
 use Rattle.rb_bytes.specs.Laws.{Extends}
 use Rattle.rb_bytes.specs.declared.fault.Full.{Full}
 use Rattle.rb_bytes.specs.declared.fault.Trap.{Trap}
@@ -23,7 +23,7 @@ use Rattle.rb_image.proofs.StandLemmas.{stands_extends}
 pub align_one : IsAlign 1
 align_one = (0, omega arith, refl)
 
-aligned_one : (n : ℕ) → aligned n 1 ≡ n
+aligned_one : (n : ℕ) → least_multiple n 1 ≡ n
 aligned_one n = omega arith
 
 abbrev placing : Memory → ℕ → ℕ → Result ℕ Full × Memory

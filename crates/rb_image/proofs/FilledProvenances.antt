@@ -24,7 +24,7 @@ use Rattle.rb_layout.specs.Positions.{Open, below, leaf_of, layout_of, opens_bel
 use Rattle.rb_layout.specs.declared.layout.Layout.{Layout}
 use Rattle.rb_layout.specs.declared.layout.Leaf.{Leaf}
 use Rattle.rb_rel.proofs.Existence.{first_leaf}
-use Rattle.rb_rel.proofs.Lawful.{fits_type, is_named}
+use Rattle.rb_rel.specs.Provenances.{fits_type, is_named}
 use Rattle.rb_rel.proofs.Lists.{and_true, both, get-append, get-map}
 use Rattle.rb_rel.proofs.Opens.{fits-Con, fitting, opens-Con, opens-Wild, opens-Var}
 

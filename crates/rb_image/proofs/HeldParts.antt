@@ -27,7 +27,7 @@ use Rattle.rb_layout.specs.Positions.{Open, open_positions, opens_of, types_or_n
 use Rattle.rb_rel.specs.Relation.{Represents, word_count}
 use Rattle.rb_rel.specs.Relation as R
 use Rattle.rb_rel.proofs.Agreeing.{lawful}
-use Rattle.rb_rel.proofs.Lawful.{fits_type, is_named}
+use Rattle.rb_rel.specs.Provenances.{fits_type, is_named}
 use Rattle.rb_rel.proofs.Leaves.{leaf_matches}
 use Rattle.rb_rel.proofs.Lists.{both, get-mapped}
 use Rattle.rb_rel.proofs.Opens.{fits-Con, fitting}

@@ -27,7 +27,7 @@ use Rattle.rb_image.specs.LeafWords.{AreNumbers, HasNumbers, block_numbers, foll
 use Rattle.rb_image.specs.Orders.{LocatedPart, order_of}
 use Rattle.rb_image.specs.Parts.{bits_at, pointer_lead, kept_at}
 use Rattle.rb_image.specs.Splits.{range_of}
-use Rattle.rb_image.specs.inner.Reaching.{IsLeafPart, unread, word_read}
+use Rattle.rb_image.specs.inner.Reaching.{IsLeafPart, unread_words, word_read}
 use Rattle.rb_image.specs.inner.Viewing.{spot_part, spots_of}
 use Rattle.rb_image.proofs.DropLemmas.{drop_item}
 use Rattle.rb_image.proofs.ExaminedParts.{followed_is}
@@ -161,13 +161,13 @@ module _ (m : List ImageBlock) (leaf : Leaf) (ats : List ℕ) (blocks : List (Ve
       ]
 
 -- Words that are not read yet ----------------------------------------------------------------
-pub unread_none : (bs : List Block) (n : ℕ) → unread bs (replicate n 0) ≡ sum_by (λ (b : Block). length b.words) bs
+pub unread_none : (bs : List Block) (n : ℕ) → unread_words bs (replicate n 0) ≡ sum_by (λ (b : Block). length b.words) bs
 unread_none [] n = refl
 unread_none (b ∷ bs) zero = ap (λ k. length b.words + k) (unread_none bs zero) ∙ sym (sum_by-cons (λ (x : Block). length x.words) b bs)
 unread_none (b ∷ bs) (suc n) = ap (λ k. length b.words + k) (unread_none bs n) ∙ sym (sum_by-cons (λ (x : Block). length x.words) b bs)
 
 pub unread_entered : (bs : List Block) (ats : List ℕ) (b at : ℕ) (block : Block) → b < length ats → slice_index ats b ≡ 0 → 0 < at → slice_get bs b ≡ Some block
-    → unread bs (set ats b at) + length block.words ≡ unread bs ats
+    → unread_words bs (set ats b at) + length block.words ≡ unread_words bs ats
 unread_entered [] ats b at block lt unknown some is = absurd cc
 unread_entered (x ∷ bs) [] b at block lt unknown some is = absurd (omega (arith, lt))
 unread_entered (x ∷ bs) (a ∷ ats) zero at block lt unknown some is =
@@ -178,7 +178,7 @@ unread_entered (x ∷ bs) (a ∷ ats) zero at block lt unknown some is =
 unread_entered (x ∷ bs) (a ∷ ats) (suc b) at block lt unknown some is =
     let rest = unread_entered bs ats b at block (omega (arith, lt)) unknown some is in omega (arith, rest)
 
-pub unread_set : (bs : List Block) (ats : List ℕ) (b at : ℕ) → slice_index ats b ≡ 0 → unread bs (set ats b at) ≤ unread bs ats
+pub unread_set : (bs : List Block) (ats : List ℕ) (b at : ℕ) → slice_index ats b ≡ 0 → unread_words bs (set ats b at) ≤ unread_words bs ats
 unread_set [] ats b at unknown = omega arith
 unread_set (x ∷ bs) [] b at unknown = omega arith
 unread_set (x ∷ bs) (a ∷ ats) zero at unknown =

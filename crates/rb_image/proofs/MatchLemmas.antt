@@ -12,7 +12,7 @@ use Rattle.rb_layout.specs.declared.layout.Layout.{Layout}
 use Rattle.rb_layout.specs.declared.layout.Leaf.{Leaf}
 use Rattle.rb_image_text.specs.declared.fault.ImageFault.{ImageFault}
 use Rattle.rb_image_text.specs.declared.image.ImageBlock.{ImageBlock}
-use Rattle.rb_image.specs.Rebuilds.{chosen, match_field, match_fields, matches, or_later}
+use Rattle.rb_image.specs.Rebuilds.{leaf_chosen, match_field, match_fields, matches, or_later}
 use Rattle.rb_image.specs.Splits.{and_then}
 use Rattle.rb_image.specs.Views.{LeafPosition, down}
 use Rattle.rb_image.specs.inner.Standing.{first_fault, or_before}
@@ -62,15 +62,15 @@ module _ (types : List DataDecl) (layouts : List Layout) (m : List ImageBlock) w
   -- Leaves -----------------------------------------------------------------------------------
   module _ (leaves : List Leaf) (k : ℕ) (leaf : Leaf) (x : LeafPosition) (is : slice_get leaves k ≡ Some leaf) where
     abbrev later : Result Leaf ImageFault
-    later = chosen types layouts m (drop (k + 1) leaves) x
+    later = leaf_chosen types layouts m (drop (k + 1) leaves) x
 
-    tried : chosen types layouts m (drop k leaves) x ≡ or_later (Match leaf.prov x) leaf later
-    tried = ap (λ ls. chosen types layouts m ls x) (drop_item leaves k leaf is)
+    tried : leaf_chosen types layouts m (drop k leaves) x ≡ or_later (Match leaf.prov x) leaf later
+    tried = ap (λ ls. leaf_chosen types layouts m ls x) (drop_item leaves k leaf is)
 
-    pub leaf_passed : (before : Option ImageFault) → Match leaf.prov x ≡ Ok false → or_before before (chosen types layouts m (drop k leaves) x) ≡ or_before before later
+    pub leaf_passed : (before : Option ImageFault) → Match leaf.prov x ≡ Ok false → or_before before (leaf_chosen types layouts m (drop k leaves) x) ≡ or_before before later
     leaf_passed before fails = ap (or_before before) (tried ∙ ap (λ r. or_later r leaf later) fails)
 
-    pub leaf_taken : (before : Option ImageFault) → Match leaf.prov x ≡ Ok true → or_before before (chosen types layouts m (drop k leaves) x) ≡ Ok leaf
+    pub leaf_taken : (before : Option ImageFault) → Match leaf.prov x ≡ Ok true → or_before before (leaf_chosen types layouts m (drop k leaves) x) ≡ Ok leaf
     leaf_taken None passes = tried ∙ ap (λ r. or_later r leaf later) passes
     leaf_taken (Some fault) passes = ap (or_before (Some fault)) (tried ∙ ap (λ r. or_later r leaf later) passes)
 
@@ -80,5 +80,5 @@ module _ (types : List DataDecl) (layouts : List Layout) (m : List ImageBlock) w
     twice (Some first) fault (Err e) = refl
 
     pub leaf_unknown : (before : Option ImageFault) (fault : ImageFault) → Match leaf.prov x ≡ Err fault
-        → or_before before (chosen types layouts m (drop k leaves) x) ≡ or_before (first_fault before fault) later
+        → or_before before (leaf_chosen types layouts m (drop k leaves) x) ≡ or_before (first_fault before fault) later
     leaf_unknown before fault wrong = ap (or_before before) (tried ∙ ap (λ r. or_later r leaf later) wrong) ∙ twice before fault later

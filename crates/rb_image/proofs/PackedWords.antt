@@ -21,13 +21,13 @@ use Rattle.rb_layout.specs.Positions.{Open, layout_of, leaf_of, open_positions}
 use Rattle.rb_rel.specs.Placing.{Fits, lay, request_of}
 use Rattle.rb_rel.specs.Relation.{Represents}
 use Rattle.rb_rel.proofs.Layers.{Sound, can_hold, fits_at, layer_shown, made, numbered, sound, stored}
-use Rattle.rb_rel.proofs.Packing.{number_of, packed as all_packed}
-use Rattle.rb_rel.proofs.Storing.{with_blocks}
+use Rattle.rb_rel.proofs.Packing.{packed as all_packed}
+use Rattle.rb_rel.specs.Storing.{number_of, with_blocks}
 use Rattle.rb_coding.specs.Packing.{made_of, word_made}
 use Rattle.rb_coding.proofs.LeafShowing.{put_fits}
 use Rattle.rb_image.specs.declared.pack.FieldWords.{FieldWords}
 use Rattle.rb_image.specs.PackedWords.{FieldsRepresent, PackedWordsRepresent}
-use Rattle.rb_image.specs.Rebuilds.{packed, words_at_path}
+use Rattle.rb_image.specs.Rebuilds.{words_of_leaf, words_at_path}
 use Rattle.rb_image.proofs.NarrowLeaves.{leaves_are_narrow}
 
 -- each part fits, so it is put in its place
@@ -73,13 +73,13 @@ module _ (p : Program) (typed : IsTyped p) (agrees : Agrees p) (m : Memory) (goo
       let s = short j f e in
       made_packed ss (λ b. 0) f.parts (λ k q at. (w.some k q at, (let i = w.tidy.inside k q at in omega (arith, i, s)), h.fit k q at))
 
-  words_are : packed leaf fields ≡ map numbers leaf.root
+  words_are : words_of_leaf leaf fields ≡ map numbers leaf.root
   words_are = map_same (word_made ss (λ b. 0)) numbers leaf.root word_is
 
   same_memory : made p agrees clean t layout n leaf ok m good ss reps wide [] m.next laid ≡ m
   same_memory = (stored p agrees clean t layout n leaf ok m good ss reps wide [] m.next laid).is_filled ∙ ap (with_blocks numbers m) none
 
-  pub packed_represent : Represents p.types (flat_layouts p) m clean (Named t) v (packed leaf fields)
+  pub packed_represent : Represents p.types (flat_layouts p) m clean (Named t) v (words_of_leaf leaf fields)
   packed_represent =
       let here = layer_shown p agrees clean t layout n leaf ok m good ss reps wide [] m.next laid v is_layout is_leaf is_number (λ path. unwrap_or (part_at v path) v)
       (λ i o at. let q = represent i o at in let x = ap (λ y. unwrap_or y v) q.1 in

@@ -24,7 +24,7 @@ use Rattle.rb_image.specs.Parts.{bits_at}
 use Rattle.rb_image.specs.Paths.{IsFaultless, IsPathFault, IsWalked, is_there, part_fault}
 use Rattle.rb_image.specs.Roots.{WordsFit, kept_from, layout_widths, widths_of}
 use Rattle.rb_image.specs.Sites.{kept_of}
-use Rattle.rb_image.specs.Walks.{Waypoint, Where, walked, where_of}
+use Rattle.rb_image.specs.Walks.{Waypoint, Where, end_of_path, where_of}
 use Rattle.rb_image.specs.inner.Checking.{IsFoundOn, all_seen, fault_among, fault_at, fault_of_seen, fault_seen, has_word, is_kept_at, words_of_path}
 use Rattle.rb_image.proofs.PathSubvalues.{walk_stops}
 use Rattle.rb_image.proofs.PathWalks.{Walks}
@@ -70,16 +70,16 @@ walk_given (Err fault) w given = absurd given
 
 module _ (types : List DataDecl) (layouts : List Layout) (image : Image) (t : ℕ) (path : List ℕ) where
   abbrev due : Walks
-  due = walked types layouts image.blocks t (kept_from 0 image.root) path
+  due = end_of_path types layouts image.blocks t (kept_from 0 image.root) path
 
   -- the walk came to the end
-  pub came : (ws : List Kept) → ws ≡ kept_from 0 image.root → (w : Walk) → IsGiven where_of (walked types layouts image.blocks t ws path) (Ok w) → IsWalked types layouts image t path w
-  came ws same w given = walk_given due w (subst (λ (xs : List Kept). IsGiven where_of (walked types layouts image.blocks t xs path) (Ok w)) same given)
+  pub came : (ws : List Kept) → ws ≡ kept_from 0 image.root → (w : Walk) → IsGiven where_of (end_of_path types layouts image.blocks t ws path) (Ok w) → IsWalked types layouts image t path w
+  came ws same w given = walk_given due w (subst (λ (xs : List Kept). IsGiven where_of (end_of_path types layouts image.blocks t xs path) (Ok w)) same given)
 
   -- the walk stopped
-  pub stopped : AreInPlace image.blocks → AreWell layouts → (ws : List Kept) → ws ≡ kept_from 0 image.root → (fault : ImageFault) → IsGiven where_of (walked types layouts image.blocks t ws path) (Err fault)
+  pub stopped : AreInPlace image.blocks → AreWell layouts → (ws : List Kept) → ws ≡ kept_from 0 image.root → (fault : ImageFault) → IsGiven where_of (end_of_path types layouts image.blocks t ws path) (Err fault)
       → IsPathFault types layouts image t path fault
-  stopped placed well ws same fault given = go due refl (subst (λ (xs : List Kept). IsGiven where_of (walked types layouts image.blocks t xs path) (Err fault)) same given)
+  stopped placed well ws same fault given = go due refl (subst (λ (xs : List Kept). IsGiven where_of (end_of_path types layouts image.blocks t xs path) (Err fault)) same given)
     where
       at : (f : ImageFault) → ◌≡◌ {A = Walks} due (Err f) → IsPathFault types layouts image t path f
       at f is = elim (walk_stops types layouts image t path placed well f is) [

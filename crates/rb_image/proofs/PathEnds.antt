@@ -8,7 +8,7 @@ use Rattle.rb_image_text.specs.declared.fault.ImageFault.{ImageFault}
 use Rattle.rb_image_text.specs.declared.image.ImageBlock.{ImageBlock}
 use Rattle.rb_image.specs.declared.kept.Kept.{Kept}
 use Rattle.rb_image.specs.Values.{IsDeclared}
-use Rattle.rb_image.specs.Walks.{Waypoint, Where, arrived, moved, open_data, see, step, steps, walked}
+use Rattle.rb_image.specs.Walks.{Waypoint, Where, arrived, moved, open_data, see, step, steps, end_of_path}
 use Rattle.rb_image.specs.inner.Ordering.{AreOrderly}
 use Rattle.rb_image.proofs.ExaminedParts.{then_ok}
 use Rattle.rb_image.proofs.FallLemmas.{same_Ok}
@@ -33,7 +33,7 @@ module _ (types : List DataDecl) (layouts : List Layout) (m : List ImageBlock) w
       let r = then_ok (step types layouts m k w i) (λ v. steps types layouts m (k + 1) v path) end e in
       steps_closed path (k + 1) r.0 end (step_closed k w i r.0 r.1) r.2
 
-  pub walk_closed : (t : ℕ) (ws : List Kept) (path : List ℕ) (end : Where) → ◌≡◌ {A = Walks} (walked types layouts m t ws path) (Ok end) → IsClosed end
+  pub walk_closed : (t : ℕ) (ws : List Kept) (path : List ℕ) (end : Where) → ◌≡◌ {A = Walks} (end_of_path types layouts m t ws path) (Ok end) → IsClosed end
   walk_closed t ws path end e =
       let r = then_ok (see layouts m t ws) (λ s. steps types layouts m 0 (arrived [] s) path) end e in
       steps_closed path 0 (arrived [] r.0) end (inl (see_is layouts m t ws r.0 r.1).at) r.2
@@ -57,7 +57,7 @@ module _ (types : List DataDecl) (layouts : List Layout) (m : List ImageBlock) w
         let r = then_ok (step types layouts m k w i) (λ v. steps types layouts m (k + 1) v path) end e in
         steps_typed path (k + 1) r.0 end (step_typed k w i r.0 r.1) r.2
 
-    pub walk_typed : (t : ℕ) (ws : List Kept) (path : List ℕ) (end : Where) → t < length types → ◌≡◌ {A = Walks} (walked types layouts m t ws path) (Ok end) → IsDeclared types end.here.ty
+    pub walk_typed : (t : ℕ) (ws : List Kept) (path : List ℕ) (end : Where) → t < length types → ◌≡◌ {A = Walks} (end_of_path types layouts m t ws path) (Ok end) → IsDeclared types end.here.ty
     walk_typed t ws path end small e =
         let r = then_ok (see layouts m t ws) (λ s. steps types layouts m 0 (arrived [] s) path) end e in
         steps_typed path 0 (arrived [] r.0) end (arrived_typed [] t ws r.0 small r.1) r.2

@@ -17,7 +17,7 @@ use Rattle.rb_image.specs.Parts.{At}
 use Rattle.rb_image.specs.Paths.{HasNoPart, HasPathFault, IsEntered, IsKeptAt, IsOnPath, IsStep, part_bits, word_below, words_ahead, words_asked}
 use Rattle.rb_image.specs.Roots.{kept_from, root_at}
 use Rattle.rb_image.specs.Splits.{and_then, or_fault}
-use Rattle.rb_image.specs.Walks.{Waypoint, Where, arrived, layout_at, moved, open_data, see, settled, step, steps, walked, words_on}
+use Rattle.rb_image.specs.Walks.{Waypoint, Where, arrived, layout_at, moved, open_data, see, settled, step, steps, end_of_path, words_on}
 use Rattle.rb_image.specs.Ways.{refused_below}
 use Rattle.rb_image.specs.inner.Checking.{all_seen}
 use Rattle.rb_image.proofs.AskedLemmas.{fault_named}
@@ -36,12 +36,12 @@ module _ (types : List DataDecl) (layouts : List Layout) (image : Image) (t : �
   root = kept_from 0 image.root
 
   abbrev pub Came : List ℕ → Walks → Type 0
-  Came first r = ◌≡◌ {A = Walks} (walked types layouts m t root first) r
+  Came first r = ◌≡◌ {A = Walks} (end_of_path types layouts m t root first) r
 
   -- Where the walk comes to the end ----------------------------------------------------------
   module _ (end : Where) (came : Came path (Ok end)) where
     rest_of : (first rest : List ℕ) (w : Where) → path ≡ first ++ rest → Came first (Ok w) → ◌≡◌ {A = Walks} (steps types layouts m (length first) w rest) (Ok end)
-    rest_of first rest w is here = sym (walked_on types layouts m t root first rest w here) ∙ ap (walked types layouts m t root) (sym is) ∙ came
+    rest_of first rest w is here = sym (walked_on types layouts m t root first rest w here) ∙ ap (end_of_path types layouts m t root) (sym is) ∙ came
 
     -- the subvalues from which one goes on are among those that were passed
     pub step_covered : (w : Where) (i : ℕ) (here : Position) → IsStep types layouts image t path w i here → Covers types layouts m (all_seen end) (moved w i here).last

@@ -10,7 +10,7 @@ use Rattle.rb_image_text.specs.declared.image.ImageBlock.{ImageBlock}
 use Rattle.rb_image.specs.declared.kept.Kept.{Kept}
 use Rattle.rb_image.specs.Fields.{Position, field_of}
 use Rattle.rb_image.specs.Splits.{and_then, leaf_at, or_fault}
-use Rattle.rb_image.specs.Walks.{Waypoint, Where, arrived, layout_at, leaf_or_none, moved, open_data, see, settled, step, steps, unless, walked, words_on}
+use Rattle.rb_image.specs.Walks.{Waypoint, Where, arrived, layout_at, leaf_or_none, moved, open_data, see, settled, step, steps, unless, end_of_path, words_on}
 use Rattle.rb_image.specs.inner.Checking.{all_seen}
 use Rattle.rb_image.proofs.ExaminedParts.{then_ok}
 use Rattle.rb_image.proofs.FallLemmas.{same_Ok}
@@ -125,8 +125,8 @@ module _ (types : List DataDecl) (layouts : List Layout) (m : List ImageBlock) w
           ∙ ap (λ n. and_then (steps types layouts m (k + 1) v first) (λ u. steps types layouts m n u rest)) up
 
   -- further along the path
-  pub walked_on : (t : ℕ) (ws : List Kept) (first rest : List ℕ) (w : Where) → ◌≡◌ {A = Walks} (walked types layouts m t ws first) (Ok w)
-      → ◌≡◌ {A = Walks} (walked types layouts m t ws (first ++ rest)) (steps types layouts m (length first) w rest)
+  pub walked_on : (t : ℕ) (ws : List Kept) (first rest : List ℕ) (w : Where) → ◌≡◌ {A = Walks} (end_of_path types layouts m t ws first) (Ok w)
+      → ◌≡◌ {A = Walks} (end_of_path types layouts m t ws (first ++ rest)) (steps types layouts m (length first) w rest)
   walked_on t ws first rest w e = go (see layouts m t ws) e
     where
       go : (r : Sees) → ◌≡◌ {A = Walks} (and_then r (λ s. steps types layouts m 0 (arrived [] s) first)) (Ok w)
@@ -138,8 +138,8 @@ module _ (types : List DataDecl) (layouts : List Layout) (m : List ImageBlock) w
           ∙ ap (λ n. steps types layouts m n w rest) z
 
   -- by one step
-  pub walked_more : (t : ℕ) (ws : List Kept) (first : List ℕ) (i : ℕ) (w v : Where) → ◌≡◌ {A = Walks} (walked types layouts m t ws first) (Ok w)
-      → ◌≡◌ {A = Walks} (step types layouts m (length first) w i) (Ok v) → ◌≡◌ {A = Walks} (walked types layouts m t ws (first ++ i ∷ [])) (Ok v)
+  pub walked_more : (t : ℕ) (ws : List Kept) (first : List ℕ) (i : ℕ) (w v : Where) → ◌≡◌ {A = Walks} (end_of_path types layouts m t ws first) (Ok w)
+      → ◌≡◌ {A = Walks} (step types layouts m (length first) w i) (Ok v) → ◌≡◌ {A = Walks} (end_of_path types layouts m t ws (first ++ i ∷ [])) (Ok v)
   walked_more t ws first i w v here next =
       walked_on t ws first (i ∷ []) w here ∙ ap (λ (r : Walks). and_then r (λ u. steps types layouts m (length first + 1) u [])) next
 

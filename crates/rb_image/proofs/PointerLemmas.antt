@@ -23,7 +23,7 @@ use Rattle.rb_layout.specs.declared.layout.Kind.{Kind}
 use Rattle.rb_layout.specs.declared.layout.Kind.TheVariants.{Const, Bits, Word, Pointer}
 use Rattle.rb_layout.specs.Positions.{Open, open_positions}
 use Rattle.rb_layout.specs.Words.{words_of_block}
-use Rattle.rb_layout.specs.Flattening.{Laying, in_turn, item_laid, kind_laid, part_laid, items_laid, parts_of, whole_kind, kind_if_open, type_at, shape_of, inlined, inline_words, flat_leaf}
+use Rattle.rb_layout.specs.Flattening.{Laying, in_turn, item_laid, kind_laid, part_laid, items_laid, parts_of, whole_kind, kind_if_open, type_at, shape_of, words_inlined, inline_words, flat_leaf}
 use Rattle.rb_layout.proofs.Blocks.{get_left, get_right, kinds_of, word_kinds}
 use Rattle.rb_layout.proofs.Computing.{word_laid, inline_laid, const_laid, whole_laid, slice_laid, word_of_laid, pointer_laid, part_laid_is}
 use Rattle.rb_layout.proofs.FlatForms.{Each}
@@ -270,7 +270,7 @@ module _ (c : ℕ) (inner : ℕ → List LocatedPart) where
   shape_none path j [] = refl
   shape_none path j (w ∷ widths) = let rest = shape_none path (j + 1) widths in omega (arith, rest)
 
-  field_none : (decls : List LayoutDecl) (ty : Option Ty) (path : List ℕ) → weighed c inner (word_kinds (inlined decls ty path)) ≡ 0
+  field_none : (decls : List LayoutDecl) (ty : Option Ty) (path : List ℕ) → weighed c inner (word_kinds (words_inlined decls ty path)) ≡ 0
   field_none decls None path = refl
   field_none decls (Some (Int bits)) path = refl
   field_none decls (Some (Named s)) path = shape_none path 0 (shape_of decls s)

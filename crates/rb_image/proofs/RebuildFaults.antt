@@ -35,7 +35,7 @@ use Rattle.rb_image.specs.Fields.{Position, field_of}
 use Rattle.rb_image.specs.Orders.{LocatedPart, order_of}
 use Rattle.rb_image.specs.Parts.{addresses_of, bits_at, block_from, block_size, examine, examine_kind, examine_part, field_word, field_words, pointer_lead, is_field_word, kept_at}
 use Rattle.rb_image.specs.Paths.{Names}
-use Rattle.rb_image.specs.Rebuilds.{Matching, Rebuilding, chosen, data_words, fields_at, match_con, match_field, match_fields, match_step, matches, or_later, packed, rebuilt_within, same_con, words_along, words_at}
+use Rattle.rb_image.specs.Rebuilds.{Matching, Rebuilding, leaf_chosen, data_words, fields_at, match_con, match_field, match_fields, match_step, matches, or_later, words_of_leaf, rebuilt_within, same_con, words_along, words_at}
 use Rattle.rb_image.specs.Splits.{and_then, kept_in, leaf_at, or_fault, pointed_from, range_at, range_from, range_of, step_over, word_at}
 use Rattle.rb_image.specs.Views.{LeafPosition, along, down, down_to, from_root, settled_at, settled_here, step_down, taken_apart, words_here}
 use Rattle.rb_image.specs.Walks.{layout_at, leaf_or_none, open_data}
@@ -425,10 +425,10 @@ module _ (On : ℕ → ℕ → Type 0) (none_on : On 0 0) where
     later_told (Err g) leaf (Ok other) f own more e = absurd cc
     later_told (Err g) leaf (Err h) f own more e = subst IsTold (same_err {A = L.Leaf} g f e) (own g refl)
 
-    chosen_told : (leaves : List L.Leaf) (x : LeafPosition) → AllOn x → (f : ImageFault) → ◌≡◌ {A = Chosen} (chosen types layouts m leaves x) (Err f) → IsTold f
+    chosen_told : (leaves : List L.Leaf) (x : LeafPosition) → AllOn x → (f : ImageFault) → ◌≡◌ {A = Chosen} (leaf_chosen types layouts m leaves x) (Err f) → IsTold f
     chosen_told [] x on f e = inr (sym (same_err {A = L.Leaf} Memory f e))
     chosen_told (leaf ∷ leaves) x on f e =
-        later_told (matches types layouts m leaf.prov x) leaf (chosen types layouts m leaves x) f (matches_tell leaf.prov x on) (chosen_told leaves x on) e
+        later_told (matches types layouts m leaf.prov x) leaf (leaf_chosen types layouts m leaves x) f (matches_tell leaf.prov x on) (chosen_told leaves x on) e
 
     -- Words ----------------------------------------------------------------------------------
     abbrev Words : Type 0
@@ -495,17 +495,17 @@ module _ (On : ℕ → ℕ → Type 0) (none_on : On 0 0) where
 
     rebuild_told : (n : ℕ) → RebuildTells (rebuilt_within types layouts m n)
     rebuild_told zero t x on f e = inr (sym (same_err {A = List ℕ} Memory f e))
-    rebuild_told (suc n) t x on f e = first (chosen types layouts m (layout_at layouts t).leaves x) refl e (rebuild_told n)
+    rebuild_told (suc n) t x on f e = first (leaf_chosen types layouts m (layout_at layouts t).leaves x) refl e (rebuild_told n)
       where
         rest : (leaf : L.Leaf) → RebuildTells (rebuilt_within types layouts m n) → (r : Result (List FieldWords) ImageFault)
             → ◌≡◌ {A = Result (List FieldWords) ImageFault} (fields_at types layouts m (rebuilt_within types layouts m n) x (open_positions types leaf.prov)) r
-            → ◌≡◌ {A = Words} (and_then r (λ fields. Ok (packed leaf fields))) (Err f) → IsTold f
+            → ◌≡◌ {A = Words} (and_then r (λ fields. Ok (words_of_leaf leaf fields))) (Err f) → IsTold f
         rest leaf tells (Err g) is h =
             fields_told (rebuilt_within types layouts m n) tells (open_positions types leaf.prov) x on f (is ∙ ap (λ z. Err z) (same_err {A = List ℕ} g f h))
         rest leaf tells (Ok fields) is h = absurd cc
 
-        first : (r : Chosen) → ◌≡◌ {A = Chosen} (chosen types layouts m (layout_at layouts t).leaves x) r
-            → ◌≡◌ {A = Words} (and_then r (λ leaf. and_then (fields_at types layouts m (rebuilt_within types layouts m n) x (open_positions types leaf.prov)) (λ fields. Ok (packed leaf fields)))) (Err f)
+        first : (r : Chosen) → ◌≡◌ {A = Chosen} (leaf_chosen types layouts m (layout_at layouts t).leaves x) r
+            → ◌≡◌ {A = Words} (and_then r (λ leaf. and_then (fields_at types layouts m (rebuilt_within types layouts m n) x (open_positions types leaf.prov)) (λ fields. Ok (words_of_leaf leaf fields)))) (Err f)
             → RebuildTells (rebuilt_within types layouts m n) → IsTold f
         first (Err g) is h tells = chosen_told (layout_at layouts t).leaves x on f (is ∙ ap (λ z. Err z) (same_err {A = List ℕ} g f h))
         first (Ok leaf) is h tells = rest leaf tells (fields_at types layouts m (rebuilt_within types layouts m n) x (open_positions types leaf.prov)) refl h

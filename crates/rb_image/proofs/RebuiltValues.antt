@@ -33,7 +33,7 @@ use Rattle.rb_image_text.specs.declared.fault.ImageFault.{ImageFault}
 use Rattle.rb_image_text.specs.declared.fault.ImageFault.TheVariants.{Memory as NoMemory}
 use Rattle.rb_image_text.specs.declared.image.ImageBlock.{ImageBlock}
 use Rattle.rb_image.specs.declared.pack.FieldWords.{FieldWords}
-use Rattle.rb_image.specs.Rebuilds.{chosen, data_words, fields_at, packed, rebuilt_within, words_along, words_at, words_at_path}
+use Rattle.rb_image.specs.Rebuilds.{leaf_chosen, data_words, fields_at, words_of_leaf, rebuilt_within, words_along, words_at, words_at_path}
 use Rattle.rb_image.specs.RebuiltValues.{AreRight, RebuiltWordsRepresent, ValueStands, is_numberless, plain_step}
 use Rattle.rb_image.specs.Splits.{and_then}
 use Rattle.rb_image.specs.TakenApart.{open_words}
@@ -177,7 +177,7 @@ module _ (p : Program) (typed : IsTyped p) (agrees : Agrees p) (m : Memory) (goo
 
   packs : (n : ℕ) (ih : Rebuilds n) (t : ℕ) (x : LeafPosition) (v : Value) (layout : Layout) (k : ℕ) (leaf : Leaf) → layout_of layouts t ≡ Some layout → leaf_of layout v ≡ Some k
       → slice_get layout.leaves k ≡ Some leaf → leaf.blocks ≡ [] → ((i : ℕ) (o : Open) → slice_get (open_positions types leaf.prov) i ≡ Some o → End x v o)
-      → (r : Result (List FieldWords) ImageFault) → AreFields n ih x v (open_positions types leaf.prov) r → Right (Named t) v (and_then r (λ fields. Ok (packed leaf fields)))
+      → (r : Result (List FieldWords) ImageFault) → AreFields n ih x v (open_positions types leaf.prov) r → Right (Named t) v (and_then r (λ fields. Ok (words_of_leaf leaf fields)))
   packs n ih t x v layout k leaf is_layout is_leaf is_number none ends (Err fault) h = h
   packs n ih t x v layout k leaf is_layout is_leaf is_number none ends (Ok fields) h =
       packed_represent p typed agrees m good false t v layout k leaf is_layout is_leaf is_number none fields
@@ -207,9 +207,9 @@ module _ (p : Program) (typed : IsTyped p) (agrees : Agrees p) (m : Memory) (goo
       let ends = λ (k : ℕ) (o : Open) (e : slice_get (open_positions types leaf.prov) k ≡ Some o).
       comes p typed agrees m good blocks leaf.prov x v (Con at c ps) (Named t) st (prov_inner p typed agrees m good blocks t layout ch.number leaf l.1 ch.is_leaf free) mt k o
       (ap (λ (ty : Ty). slice_get (opens_of types leaf.prov ty) k) (sym root) ∙ e) in
-      let go = λ (leaf : Leaf). and_then (fields_at types layouts blocks (rebuilt n) x (open_positions types leaf.prov)) (λ fields. Ok (packed leaf fields)) in
+      let go = λ (leaf : Leaf). and_then (fields_at types layouts blocks (rebuilt n) x (open_positions types leaf.prov)) (λ fields. Ok (words_of_leaf leaf fields)) in
       let is : rebuilt (suc n) t x ≡ go leaf =
-      ap (λ o. and_then (chosen types layouts blocks (layout_or_none o).leaves x) go) l.1 ∙ ap (λ (r : Result Leaf ImageFault). and_then r go) ch.is_chosen in
+      ap (λ o. and_then (leaf_chosen types layouts blocks (layout_or_none o).leaves x) go) l.1 ∙ ap (λ (r : Result Leaf ImageFault). and_then r go) ch.is_chosen in
       subst (λ (r : Result (List ℕ) ImageFault). Right (Named t) v r) (sym is)
       (packs n ih t x v layout ch.number leaf l.1 is_leaf ch.is_leaf (no_blocks t layout ch.number leaf l.1 ch.is_leaf free) ends
       (fields_at types layouts blocks (rebuilt n) x (open_positions types leaf.prov)) (fields_right n ih x v (open_positions types leaf.prov) ends))

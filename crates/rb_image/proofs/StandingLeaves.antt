@@ -24,14 +24,14 @@ use Rattle.rb_layout.specs.A9.{HasPointerPart}
 use Rattle.rb_layout.specs.Agreement.{Agrees}
 use Rattle.rb_layout.specs.Flattening.{flat_layouts}
 use Rattle.rb_layout.specs.Positions.{Open, below, leaf_from, opens_below, opens_of, types_or_none}
-use Rattle.rb_rel.proofs.Lawful.{fits_type}
+use Rattle.rb_rel.specs.Provenances.{fits_type}
 use Rattle.rb_rel.proofs.Lists.{get-append, get-map}
 use Rattle.rb_rel.proofs.Opens.{opens-Con, opens-Var, opens-Wild}
 use Rattle.rb_rel.proofs.Reading.{same_nat}
 use Rattle.rb_image_text.specs.declared.fault.ImageFault.{ImageFault}
 use Rattle.rb_image_text.specs.declared.fault.ImageFault.TheVariants.{Memory as NoMemory}
 use Rattle.rb_image_text.specs.declared.image.ImageBlock.{ImageBlock}
-use Rattle.rb_image.specs.Rebuilds.{Matching, chosen, match_con, match_field, match_fields, match_step, matches, or_later, same_con}
+use Rattle.rb_image.specs.Rebuilds.{Matching, leaf_chosen, match_con, match_field, match_fields, match_step, matches, or_later, same_con}
 use Rattle.rb_image.specs.RebuiltValues.{IsInner, ValueStands, plain_step}
 use Rattle.rb_image.specs.Splits.{and_then, or_fault}
 use Rattle.rb_image.specs.Views.{LeafPosition, along, down, step_down}
@@ -205,7 +205,7 @@ module _ (p : Program) (typed : IsTyped p) (agrees : Agrees p) (m : Memory) (goo
   pub record IsChosen (leaves : List Leaf) (x : LeafPosition) (i n : ℕ) : Type 0 where
     pub number : ℕ
     pub leaf : Leaf
-    pub is_chosen : ◌≡◌ {A = Result Leaf ImageFault} (chosen types layouts blocks leaves x) (Ok leaf)
+    pub is_chosen : ◌≡◌ {A = Result Leaf ImageFault} (leaf_chosen types layouts blocks leaves x) (Ok leaf)
     pub is_leaf : slice_get leaves number ≡ Some leaf
     pub is_number : i + number ≡ n
 
@@ -220,7 +220,7 @@ module _ (p : Program) (typed : IsTyped p) (agrees : Agrees p) (m : Memory) (goo
           record {
             number = 0;
             leaf = leaf;
-            is_chosen = ap (λ r. or_later r leaf (chosen types layouts blocks leaves x)) (all 0 leaf refl ∙ ap (λ b. Ok b) is);
+            is_chosen = ap (λ r. or_later r leaf (leaf_chosen types layouts blocks leaves x)) (all 0 leaf refl ∙ ap (λ b. Ok b) is);
             is_leaf = refl;
             is_number = omega (arith, same);
           }
@@ -230,7 +230,7 @@ module _ (p : Program) (typed : IsTyped p) (agrees : Agrees p) (m : Memory) (goo
           record {
             number = suc r.number;
             leaf = r.leaf;
-            is_chosen = ap (λ r. or_later r leaf (chosen types layouts blocks leaves x)) (all 0 leaf refl ∙ ap (λ b. Ok b) is) ∙ r.is_chosen;
+            is_chosen = ap (λ r. or_later r leaf (leaf_chosen types layouts blocks leaves x)) (all 0 leaf refl ∙ ap (λ b. Ok b) is) ∙ r.is_chosen;
             is_leaf = r.is_leaf;
             is_number = omega (arith, z);
           }

@@ -31,7 +31,8 @@ use Rattle.rb_layout.specs.Flattening.{flat_layouts}
 use Rattle.rb_layout.specs.Positions.{Open, below, layout_of, opens_below, opens_of, root_type, types_or_none}
 use Rattle.rb_rel.specs.Relation.{Represents}
 use Rattle.rb_rel.proofs.Agreeing.{lawful}
-use Rattle.rb_rel.proofs.Lawful.{ProvenancesFit, fits_type, is_named}
+use Rattle.rb_rel.proofs.Lawful.{ProvenancesFit}
+use Rattle.rb_rel.specs.Provenances.{fits_type, is_named}
 use Rattle.rb_rel.proofs.Leaves.{leaf_matches}
 use Rattle.rb_rel.proofs.Lists.{and_true, both, get-left, get-mapped, get-right}
 use Rattle.rb_rel.proofs.Opens.{fits-Con, fitting, opens-Con, opens-Var, opens-Wild}

@@ -16,7 +16,7 @@ use Rattle.rb_layout.specs.Flattening.{flat_layouts}
 use Rattle.rb_layout.specs.Positions.{Open, layout_of, leaf_of, open_positions}
 use Rattle.rb_rel.specs.Relation.{Represents}
 use Rattle.rb_image.specs.declared.pack.FieldWords.{FieldWords}
-use Rattle.rb_image.specs.Rebuilds.{packed, words_at_path}
+use Rattle.rb_image.specs.Rebuilds.{words_of_leaf, words_at_path}
 
 -- the words of each field at an open position of a leaf represent the part of the value there
 abbrev pub FieldsRepresent : Program → Memory → Bool → Value → Leaf → List FieldWords → Type 0
@@ -32,4 +32,4 @@ PackedWordsRepresent =
     → (layout : Layout) (n : ℕ) (leaf : Leaf) → layout_of (flat_layouts p) t ≡ Some layout → leaf_of layout v ≡ Some n
     → slice_get layout.leaves n ≡ Some leaf → leaf.blocks ≡ [] → (fields : List FieldWords)
     → FieldsRepresent p m clean v leaf fields
-    → Represents p.types (flat_layouts p) m clean (Named t) v (packed leaf fields)
+    → Represents p.types (flat_layouts p) m clean (Named t) v (words_of_leaf leaf fields)

@@ -27,7 +27,7 @@ use Rattle.rb_image.specs.Memories.{image_memory}
 use Rattle.rb_image.specs.Orders.{LocatedPart, order_of}
 use Rattle.rb_image.specs.Paths.{part_bits}
 use Rattle.rb_image.specs.Roots.{kept_from}
-use Rattle.rb_image.specs.Walks.{Waypoint, Where, walked}
+use Rattle.rb_image.specs.Walks.{Waypoint, Where, end_of_path}
 
 -- any value may stand at a position that has this pattern, which is a wildcard or a name
 abbrev pub IsOpenPattern : Pat-F Pat → Type 0
@@ -66,6 +66,6 @@ abbrev pub PathsLeadToParts : Type 0
 PathsLeadToParts =
     (p : Program) → IsTyped p → Agrees p → (image : Image) → AreInPlace image.blocks → AreImageBlocks image.blocks
     → (t : ℕ) (v : Value) → RootDescends p image (Named t) v → (path : List ℕ) (w : Where)
-    → ◌≡◌ {A = Result Where ImageFault} (walked p.types (flat_layouts p) image.blocks t (kept_from 0 image.root)
+    → ◌≡◌ {A = Result Where ImageFault} (end_of_path p.types (flat_layouts p) image.blocks t (kept_from 0 image.root)
     path) (Ok w)
     → (words : List ℕ) → IsEnd image.blocks w words → IsPartThere p image v path w.here.ty words

@@ -25,7 +25,7 @@ use Rattle.rb_image.specs.LeafWords.{block_addresses}
 use Rattle.rb_image.specs.Orders.{LocatedPart, order_of}
 use Rattle.rb_image.specs.Parts.{At, bits_at}
 use Rattle.rb_image.specs.Roots.{kept_from, root_at}
-use Rattle.rb_image.specs.Walks.{Waypoint, Where, layout_at, moved, open_data, see, walked, where_of, words_on}
+use Rattle.rb_image.specs.Walks.{Waypoint, Where, layout_at, moved, open_data, see, end_of_path, where_of, words_on}
 use Rattle.rb_image.specs.Ways.{leads_below, refusal_of}
 
 -- one of these words is kept in the block that begins at `base`, from byte `place` on; at base 0 it is the root word
@@ -113,7 +113,7 @@ module _ (types : List DataDecl) (layouts : List Layout) (image : Image) (t : �
 
   -- from the value at the root words one comes as far as w along `first`, the first steps of a path
   abbrev pub IsCome : List ℕ → Where → Type 0
-  IsCome first w = ◌≡◌ {A = Result Where ImageFault} (walked types layouts image.blocks t root first) (Ok w)
+  IsCome first w = ◌≡◌ {A = Result Where ImageFault} (end_of_path types layouts image.blocks t root first) (Ok w)
 
   -- one has come so far by the first steps of a path, and the next step is to field i, which stands at a position
   pub record IsStep (w : Where) (i : ℕ) (pos : Position) : Type 0 where

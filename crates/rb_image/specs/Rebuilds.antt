@@ -89,9 +89,9 @@ module _ (types : List DataDecl) (layouts : List Layout) (m : List ImageBlock) w
 
   -- the first leaf whose provenance is known to match; where none is, the first fault that kept one from being known,
   -- or want of memory where there was none
-  abbrev pub chosen : List Leaf → LeafPosition → Result Leaf ImageFault
-  chosen [] x = Err Memory
-  chosen (leaf ∷ leaves) x = or_later (matches leaf.prov x) leaf (chosen leaves x)
+  abbrev pub leaf_chosen : List Leaf → LeafPosition → Result Leaf ImageFault
+  leaf_chosen [] x = Err Memory
+  leaf_chosen (leaf ∷ leaves) x = or_later (matches leaf.prov x) leaf (leaf_chosen leaves x)
 
 -- The words ----------------------------------------------------------------------------------
 
@@ -101,8 +101,8 @@ words_at_path [] path = []
 words_at_path (f ∷ fs) path = if same_path f.path path then f.words else words_at_path fs path
 
 -- the words of a leaf without pointers: each part in its place, and 0 elsewhere
-abbrev pub packed : Leaf → List FieldWords → List ℕ
-packed leaf fields = map (word_made (words_at_path fields) (λ b. 0)) leaf.root
+abbrev pub words_of_leaf : Leaf → List FieldWords → List ℕ
+words_of_leaf leaf fields = map (word_made (words_at_path fields) (λ b. 0)) leaf.root
 
 -- the numbers of words, without where they are kept
 abbrev pub numbers_of : List Kept → List ℕ
@@ -143,8 +143,9 @@ module _ (types : List DataDecl) (layouts : List Layout) (m : List ImageBlock) w
   abbrev pub rebuilt_within : ℕ → Rebuilding
   rebuilt_within zero t x = Err Memory
   rebuilt_within (suc n) t x =
-      and_then (chosen types layouts m (layout_at layouts t).leaves x) (λ leaf.
-      and_then (fields_at (rebuilt_within n) x (open_positions types leaf.prov)) (λ fields. Ok (packed leaf fields)))
+      and_then (leaf_chosen types layouts m (layout_at layouts t).leaves x) (λ leaf.
+      and_then (fields_at (rebuilt_within n) x (open_positions types leaf.prov)) (λ fields.
+      Ok (words_of_leaf leaf fields)))
 
   -- The words of what stands at a position, or the first fault. A type that holds another is not held in it, so
   -- values that are rebuilt stand one inside the other at most as many levels deep as there are layouts.

@@ -21,7 +21,7 @@ use Rattle.rb_layout.specs.Agreement.{Agrees}
 use Rattle.rb_layout.specs.Flattening.{flat_layouts}
 use Rattle.rb_layout.specs.Positions.{Open, opens_of}
 use Rattle.rb_rel.specs.Relation.{Represents}
-use Rattle.rb_rel.proofs.Lawful.{fits_type}
+use Rattle.rb_rel.specs.Provenances.{fits_type}
 use Rattle.rb_image_text.specs.declared.fault.ImageFault.{ImageFault}
 use Rattle.rb_image_text.specs.declared.fault.ImageFault.TheVariants.{Memory as NoMemory}
 use Rattle.rb_image_text.specs.declared.image.ImageBlock.{ImageBlock}

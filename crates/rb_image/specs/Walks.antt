@@ -136,8 +136,8 @@ module _ (types : List DataDecl) (layouts : List Layout) (m : List ImageBlock) w
   steps k w (i ∷ path) = and_then (step k w i) (λ v. steps (k + 1) v path)
 
   -- where a path leads from the value of a data type at these words, or the first fault on the way
-  abbrev pub walked : ℕ → List Kept → List ℕ → Result Where ImageFault
-  walked t ws path = and_then (see layouts m t ws) (λ s. steps 0 (arrived [] s) path)
+  abbrev pub end_of_path : ℕ → List Kept → List ℕ → Result Where ImageFault
+  end_of_path t ws path = and_then (see layouts m t ws) (λ s. steps 0 (arrived [] s) path)
 
 -- Spans --------------------------------------------------------------------------------------
 

@@ -9,7 +9,7 @@
 ghost use Rattle.std.specs.Prelude.{◌≡◌, ◌++◌, IfOk, OnOk};
 ghost use Rattle.rb_image.specs.Asked.{asked_by, ranges_at};
 ghost use Rattle.rb_image.specs.Splits.{range_at};
-ghost use Rattle.rb_image.specs.inner.Checking.{given};
+ghost use Rattle.rb_image.specs.inner.Checking.{found_or_none};
 ghost use Rattle.rb_image_text.specs.Places.{AreInPlace};
 
 use crate::kept::Kept;
@@ -29,7 +29,7 @@ fn add_ranges(
     found: &mut Vec<Kept>,
 ) -> Result<Option<Kept>, AllocError>
     requires placed { AreInPlace memory.now }
-    ensures range { IfOk result (λ range. range ≡ given (range_at memory.now words.now loc.now)) }
+    ensures range { IfOk result (λ range. range ≡ found_or_none (range_at memory.now words.now loc.now)) }
     ensures added { OnOk result (found.new.items ≡ found.old.items ++ ranges_at memory.now words.now loc.now) }
 {
     let mut range = range_of(word_at(words, loc.word), loc.o, loc.l);

@@ -12,7 +12,7 @@ ghost use Rattle.rb_layout.specs.Positions.{opens_below, opens_of, types_or_none
 ghost use Rattle.rb_coding.specs.FewFields.{AreFew, HaveFewFields};
 ghost use Rattle.rb_image.specs.Parts as spec;
 ghost use Rattle.rb_image.specs.Parts.{ats_of};
-ghost use Rattle.rb_image.specs.inner.Opening.{opened, examined_word};
+ghost use Rattle.rb_image.specs.inner.Opening.{places_below, examined_word};
 ghost use Rattle.rb_image_text.specs.Places.{AreInPlace};
 
 use crate::kept::{Kept, Place};
@@ -22,7 +22,7 @@ use crate::splits::range_of;
 use rb_coding::paths::path_below;
 use rb_core::inference::types_of_fields;
 use rb_core::pattern::Pat;
-use rb_core::types::{ConRef, DataDecl, Ty};
+use rb_core::types::{DataDecl, Ty};
 use rb_image_text::image::ImageBlock;
 use rb_layout::layout::{Kind, Layout};
 use rb_rel::words::word_count;
@@ -125,7 +125,7 @@ pub(crate) fn add_places(
     requires placed { AreInPlace examined.now.memory.now }
     requires few { HaveFewFields examined.now.types.now }
     ensures { OnOk result (ats_of places.new.items
-        ≡ ats_of places.old.items ++ opened examined.now path.now (opens_of examined.now.types.now pat.now ty)) }
+        ≡ ats_of places.old.items ++ places_below examined.now path.now (opens_of examined.now.types.now pat.now ty)) }
 {
     match pat {
         Pat::Wild(_) => add_place(alloc, examined, ty, path, places),
@@ -153,7 +153,8 @@ fn add_fields(
     requires few { HaveFewFields examined.now.types.now }
     requires types { AreFew tys.now }
     ensures { OnOk result (ats_of places.new.items ≡ ats_of places.old.items
-        ++ opened examined.now path.now (opens_below (map (opens_of examined.now.types.now) pats.now) tys.now 0)) }
+        ++ places_below examined.now path.now
+        (opens_below (map (opens_of examined.now.types.now) pats.now) tys.now 0)) }
 {
     for (i, pat) in pats.iter().enumerate() {
         if i >= tys.len() {

@@ -13,7 +13,7 @@ ghost use Rattle.rb_image.specs.LeafWords.{HasNumbers, block_span, follow_part, 
 ghost use Rattle.rb_image.specs.Orders.{order_of};
 ghost use Rattle.rb_image.specs.Parts.{bits_at};
 ghost use Rattle.rb_image.specs.Sites.{kept_of};
-ghost use Rattle.rb_image.specs.inner.Reaching.{IsLeafPart, unread, word_read};
+ghost use Rattle.rb_image.specs.inner.Reaching.{IsLeafPart, unread_words, word_read};
 ghost use Rattle.rb_image.specs.inner.Viewing.{spot_part, spots_of};
 ghost use Rattle.rb_image_text.specs.Places.{AreInPlace};
 ghost use Rattle.rb_image_text.specs.declared.image.ImageBlock.{ImageBlock};
@@ -149,8 +149,8 @@ impl LeafWords {
         ensures address { self.new.addresses.items ≡ slice_set self.old.addresses.items block address }
         ensures numbers { OnOk result (HasNumbers image.now.blocks leaf.now self.new) }
         ensures least { steps.old.taken ≤ steps.new.taken }
-        ensures once { steps.new.taken + unread leaf.now.blocks self.new.addresses.items
-            ≤ steps.old.taken + unread leaf.now.blocks self.old.addresses.items }
+        ensures once { steps.new.taken + unread_words leaf.now.blocks self.new.addresses.items
+            ≤ steps.old.taken + unread_words leaf.now.blocks self.old.addresses.items }
     {
         let block = block as usize;
         if block >= self.addresses.len() {
@@ -184,8 +184,8 @@ impl LeafWords {
             ≡ follow_part image.now.blocks leaf.now self.old.root.items self.old.addresses.items (spot_part spot.now) }
         ensures numbers { OnOk result (HasNumbers image.now.blocks leaf.now self.new) }
         ensures least { steps.old.taken ≤ steps.new.taken }
-        ensures once { steps.new.taken + unread leaf.now.blocks self.new.addresses.items
-            ≤ steps.old.taken + unread leaf.now.blocks self.old.addresses.items }
+        ensures once { steps.new.taken + unread_words leaf.now.blocks self.new.addresses.items
+            ≤ steps.old.taken + unread_words leaf.now.blocks self.old.addresses.items }
     {
         match &spot.part.kind {
             Kind::Const(_) => Ok(()),

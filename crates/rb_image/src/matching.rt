@@ -162,7 +162,7 @@ pub(crate) fn choose<'a>(
 ) -> Result<&'a Leaf, ImageFault>
     requires placed { AreInPlace image.now.blocks }
     requires shown { IsShown image.now.blocks view.now }
-    ensures { IsGiven (λ leaf. leaf.now) (spec.chosen agreed.now.covered.program.types agreed.now.layouts
+    ensures { IsGiven (λ leaf. leaf.now) (spec.leaf_chosen agreed.now.covered.program.types agreed.now.layouts
         image.now.blocks leaves.now (position_shown view.now)) result }
 {
     let mut before = None;

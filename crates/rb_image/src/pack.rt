@@ -5,7 +5,7 @@
 
 ghost use Rattle.std.specs.Prelude.{◌≡◌, IfOk, map};
 ghost use Rattle.rb_coding.specs.Packing.{made_of, word_made};
-ghost use Rattle.rb_rel.proofs.Packing.{number_of};
+ghost use Rattle.rb_rel.specs.Storing.{number_of};
 ghost use Rattle.rb_image.specs.Rebuilds.{words_at_path};
 
 use rb_coding::bits::{put_into, take_from};

@@ -230,8 +230,8 @@ pub fn walk_along<'a, L: Ledger>(
     requires declared { ty < length agreed.now.covered.program.types }
     requires narrow { AreNarrow sites.items }
     requires count { length sites.items ≡ word_count agreed.now.layouts (Named ty) }
-    ensures walk { IsGiven where_of (spec.walked agreed.now.covered.program.types agreed.now.layouts image.now.blocks
-        ty (map (kept_of image.now) sites.items) path.now) result }
+    ensures walk { IsGiven where_of (spec.end_of_path agreed.now.covered.program.types agreed.now.layouts
+        image.now.blocks ty (map (kept_of image.now) sites.items) path.now) result }
     ensures passed { IfOk result (ArePassed image.now) }
     ensures least { steps.old.taken ≤ steps.new.taken }
     ensures most { steps.new.taken ≤ steps.old.taken

@@ -19,7 +19,7 @@ use Rattle.rb_layout.specs.declared.layout.Part.{Part}
 use Rattle.rb_layout.specs.declared.layout.Kind.{Kind}
 use Rattle.rb_layout.specs.declared.layout.Kind.TheVariants.{Const, Bits, Word, Pointer}
 use Rattle.rb_layout.specs.Positions.{Open}
-use Rattle.rb_layout.specs.Flattening.{Laying, in_turn, item_laid, kind_laid, part_laid, items_laid, parts_of, whole_kind, kind_if_open, type_at, shape_of, inlined, inline_words}
+use Rattle.rb_layout.specs.Flattening.{Laying, in_turn, item_laid, kind_laid, part_laid, items_laid, parts_of, whole_kind, kind_if_open, type_at, shape_of, words_inlined, inline_words}
 use Rattle.rb_layout.proofs.FlatForms.{Each}
 use Rattle.rb_layout.proofs.WrittenForms.{item-induction}
 use Rattle.rb_layout.proofs.Computing.{word_laid, inline_laid, const_laid, whole_laid, slice_laid, word_of_laid, pointer_laid, part_laid_is}
@@ -277,7 +277,7 @@ part_kinds o l None = refl
 part_kinds o l (Some kind) = refl
 
 module _ (decls : List LayoutDecl) (opens : List Open) where
-  no_field_pointer : (ty : Option Ty) (path : List ℕ) (align b : ℕ) → In (Pointer align b) (word_kinds (inlined decls ty path)) → ⊥
+  no_field_pointer : (ty : Option Ty) (path : List ℕ) (align b : ℕ) → In (Pointer align b) (word_kinds (words_inlined decls ty path)) → ⊥
   no_field_pointer None path align b at = no_kind align b at
   no_field_pointer (Some (Int bits)) path align b at = not_pointer (Bits path 0) align b (bits_not path 0) at
   no_field_pointer (Some (Named s)) path align b at = no_shape_pointer path 0 (shape_of decls s) align b at

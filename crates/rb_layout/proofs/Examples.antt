@@ -80,7 +80,8 @@ leaf prov words blocks = record { prov = prov; root = words; blocks = blocks }
 abbrev flat_arm : ℕ → ℕ → FlatArm
 flat_arm c n = record { literal = c; under = T.Leaf n }
 
--- type Bit = Off | On; layout Bit <8> = split 0[0:1] { 0 => Off : { word 8 { [0:1] = 0 } } 1 => On : { word 8 { [0:1] = 1 } } };
+-- type Bit = Off | On;
+-- layout Bit <8> = split 0[0:1] { 0 => Off : { word 8 { [0:1] = 0 } } 1 => On : { word 8 { [0:1] = 1 } } };
 abbrev bit : Program
 bit = program_of (data_type ([] ∷ [] ∷ []) ∷ [])
     (laid_out 0 (8 ∷ []) (S.Split (root 0 0 1)
@@ -141,7 +142,8 @@ each_bit_once = refl
 rest_once : times_held cons_leaf (Named 0) (1 ∷ []) 0 ≡ 1
 rest_once = refl
 
--- type Color = Red | Black; layout Color <1> = split 0[0:1] { 0 => Red : { word 1 { [0:1] = 0 } } 1 => Black : { word 1 { [0:1] = 1 } } };
+-- type Color = Red | Black;
+-- layout Color <1> = split 0[0:1] { 0 => Red : { word 1 { [0:1] = 0 } } 1 => Black : { word 1 { [0:1] = 1 } } };
 abbrev color_type : DataDecl
 color_type = data_type ([] ∷ [] ∷ [])
 
@@ -216,7 +218,8 @@ node_size : size_of node_block ≡ 12
 node_size = refl
 
 -- the same trees with a leaf for each colour:
--- else => split 0[0:1] { 0 => Node(Red, _, _, _) : { word 32 { [0:1] = 0, [2:22] -> 4 {..} } } 1 => Node(Black, _, _, _) : {..} }
+-- else => split 0[0:1] { 0 => Node(Red, _, _, _) : { word 32 { [0:1] = 0, [2:22] -> 4 {..} } }
+-- 1 => Node(Black, _, _, _) : {..} }
 abbrev colored : ℕ → Pat
 colored c = by 1 1 (by 0 c [] ∷ any ∷ any ∷ any ∷ [])
 
@@ -236,7 +239,8 @@ colored_are : flat_layouts (program_of (color_type ∷ tree_type ∷ []) (color_
     } ∷ []
 colored_are = simp flat_rules
 
--- type Opt = No | Yes(Tree); layout Opt <32> = split 0[0:32] { 1 => No : { word 32 { [0:32] = 1 } } else => Yes(_) : { word 32 { [0:32] .0 } } };
+-- type Opt = No | Yes(Tree);
+-- layout Opt <32> = split 0[0:32] { 1 => No : { word 32 { [0:32] = 1 } } else => Yes(_) : { word 32 { [0:32] .0 } } };
 options_are : flat_layouts (program_of (color_type ∷ tree_type ∷ data_type ([] ∷ (Named 1 ∷ []) ∷ []) ∷ []) (color_layout ∷ tree_layout ∷ laid_out 2 (32 ∷ [])
     (S.Split (root 0 0 32) (arm 1 (S.Leaf 0 (by 2 0 []) (I.Word 32 (written 0 32 (K.Const 1) ∷ []) ∷ [])) ∷ [])
     (Some (S.Leaf 0 (by 2 1 (any ∷ [])) (I.Word 32 (written 0 32 (K.Whole (0 ∷ [])) ∷ []) ∷ [])))) ∷ []))
@@ -248,7 +252,8 @@ options_are : flat_layouts (program_of (color_type ∷ tree_type ∷ data_type (
     } ∷ []
 options_are = simp flat_rules
 
--- type Instr = Branch(u3, u5, u5, u12); layout Instr <32> = Branch(_, _, _, _) : { word 32 { [0:7] = 99, [7:1] .3[10:1], [8:4] .3[0:4],
+-- type Instr = Branch(u3, u5, u5, u12);
+-- layout Instr <32> = Branch(_, _, _, _) : { word 32 { [0:7] = 99, [7:1] .3[10:1], [8:4] .3[0:4],
 -- [12:3] .0, [15:5] .1, [20:5] .2, [25:6] .3[4:6], [31:1] .3[11:1] } };
 abbrev branch_leaf : Leaf
 branch_leaf = leaf (by 0 0 (any ∷ any ∷ any ∷ any ∷ [])) (word 32 (part 0 7 (Const 99) ∷ part 7 1 (Bits (3 ∷ []) 10) ∷ part 8 4 (Bits (3 ∷ []) 0)
@@ -269,7 +274,8 @@ bit_9_once = refl
 
 -- type Shape = Dot(u8) | Box(u32, u32); layout Shape <32> = split 0[0:32] -> 4 @0:8[0:8] {
 -- 0 => Dot(_) : { word 32 { [0:32] -> 4 { word 8 { [0:8] = 0 }, word 8 { [0:8] .0 } } } }
--- 1 => Box(_, _) : { word 32 { [0:32] -> 4 { word 8 { [0:8] = 1 }, word 32 { [0:32] .0 }, word 32 { [0:32] .1 } } } } };
+-- 1 => Box(_, _) : { word 32 { [0:32] -> 4 {
+-- word 8 { [0:8] = 1 }, word 32 { [0:32] .0 }, word 32 { [0:32] .1 } } } } };
 abbrev tag : Loc
 tag = record { word = 0; o = 0; l = 32; steps = record { align = 4; byte = 0; width = 8; o = 0; l = 8 } ∷ [] }
 
@@ -302,7 +308,9 @@ box_size = refl
 box_second : begins_at box_block.words 2 ≡ 5
 box_second = refl
 
--- type Pair = Two(u64, u64); layout Pair <64> = Two(_, _) : { word 64 { [0:64] -> 8 { word 64 { [0:64] .0 }, word 64 { [0:64] -> 8 { word 64 { [0:64] .1 } } } } } };
+-- type Pair = Two(u64, u64);
+-- layout Pair <64> = Two(_, _) : { word 64 { [0:64] -> 8 {
+-- word 64 { [0:64] .0 }, word 64 { [0:64] -> 8 { word 64 { [0:64] .1 } } } } } };
 pair_is : flat_layouts (program_of (data_type ((Int 64 ∷ Int 64 ∷ []) ∷ []) ∷ []) (laid_out 0 (64 ∷ []) (S.Leaf 0 (by 0 0 (any ∷ any ∷ []))
     (I.Word 64 (written 0 64 (K.Pointer 8 (I.Word 64 (written 0 64 (K.Whole (0 ∷ [])) ∷ [])
     ∷ I.Word 64 (written 0 64 (K.Pointer 8 (I.Word 64 (written 0 64 (K.Whole (1 ∷ [])) ∷ []) ∷ [])) ∷ []) ∷ [])) ∷ []) ∷ [])) ∷ []))

@@ -12,7 +12,7 @@ use Rattle.rb_layout.specs.declared.layout.Part.{Part}
 use Rattle.rb_layout.specs.declared.layout.Kind.{Kind}
 use Rattle.rb_layout.specs.declared.layout.Kind.TheVariants.{Pointer}
 use Rattle.rb_layout.specs.Positions.{Open}
-use Rattle.rb_layout.specs.Flattening.{WithBlocks, Laying, in_turn, items_laid, kind_laid, item_step, kind_step, part_step, pointed}
+use Rattle.rb_layout.specs.Flattening.{WithBlocks, Laying, in_turn, items_laid, kind_laid, item_step, kind_step, part_step, pointer_to_block}
 use Rattle.rb_layout.specs.inner.Laying.{behind, Lays, LaysKind}
 use Rattle.rb_layout.proofs.WrittenForms.{fold-Pointer}
 use Rattle.rb_layout.proofs.Walks.{drop_from}
@@ -53,7 +53,7 @@ module _ (decls : List LayoutDecl) (opens : List Open) where
       let laid = items_laid decls opens items (length old) in
       let is_mid : mid ≡ old ++ laid.blocks = ap (λ (l : WithBlocks (List FlatWord)). l.blocks) h in
       let is_words : words ≡ laid.it = ap (λ (l : WithBlocks (List FlatWord)). l.it) h in
-      let is_kind : kind_laid decls opens kind (length old) ≡ pointed align (length old) laid =
+      let is_kind : kind_laid decls opens kind (length old) ≡ pointer_to_block align (length old) laid =
       ap (λ (k : PartKind). kind_laid decls opens k (length old)) is
       ∙ ap (λ (lay : Laying (Option Kind)). lay (length old)) (fold-Pointer (Laying (List FlatWord)) (Laying (Option Kind)) (Laying (List Part)) (item_step decls opens) (kind_step opens) part_step align items) in
       let count : number ≡ length old + length laid.blocks = is_number ∙ ap (λ (bs : List Block). length bs) is_mid ∙ length-append old laid.blocks in (

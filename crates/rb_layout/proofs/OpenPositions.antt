@@ -14,7 +14,7 @@ use Rattle.rb_core.proofs.PatternLaws.{fold-Wild, fold-Var, fold-Num, fold-Con, 
 use Rattle.rb_core.specs.Values.{fields_of}
 use Rattle.rb_layout.specs.Positions.{Open, below, opens_below, types_or_none, opens_step, opens_of, open_positions, root_type, pair_of, sub_in}
 use Rattle.rb_layout.specs.Flattening.{same_path, type_at}
-use Rattle.rb_layout.specs.inner.Walking.{open_type, walked}
+use Rattle.rb_layout.specs.inner.Walking.{open_type, type_along}
 use Rattle.rb_layout.proofs.Walks.{type_at_walked}
 
 module _ {A : Type 0} where
@@ -34,10 +34,10 @@ module _ (types : List DataDecl) where
 
   -- a walk along the path of an open position ends at its type
   abbrev HasType : Pat → Type 0
-  HasType p = (ty : Ty) (k : ℕ) (o : Open) → slice_get (opens_of types p ty) k ≡ Some o → walked types (Some (p, ty)) o.path ≡ Some o.ty
+  HasType p = (ty : Ty) (k : ℕ) (o : Open) → slice_get (opens_of types p ty) k ≡ Some o → type_along types (Some (p, ty)) o.path ≡ Some o.ty
 
   abbrev TypedBelow : List Pat → List Ty → ℕ → Open → Type 0
-  TypedBelow ps ts i o = (n : ℕ) × (path : List ℕ) × (o.path ≡ (i + n) ∷ path) × (walked types (pair_of (slice_get ps n) (slice_get ts n)) path ≡ Some o.ty)
+  TypedBelow ps ts i o = (n : ℕ) × (path : List ℕ) × (o.path ≡ (i + n) ∷ path) × (type_along types (pair_of (slice_get ps n) (slice_get ts n)) path ≡ Some o.ty)
 
   typed_below : (ps : List Pat) → Each HasType ps → (ts : List Ty) (i k : ℕ) (o : Open) → slice_get (opens_below (map (opens_of types) ps) ts i) k ≡ Some o → TypedBelow ps ts i o
   typed_below [] each ts i k o e = absurd cc
@@ -61,10 +61,10 @@ module _ (types : List DataDecl) where
   one_open ty (suc k) o e = absurd cc
 
   typed_alone : (p : Pat) (l : Pat-F Pat) (ty : Ty) (k : ℕ) (o : Open) → out-Pat p ≡ l → open_type l ty ≡ Some ty → opens_of types p ty ≡ record { path = []; ty = ty } ∷ []
-      → slice_get (opens_of types p ty) k ≡ Some o → walked types (Some (p, ty)) o.path ≡ Some o.ty
+      → slice_get (opens_of types p ty) k ≡ Some o → type_along types (Some (p, ty)) o.path ≡ Some o.ty
   typed_alone p l ty k o out opened opens e =
       let is = one_open ty k o (ap (λ os. slice_get os k) (sym opens) ∙ e) in
-      ap (walked types (Some (p, ty))) (ap (λ x. x.path) (sym is)) ∙ ap (λ (x : Pat-F Pat). open_type x ty) out ∙ opened ∙ ap (λ x. Some x.ty) is
+      ap (type_along types (Some (p, ty))) (ap (λ x. x.path) (sym is)) ∙ ap (λ (x : Pat-F Pat). open_type x ty) out ∙ opened ∙ ap (λ x. Some x.ty) is
 
   typed_cases : Cases HasType
   typed_cases = record {
@@ -75,8 +75,8 @@ module _ (types : List DataDecl) where
         let ts = types_or_none (fields_of types c) in
         let r = typed_below ps each ts 0 k o (ap (λ (f : Opens). slice_get (f ty) k) (sym (fold-Con Opens (opens_step types) at c ps)) ∙ e) in
         let same : 0 + r.0 ≡ r.0 = omega arith in
-        ap (walked types (Some (Q.Con at c ps, ty))) (r.2 ∙ ap (λ n. n ∷ r.1) same)
-        ∙ ap (λ (l : Pat-F Pat). walked types (sub_in types l r.0) r.1) (X.outs-Con at c ps) ∙ r.3;
+        ap (type_along types (Some (Q.Con at c ps, ty))) (r.2 ∙ ap (λ n. n ∷ r.1) same)
+        ∙ ap (λ (l : Pat-F Pat). type_along types (sub_in types l r.0) r.1) (X.outs-Con at c ps) ∙ r.3;
   }
 
   open_typed : (p : Pat) → HasType p

@@ -22,7 +22,7 @@ use Rattle.rb_layout.specs.declared.layout.Kind.TheVariants.{Bits, Word}
 use Rattle.rb_layout.specs.Positions.{Open, open_positions}
 use Rattle.rb_layout.specs.Flattening.{Laying, in_turn, item_laid, kind_laid, part_laid, items_laid, parts_of, whole_kind, kind_if_open, type_at}
 use Rattle.rb_layout.specs.Items.{Content, Number, Whole, Slice, WordOf, Address, WrittenPart, Item, AWord, AField, Around, plain, item_list, item_lists, items_step, content_step, written_part_step, items_inside}
-use Rattle.rb_layout.specs.Placing.{Standing, standing_of, standing, standing_in, part_placed, whole_placed, if_open, parts_placed, EachStandsOnce}
+use Rattle.rb_layout.specs.Placing.{Standing, standing_of, parts_in_place, standing_in, part_placed, whole_placed, if_open, parts_placed, EachStandsOnce}
 use Rattle.rb_layout.proofs.FlatForms.{Each}
 use Rattle.rb_layout.proofs.WrittenForms as W
 use Rattle.rb_layout.proofs.WrittenForms.{item-induction}
@@ -71,7 +71,7 @@ module _ (decls : List LayoutDecl) (opens : List Open) (weight : Standing → �
   S xs = sum_by weight xs
 
   abbrev W' : List FlatWord → ℕ
-  W' ws = S (flat_map standing ws)
+  W' ws = S (flat_map parts_in_place ws)
 
   abbrev B : List Block → ℕ
   B bs = S (flat_map standing_in bs)
@@ -83,7 +83,7 @@ module _ (decls : List LayoutDecl) (opens : List Open) (weight : Standing → �
   s-append xs ys = sum_by-append weight xs ys
 
   w-append : (xs ys : List FlatWord) → W' (xs ++ ys) ≡ W' xs + W' ys
-  w-append xs ys = ap S (flat_map-append standing xs ys) ∙ s-append (flat_map standing xs) (flat_map standing ys)
+  w-append xs ys = ap S (flat_map-append parts_in_place xs ys) ∙ s-append (flat_map parts_in_place xs) (flat_map parts_in_place ys)
 
   b-append : (xs ys : List Block) → B (xs ++ ys) ≡ B xs + B ys
   b-append xs ys = ap S (flat_map-append standing_in xs ys) ∙ s-append (flat_map standing_in xs) (flat_map standing_in ys)
@@ -195,7 +195,7 @@ module _ (decls : List LayoutDecl) (opens : List Open) (weight : Standing → �
 
   behind_inner : (xs : List Block) (ws : List FlatWord) (align : ℕ) → B (xs ++ record { align = align; words = ws } ∷ []) ≡ W' ws + B xs
   behind_inner xs ws align =
-      b-append xs (record { align = align; words = ws } ∷ []) ∙ ap (λ ys. B xs + S ys) (append-nil (flat_map standing ws)) ∙ turned (B xs) (W' ws)
+      b-append xs (record { align = align; words = ws } ∷ []) ∙ ap (λ ys. B xs + S ys) (append-nil (flat_map parts_in_place ws)) ∙ turned (B xs) (W' ws)
     where
       turned : (a b : ℕ) → a + b ≡ b + a
       turned a b = omega arith
@@ -217,5 +217,5 @@ pub each_stands_once : EachStandsOnce
 each_stands_once types decls w weight =
     let opens = open_positions types w.provenance in
     let laid = items_laid decls opens w.items 0 in
-    s-append decls opens weight (flat_map standing laid.it) (flat_map standing_in laid.blocks)
+    s-append decls opens weight (flat_map parts_in_place laid.it) (flat_map standing_in laid.blocks)
     ∙ items_same decls opens weight w.items (each_same decls opens weight w.items) 0

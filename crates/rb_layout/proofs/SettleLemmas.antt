@@ -9,7 +9,7 @@ use Rattle.rb_layout.specs.declared.goals.Goal.{Goal}
 use Rattle.rb_layout.specs.declared.goals.Entry.{Entry}
 use Rattle.rb_layout.specs.inner.Barring.{same_goal, knows, goal_barred, IsAsked, AreAsked}
 use Rattle.rb_layout.specs.inner.Finding.{has_goal, KeepsGoals}
-use Rattle.rb_layout.specs.inner.Settling.{turns, marked, looked, passed, changes, pending, GoalHolds, AreTrue, AreSettled}
+use Rattle.rb_layout.specs.inner.Settling.{turns, marked, looked, passed, changes, entries_left, GoalHolds, AreTrue, AreSettled}
 use Rattle.rb_layout.proofs.Derivations.{both, or_is, or_left, or_right, goal-holds}
 use Rattle.rb_layout.proofs.FindLemmas.{same-goal}
 
@@ -53,13 +53,13 @@ fewer_more : (b : Bool) (m n : ℕ) → m < n → (if b then m else suc m) < (if
 fewer_more true m n lt = lt
 fewer_more false m n lt = omega arith
 
-pending_set : (es : List Entry) (i : ℕ) (e : Entry) → slice_get es i ≡ Some e → e.barred ≡ false → pending (slice_set es i (mark e)) < pending es
+pending_set : (es : List Entry) (i : ℕ) (e : Entry) → slice_get es i ≡ Some e → e.barred ≡ false → entries_left (slice_set es i (mark e)) < entries_left es
 pending_set [] i e is not_yet = absurd cc
 pending_set (z ∷ es) zero e is not_yet =
     let one : z.barred ≡ false = ap (λ x. x.barred) (same_Some z e is) ∙ not_yet in
-    let n : (if z.barred then pending es else suc (pending es)) ≡ suc (pending es) = ap (λ b. if b then pending es else suc (pending es)) one in
+    let n : (if z.barred then entries_left es else suc (entries_left es)) ≡ suc (entries_left es) = ap (λ b. if b then entries_left es else suc (entries_left es)) one in
     omega arith
-pending_set (z ∷ es) (suc i) e is not_yet = fewer_more z.barred (pending (slice_set es i (mark e))) (pending es) (pending_set es i e is not_yet)
+pending_set (z ∷ es) (suc i) e is not_yet = fewer_more z.barred (entries_left (slice_set es i (mark e))) (entries_left es) (pending_set es i e is not_yet)
 
 last_or : (P : ℕ → Type 0) (n k : ℕ) → k < suc n → P n → ((j : ℕ) → j < n → P j) → P k
 last_or P n k lt here before =
@@ -111,7 +111,7 @@ module _ (types : List DataDecl) (layouts : List Layout) where
     pub keeps : KeepsGoals old new
     pub asked : AreAsked old → AreAsked new
     pub true_ones : AreTrue types layouts old → AreTrue types layouts new
-    pub fewer : pending new ≤ pending old
+    pub fewer : entries_left new ≤ entries_left old
 
   goes_alone : (es : List Entry) → Goes es es
   goes_alone es = record { keeps = λ g h. h; asked = λ h. h; true_ones = λ h. h; fewer = omega arith }
@@ -149,11 +149,11 @@ module _ (types : List DataDecl) (layouts : List Layout) where
   goes-pass zero es = goes_alone es
   goes-pass (suc n) es = goes_more (goes_look es n) (goes-pass n (looked types layouts n es))
 
-  look_less : (es : List Entry) (i : ℕ) → turns types layouts es (slice_get es i) ≡ true → pending (looked types layouts i es) < pending es
-  look_less es i e = let t = turned es i e in subst (λ fs. pending fs < pending es) (sym t.new) (pending_set es i t.entry t.is_entry t.not_yet)
+  look_less : (es : List Entry) (i : ℕ) → turns types layouts es (slice_get es i) ≡ true → entries_left (looked types layouts i es) < entries_left es
+  look_less es i e = let t = turned es i e in subst (λ fs. entries_left fs < entries_left es) (sym t.new) (pending_set es i t.entry t.is_entry t.not_yet)
 
   -- a pass that marks a goal leaves fewer unmarked
-  pub pass-less : (n : ℕ) (es : List Entry) → changes types layouts n es ≡ true → pending (passed types layouts n es) < pending es
+  pub pass-less : (n : ℕ) (es : List Entry) → changes types layouts n es ≡ true → entries_left (passed types layouts n es) < entries_left es
   pass-less zero es e = absurd cc
   pass-less (suc n) es e =
       elim (or_is (turns types layouts es (slice_get es n)) (changes types layouts n (looked types layouts n es)) e) [

@@ -16,7 +16,7 @@ use Rattle.rb_core.proofs.PatternLaws.{fold-Wild, fold-Var, fold-Num, fold-Con, 
 use Rattle.rb_layout.specs.Positions.{Open, below, opens_below, opens_step, opens_of, open_positions, types_or_none, root_type, pair_of, sub_in, sub_pattern}
 use Rattle.rb_layout.specs.Locations.{or_else}
 use Rattle.rb_layout.specs.Flattening.{same_path, type_at}
-use Rattle.rb_layout.specs.inner.Walking.{open_type, walked}
+use Rattle.rb_layout.specs.inner.Walking.{open_type, type_along}
 
 -- Lists of open positions -----------------------------------------------------------------------
 
@@ -84,14 +84,14 @@ module _ (types : List DataDecl) where
       ∙ not_before ps ts (i + 1) k q (omega (arith, lt))
 
   abbrev Walks : Pat → Type 0
-  Walks p = (ty : Ty) (path : List ℕ) → type_at (opens p ty) path ≡ walked types (Some (p, ty)) path
+  Walks p = (ty : Ty) (path : List ℕ) → type_at (opens p ty) path ≡ type_along types (Some (p, ty)) path
 
-  no_type : (p : Option Pat) (q : List ℕ) → None ≡ walked types (pair_of p None) q
+  no_type : (p : Option Pat) (q : List ℕ) → None ≡ type_along types (pair_of p None) q
   no_type None q = refl
   no_type (Some p) q = refl
 
   field_walk : (ps : List Pat) → Each Walks ps → (ts : List Ty) (i k : ℕ) (q : List ℕ)
-      → type_at (opens_below (map opens ps) ts i) ((i + k) ∷ q) ≡ walked types (pair_of (slice_get ps k) (slice_get ts k)) q
+      → type_at (opens_below (map opens ps) ts i) ((i + k) ∷ q) ≡ type_along types (pair_of (slice_get ps k) (slice_get ts k)) q
   field_walk [] each ts i k q = refl
   field_walk (p ∷ ps) each [] i zero q = refl
   field_walk (p ∷ ps) each [] i (suc k) q = no_type (slice_get ps k) q
@@ -113,9 +113,9 @@ module _ (types : List DataDecl) where
       ∙ field_walk ps each.1 ts (i + 1) k q
 
   open_wild : (ty : Ty) (p : Pat) (l : Pat-F Pat) → out-Pat p ≡ l → (path : List ℕ)
-      → open_type l ty ≡ Some ty → ((i : ℕ) → sub_in types l i ≡ None) → type_at (record { path = []; ty = ty } ∷ []) path ≡ walked types (Some (p, ty)) path
+      → open_type l ty ≡ Some ty → ((i : ℕ) → sub_in types l i ≡ None) → type_at (record { path = []; ty = ty } ∷ []) path ≡ type_along types (Some (p, ty)) path
   open_wild ty p l is [] opened none = sym (ap (λ (x : Pat-F Pat). open_type x ty) is ∙ opened)
-  open_wild ty p l is (k ∷ q) opened none = sym (ap (λ (x : Option (Pat × Ty)). walked types x q) (ap (λ (x : Pat-F Pat). sub_in types x k) is ∙ none k))
+  open_wild ty p l is (k ∷ q) opened none = sym (ap (λ (x : Option (Pat × Ty)). type_along types x q) (ap (λ (x : Pat-F Pat). sub_in types x k) is ∙ none k))
 
   at_wild : (at : ℕ) → Walks (Wild at)
   at_wild at ty path = ap (λ (f : Ty → List Open). type_at (f ty) path) (fold-Wild (Ty → List Open) (opens_step types) at)
@@ -129,7 +129,7 @@ module _ (types : List DataDecl) where
   at_num at n ty [] = ap (λ (f : Ty → List Open). type_at (f ty) []) (fold-Num (Ty → List Open) (opens_step types) at n)
       ∙ sym (ap (λ (l : Pat-F Pat). open_type l ty) (X.outs-Num at n))
   at_num at n ty (k ∷ q) = ap (λ (f : Ty → List Open). type_at (f ty) (k ∷ q)) (fold-Num (Ty → List Open) (opens_step types) at n)
-      ∙ sym (ap (λ (l : Pat-F Pat). walked types (sub_in types l k) q) (X.outs-Num at n))
+      ∙ sym (ap (λ (l : Pat-F Pat). type_along types (sub_in types l k) q) (X.outs-Num at n))
 
   plus_none : (k : ℕ) → k ≡ 0 + k
   plus_none k = omega arith
@@ -141,13 +141,13 @@ module _ (types : List DataDecl) where
   at_con at c ps each ty (k ∷ q) = ap (λ (f : Ty → List Open). type_at (f ty) (k ∷ q)) (fold-Con (Ty → List Open) (opens_step types) at c ps)
       ∙ ap (λ n. type_at (opens_below (map opens ps) (types_or_none (fields_of types c)) 0) (n ∷ q)) (plus_none k)
       ∙ field_walk ps each (types_or_none (fields_of types c)) 0 k q
-      ∙ sym (ap (λ (l : Pat-F Pat). walked types (sub_in types l k) q) (X.outs-Con at c ps))
+      ∙ sym (ap (λ (l : Pat-F Pat). type_along types (sub_in types l k) q) (X.outs-Con at c ps))
 
   pub type_at-opens : (p : Pat) → Walks p
   type_at-opens p = induction Walks (record { wild = at_wild; var = at_var; num = at_num; con = at_con }) p
 
   -- the type at an open position of a provenance
-  pub type_at_walked : (p : Pat) (path : List ℕ) → type_at (open_positions types p) path ≡ walked types (Some (p, root_type (out-Pat p))) path
+  pub type_at_walked : (p : Pat) (path : List ℕ) → type_at (open_positions types p) path ≡ type_along types (Some (p, root_type (out-Pat p))) path
   type_at_walked p path = type_at-opens p (root_type (out-Pat p)) path
 
   -- a subpattern and its type, by what is found of either
@@ -160,10 +160,10 @@ module _ (types : List DataDecl) where
 
   -- a walk at its end, and one that stops
   pub walk_ends : (start : Option (Pat × Ty)) (p : Pat) (ty : Ty) (path : List ℕ) (i : ℕ) → length path ≤ i
-      → walked types (Some (p, ty)) (drop i path) ≡ walked types start path → open_type (out-Pat p) ty ≡ walked types start path
-  walk_ends start p ty path i le invariant = sym (ap (λ (q : List ℕ). walked types (Some (p, ty)) q) (drop_all i path le)) ∙ invariant
+      → type_along types (Some (p, ty)) (drop i path) ≡ type_along types start path → open_type (out-Pat p) ty ≡ type_along types start path
+  walk_ends start p ty path i le invariant = sym (ap (λ (q : List ℕ). type_along types (Some (p, ty)) q) (drop_all i path le)) ∙ invariant
 
   pub walk_stops : (start : Option (Pat × Ty)) (p : Pat) (ty : Ty) (path : List ℕ) (i field : ℕ) → slice_get path i ≡ Some field → sub_pattern types p field ≡ None
-      → walked types (Some (p, ty)) (drop i path) ≡ walked types start path → None ≡ walked types start path
+      → type_along types (Some (p, ty)) (drop i path) ≡ type_along types start path → None ≡ type_along types start path
   walk_stops start p ty path i field is none invariant =
-      sym (ap (λ (q : List ℕ). walked types (Some (p, ty)) q) (drop_from path i field is) ∙ ap (λ (x : Option (Pat × Ty)). walked types x (drop (suc i) path)) none) ∙ invariant
+      sym (ap (λ (q : List ℕ). type_along types (Some (p, ty)) q) (drop_from path i field is) ∙ ap (λ (x : Option (Pat × Ty)). type_along types x (drop (suc i) path)) none) ∙ invariant

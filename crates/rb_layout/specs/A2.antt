@@ -1,5 +1,5 @@
--- A2: each leaf's root words have the shape's widths. A shape is the list of the widths in bits that a layout states
--- for the words of its type.
+-- A2: word for word, the root of a leaf is as wide as the shape says. A shape is the list of the widths in bits that
+-- a layout states for the words of its type.
 use Rattle.std.specs.Prelude.{◌≡◌, ℕ, List, map, length, Some, slice_get}
 use Rattle.rb_layout.specs.declared.layout.Layout.{Layout}
 use Rattle.rb_layout.specs.declared.layout.Leaf.{Leaf}

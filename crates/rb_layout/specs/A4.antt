@@ -1,6 +1,6 @@
--- A4: block words have 8, 16, 32 or 64 bits; blocks have 1 to 64 words; leaves have at most 64 blocks; alignments are
--- 1, 2, 4, 8, 16, 32, 64; a pointer has at least 24 bits with those that its alignment saves. A pointer holds an
--- address in units of its alignment, in bytes; so 2 ^ k saves k bits.
+-- A4: a block has 1 to 64 words, each as wide as a memory's accesses: 8, 16, 32 or 64 bits. A leaf has at most 64
+-- blocks. An alignment is a power of two up to 64, in bytes. A pointer holds an address in units of its alignment, so
+-- that 2 ^ k saves it k bits; with those that are saved it has 24 bits at least.
 use Rattle.std.specs.Prelude.{◌≡◌, ℕ, ◌+◌, ◌^◌, ◌<◌, ◌≤◌, ◌⊎◌, length, Some, slice_get, List}
 use Rattle.rb_layout.specs.declared.layout.Layout.{Layout}
 use Rattle.rb_layout.specs.declared.layout.Leaf.{Leaf}

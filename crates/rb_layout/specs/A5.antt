@@ -1,5 +1,5 @@
--- A5: two provenances of a layout have no common value; every value of the type is matched by one of them. A leaf is
--- the form of the values of one pattern, its provenance. t is the number of the type whose layout it is.
+-- A5: no value fits two provenances of a layout, and each value of the type fits one. A leaf is the form of the values
+-- of one pattern, its provenance. t is the number of the type whose layout it is.
 use Rattle.std.specs.Prelude.{◌≡◌, ℕ, ◌<◌, List, [], true, Some, Ok, slice_get}
 use Rattle.rb_core.specs.declared.value.Value.{Value}
 use Rattle.rb_core.specs.declared.pattern.Pat.{Pat}

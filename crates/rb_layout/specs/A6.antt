@@ -1,5 +1,5 @@
--- A6: each open position is held exactly once, each bit of an integer and each word of a data type; no other path is
--- held. A unit of an open position is a bit of it where its type is an integer, and a word where that is a data type;
+-- A6: a leaf holds what its provenance leaves open, all of it and once: of an integer every bit, of a data type every
+-- word. It holds nothing else. A unit of an open position is such a bit, or such a word where the type is a data type;
 -- units count from 0. A path is the field numbers that lead to the position.
 use Rattle.std.specs.Prelude.{◌≡◌, ℕ, ◌+◌, ◌<◌, ◌&&◌, leb, ltb, ◌==◌, sum, List, map, length, Bool, false, Some, slice_get, if◌then◌else◌}
 use Rattle.rb_core.specs.declared.types.Ty.{Ty}

@@ -1,7 +1,7 @@
--- A7: at each split, its location resolves in each leaf below it; each leaf below literal c has c known there; each
--- leaf below `else` excludes every literal. A number is known at a location where all bits there are constant, and
--- excluded where the bits there are never that number. A test is what one split asks of a leaf below it: to be below
--- one of its literals, or below its `else`.
+-- A7: a split can tell the leaves below it apart. Its location resolves in all of them; those below a literal have it
+-- as the number known there, and those below `else` exclude all literals. A number is known where all bits are
+-- constant, and excluded where the bits there are never that number. A test is what one split asks of a leaf below it:
+-- to be below one of its literals, or below its `else`.
 use Rattle.std.specs.Prelude.{◌≡◌, ℕ, List, None, Some, slice_get}
 use Rattle.rb_core.specs.declared.types.DataDecl.{DataDecl}
 use Rattle.rb_core.specs.declared.layout_decl.Loc.{Loc}

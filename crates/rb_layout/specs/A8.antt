@@ -1,5 +1,5 @@
--- A8: the literals of a split are distinct and fit its range; it has an arm or `else`. The range of a split is the
--- last one that its location names.
+-- A8: of a split, no literal comes twice, and none is too wide for the range, which is the last one that its location
+-- names; and it is not empty: it has an `else` where it has no arm.
 use Rattle.std.specs.Prelude.{◌≡◌, ℕ, ◌^◌, ◌<◌, ◌⊎◌, List, [], ◌∷◌, length, true, Some, slice_get}
 use Rattle.rb_core.specs.declared.layout_decl.Loc.{Loc}
 use Rattle.rb_core.specs.declared.layout_decl.Step.{Step}

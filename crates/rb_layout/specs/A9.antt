@@ -1,6 +1,6 @@
--- A9: a flattened type, one of whose constructors stands below the root of a provenance, has no pointer part in its
--- own leaves; there is no cycle of types in which the layout of each flattens the next. Types are named by their
--- numbers.
+-- A9: what flattening does to types. A layout flattens a type where a constructor of it stands inside a provenance,
+-- below the root. The leaves of such a type keep no pointer; and from no type does flattening, from layout to layout,
+-- lead back to it. Types are named by their numbers.
 use Rattle.std.specs.Prelude.{◌≡◌, ℕ, List, [], ◌∷◌, Some, slice_get}
 use Rattle.std.specs.List.{flat_map}
 use Rattle.rb_core.specs.declared.types.ConRef.{ConRef}

@@ -101,8 +101,8 @@ kind_if_open (Some ty) kind = Some kind
 
 -- A pointer of this alignment and its block, given the words behind it with the blocks inside, where n blocks were
 -- placed before. The block comes after those inside it, and the pointer has its number.
-abbrev pub pointed : ℕ → ℕ → WithBlocks (List FlatWord) → WithBlocks (Option Kind)
-pointed align n laid = record {
+abbrev pub pointer_to_block : ℕ → ℕ → WithBlocks (List FlatWord) → WithBlocks (Option Kind)
+pointer_to_block align n laid = record {
   it = Some (Pointer align (n + length laid.blocks));
   blocks = laid.blocks ++ record { align = align; words = laid.it } ∷ [];
 }
@@ -116,7 +116,7 @@ kind_step opens (I.Const c) n = without_blocks (Some (Const c))
 kind_step opens (I.Whole path) n = without_blocks (whole_kind (type_at opens path) path)
 kind_step opens (I.Slice path a k) n = without_blocks (kind_if_open (type_at opens path) (Bits path a))
 kind_step opens (I.PartKind::Word path j) n = without_blocks (kind_if_open (type_at opens path) (Word path j))
-kind_step opens (I.Pointer align items) n = pointed align n (in_turn items n)
+kind_step opens (I.Pointer align items) n = pointer_to_block align n (in_turn items n)
 
 -- a part with this range of l bits from bit o, and no part where nothing is held
 abbrev pub parts_of : ℕ → ℕ → Option Kind → List Part
@@ -141,10 +141,10 @@ inline_words path j (width ∷ widths) = full_word width (Word path j) ∷ inlin
 
 -- the words of the field at a path, given the type there: an integer has one, of its width, a data type those of its
 -- shape; none where the path is not open, or the data type has no layout
-abbrev pub inlined : List LayoutDecl → Option Ty → List ℕ → List FlatWord
-inlined decls None path = []
-inlined decls (Some (Int bits)) path = full_word bits (Bits path 0) ∷ []
-inlined decls (Some (Named s)) path = inline_words path 0 (shape_of decls s)
+abbrev pub words_inlined : List LayoutDecl → Option Ty → List ℕ → List FlatWord
+words_inlined decls None path = []
+words_inlined decls (Some (Int bits)) path = full_word bits (Bits path 0) ∷ []
+words_inlined decls (Some (Named s)) path = inline_words path 0 (shape_of decls s)
 
 -- the words of one layer of an item, with its blocks: one word with its parts, or the words of a field, which has no
 -- block
@@ -153,7 +153,7 @@ abbrev pub item_step : List LayoutDecl → List Open
 item_step decls opens (I.LayItem::Word width parts) n =
     let laid = in_turn parts n in
     record { it = record { width = width; parts = laid.it } ∷ []; blocks = laid.blocks }
-item_step decls opens (I.Inline path) n = without_blocks (inlined decls (type_at opens path) path)
+item_step decls opens (I.Inline path) n = without_blocks (words_inlined decls (type_at opens path) path)
 
 -- the words of a written item, and the blocks behind its pointers
 abbrev pub item_laid : List LayoutDecl → List Open → LayItem → Laying (List FlatWord)

@@ -16,7 +16,7 @@ use Rattle.rb_layout.specs.declared.layout.Part.{Part}
 use Rattle.rb_layout.specs.declared.layout.Kind.{Kind}
 use Rattle.rb_layout.specs.declared.layout.Kind.TheVariants.{Const, Bits, Word, Pointer}
 use Rattle.rb_layout.specs.Positions.{Open, open_positions}
-use Rattle.rb_layout.specs.Flattening.{type_at, inlined, flat_leaf}
+use Rattle.rb_layout.specs.Flattening.{type_at, words_inlined, flat_leaf}
 use Rattle.rb_layout.specs.Items.{Content, Number, Whole, Slice, WordOf, Address, WrittenPart, Item, AWord, AField, item_lists}
 
 -- a part as it stands: its word's width, its range of l bits from bit o, and what it holds, for a pointer only the
@@ -39,16 +39,16 @@ abbrev pub standing_of : ℕ → Part → Standing
 standing_of width p = record { width = width; o = p.o; l = p.l; holds = content_shown p.l p.kind }
 
 -- the parts of a flat word as they stand, in their order
-abbrev pub standing : FlatWord → List Standing
-standing f = map (standing_of f.width) f.parts
+abbrev pub parts_in_place : FlatWord → List Standing
+parts_in_place f = map (standing_of f.width) f.parts
 
 -- the parts of a block's words as they stand, word by word
 abbrev pub standing_in : Block → List Standing
-standing_in b = flat_map standing b.words
+standing_in b = flat_map parts_in_place b.words
 
 -- all parts of a leaf as they stand: those of the root words, and then those of each block
 abbrev pub all_standing : Leaf → List Standing
-all_standing leaf = flat_map standing leaf.root ++ flat_map standing_in leaf.blocks
+all_standing leaf = flat_map parts_in_place leaf.root ++ flat_map standing_in leaf.blocks
 
 -- What is placed for a part of l bits that is written to hold the whole field at a path, given the type at this path:
 -- of an integer, the slice of l bits from bit 0; of a data type, its word 0; where the path is not open, nothing.
@@ -83,7 +83,7 @@ part_placed opens width p =
 -- nothing where the path is not open.
 abbrev pub parts_placed : List LayoutDecl → List Open → Item → List Standing
 parts_placed decls opens (AWord width parts) = flat_map (part_placed opens width) parts
-parts_placed decls opens (AField path) = flat_map standing (inlined decls (type_at opens path) path)
+parts_placed decls opens (AField path) = flat_map parts_in_place (words_inlined decls (type_at opens path) path)
 
 -- The law: the parts of a flat leaf are those that are placed for what is written, each as often as it is written, in
 -- whatever order. Said without an order: whatever weight a part is given by how it stands, the parts that stand in

@@ -3,7 +3,7 @@
 -- or a variable in it, and its path the list of field numbers that leads there from the root, outermost first. A layer
 -- is the outermost node of a pattern, with its subpatterns below it. Types, leaves and fields are named by their
 -- numbers, from 0.
-use Rattle.std.specs.Prelude.{◌≡◌, ℕ, ◌+◌, ◌<◌, ◌⊎◌, List, [], ◌∷◌, ◌++◌, map, Option, Some, None, slice_get, if◌then◌else◌}
+use Rattle.std.specs.Prelude.{◌≡◌, ℕ, ◌+◌, ◌<◌, ◌⊎◌, List, [], ◌∷◌, ◌++◌, map, Option, Some, None, slice_get, unwrap_or, if◌then◌else◌}
 use Rattle.rb_core.specs.declared.value.Value.{Value}
 use Rattle.rb_core.specs.declared.types.Ty.{Ty}
 use Rattle.rb_core.specs.declared.types.Ty.TheVariants.{Int, Named}
@@ -37,8 +37,7 @@ opens_below (p ∷ ps) (t ∷ ts) i = map (below i) (p t) ++ opens_below ps ts (
 
 -- a list of types that may be missing, and the empty list where it is
 abbrev pub types_or_none : Option (List Ty) → List Ty
-types_or_none None = []
-types_or_none (Some ts) = ts
+types_or_none ts = unwrap_or ts []
 
 -- The open positions of one layer of a pattern at a type, where its subpatterns are given by what their open
 -- positions are at a type. A wildcard or a variable is the one position, with the empty path. A number has none. A

@@ -8,7 +8,6 @@ ghost use Rattle.rb_layout.specs.Agreement.{Agrees};
 ghost use Rattle.rb_layout.specs.Flattening.{flat_layouts};
 
 use crate::layout::Layout;
-use rb_core::program::Note;
 use rb_core::seq::Seq;
 use rb_core::typed::Covered;
 use std::marker::Model;

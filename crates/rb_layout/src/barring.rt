@@ -113,7 +113,8 @@ fn part_barred(
     }
 }
 
-// Whether one of the parts gives a goal for the literal that is known to hold.
+// Whether one of the parts excludes the literal: it gives a goal for it that is known to hold, so that
+// no word with these parts has the literal.
 #[tactic(auto, using(crate::proofs::BarLemmas::barring))]
 fn parts_barred(
     types: &[DataDecl],

@@ -6,7 +6,7 @@ ghost use Rattle.rb_core.specs.declared.pattern.Pat.{out-Pat};
 ghost use Rattle.rb_core.specs.Values.{fields_of};
 ghost use Rattle.rb_layout.specs.Positions.{open_positions, root_type, types_or_none};
 ghost use Rattle.rb_layout.specs.Flattening.{type_at};
-ghost use Rattle.rb_layout.specs.inner.Walking.{HasNoSub, HasSub, walked};
+ghost use Rattle.rb_layout.specs.inner.Walking.{HasNoSub, HasSub, type_along};
 
 use rb_core::inference::types_of_fields;
 use rb_core::pattern::Pat;
@@ -24,7 +24,7 @@ pub fn type_at(types: &[DataDecl], prov: &Pat, path: &[u32]) -> Option<Ty>
 // empty path ends at the root. None where the path leaves the provenance or meets a field that is
 // not declared, and where it ends at a number or a constructor.
 fn walk(types: &[DataDecl], prov: &Pat, root: Ty, path: &[u32]) -> Option<Ty>
-    ensures { result ≡ walked types.now (Some (prov.now, root)) path.now }
+    ensures { result ≡ type_along types.now (Some (prov.now, root)) path.now }
 {
     let mut pat = prov;
     let mut ty = root;

@@ -4,10 +4,10 @@ use Rattle.std.specs.Prelude.{ℕ, List, ◌++◌, codes}
 use Rattle.std.specs.Fmt.{decimal}
 use Rattle.rb_core.specs.declared.types.DataDecl.{DataDecl}
 use Rattle.rb_core.specs.declared.types.Ty.{Ty}
+use Rattle.rb_core.specs.Texts.{type_text}
 use Rattle.rb_values.specs.declared.fault.ValueFault.{ValueFault}
 use Rattle.rb_values.specs.declared.fault.ValueFault.TheVariants as kind
 use Rattle.rb_show.specs.Lines.{line}
-use Rattle.rb_lines.specs.FileLines.{type_text}
 use Rattle.rb_lines.specs.Lines.{named_line, no_memory_line}
 
 -- the most nodes of an argument, and of a value that is shown

@@ -3,14 +3,13 @@
 use Rattle.std.specs.Prelude.{ℕ, List, ◌++◌, codes, slice_get}
 use Rattle.std.specs.Fmt.{decimal}
 use Rattle.rb_core.specs.declared.types.Ty.{Ty}
-use Rattle.rb_core.specs.declared.types.Ty.TheVariants.{Int, Named}
 use Rattle.rb_core.specs.declared.types.DataDecl.{DataDecl}
 use Rattle.rb_core.specs.declared.pattern.Pat.{Pat}
+use Rattle.rb_core.specs.Texts.{pattern_text, type_name, type_text}
 use Rattle.rb_read.specs.declared.fault.Quantity.{Quantity}
 use Rattle.rb_read.specs.declared.fault.Quantity.TheVariants.{FileBytes, Types, Functions, Constructors, Fields, Parameters, ShapeWords}
 use Rattle.rb_read.specs.Limits.{limit_of}
-use Rattle.rb_show.specs.Lines.{line, type_name}
-use Rattle.rb_show.specs.Patterns.{pattern_text}
+use Rattle.rb_show.specs.Lines.{line}
 use Rattle.rb_lines.specs.Lines.{named_line}
 
 -- the line of a fault, told by its words, and of the byte where it stands
@@ -55,11 +54,6 @@ abbrev pub no_main_line : List ℕ
 no_main_line = line (named_line (codes "no function main"))
 
 -- Types -------------------------------------------------------------------------------------
-
--- a type as a line shows it: an integer by its width, a data type by its name
-abbrev pub type_text : List DataDecl → Ty → List ℕ
-type_text types (Int bits) = codes "u" ++ decimal bits
-type_text types (Named t) = type_name (slice_get types t)
 
 -- the line of a type without a value
 abbrev pub empty_line : List DataDecl → ℕ → List ℕ

@@ -85,15 +85,15 @@ abbrev pub large_line : ℕ → List ℕ
 large_line limit = line (named_line (codes "value over ") ++ decimal limit ++ codes " nodes")
 
 -- numbers in decimal digits, each after a blank
-abbrev pub spaced : List ℕ → List ℕ
-spaced [] = []
-spaced (n ∷ ns) = 32 ∷ decimal n ++ spaced ns
+abbrev pub numbers_after_blanks : List ℕ → List ℕ
+numbers_after_blanks [] = []
+numbers_after_blanks (n ∷ ns) = 32 ∷ decimal n ++ numbers_after_blanks ns
 
 -- numbers in decimal digits, with one blank between
-abbrev pub listed : List ℕ → List ℕ
-listed [] = []
-listed (n ∷ ns) = decimal n ++ spaced ns
+abbrev pub numbers_text : List ℕ → List ℕ
+numbers_text [] = []
+numbers_text (n ∷ ns) = decimal n ++ numbers_after_blanks ns
 
 -- the line of words in decimal digits, with one blank between
 abbrev pub words_line : List ℕ → List ℕ
-words_line words = line (listed words)
+words_line words = line (numbers_text words)

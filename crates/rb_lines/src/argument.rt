@@ -8,9 +8,8 @@ ghost use Rattle.rb_lines.specs.ArgumentLines as spec;
 ghost use Rattle.rb_lines.specs.ArgumentLines.{argument_begun, argument_line};
 
 use crate::line::{NO_MEMORY, end};
-use crate::types::push_type;
+use rb_core::text::{push, push_number, push_type};
 use rb_core::types::{DataDecl, Ty};
-use rb_show::text::{push, push_number};
 use rb_values::fault::ValueFault;
 use std::alloc::{AllocError, Global};
 

@@ -8,9 +8,8 @@ ghost use Rattle.std.specs.Prelude.{◌≡◌, IfOk};
 ghost use Rattle.rb_lines.specs.FileLines as line;
 
 use crate::line::{begin, end};
+use rb_core::text::{push, push_name, push_number};
 use rb_core::types::DataDecl;
-use rb_show::show::push_name;
-use rb_show::text::{push, push_number};
 use std::alloc::{AllocError, Global};
 
 /// The line of a packed type that reaches itself through its fields.

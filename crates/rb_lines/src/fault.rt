@@ -5,9 +5,9 @@ ghost use Rattle.std.specs.Prelude.{◌≡◌, IfOk};
 ghost use Rattle.rb_lines.specs.FileLines as line;
 
 use crate::line::{begin, end};
+use rb_core::text::{push, push_number};
 use rb_read::fault::Quantity;
 use rb_read::limits::greatest;
-use rb_show::text::{push, push_number};
 use std::alloc::{AllocError, Global};
 
 /// The line of a fault, told by its words, and of the byte where it stands.

@@ -13,7 +13,7 @@ ghost use Rattle.rb_image_text.specs.Text.{block_text, blocks_text, bytes_text, 
 use crate::line;
 use rb_bytes::checked::CheckedMemory;
 use rb_bytes::memory::ByteMemory;
-use rb_show::text::push;
+use rb_core::text::push;
 use std::alloc::{AllocError, Global};
 
 // The text with a blank and a word behind it, in hexadecimal digits.

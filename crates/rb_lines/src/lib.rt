@@ -12,7 +12,7 @@
 //! A line is said twice. In `specs/` it is a list of bytes put together of texts and of numbers in decimal
 //! digits, `line (named_line (codes "match at byte ") ++ decimal at ++ ..)`. In the code it is formatted where it
 //! has numbers alone, `format!(in alloc; "ribbit: calls spent: {calls}\n")`, and else a text that grows at its
-//! end: [`line::begin`] writes the program's name, `push` and `push_number` of `rb_show` go on, and
+//! end: [`line::begin`] writes the program's name, `push` and `push_number` of `rb_core` go on, and
 //! [`line::end`] ends it. Each function's contract says that its bytes are those of the definition.
 //!
 //! There is a file for each subject: [`fault`] has the lines of texts, limits and names, [`types`],

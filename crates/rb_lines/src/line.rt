@@ -12,7 +12,7 @@ ghost use Rattle.rb_lines.specs.Lines as line;
 
 use crate::numbers::{ASTRAY, BAD_CALL, BAD_JUMP, BAD_SLOT, CODE_SYNTAX, UNMATCHED, UNWRITTEN};
 use rb_bytes::fault::{Full, Trap};
-use rb_show::text::{push, push_number};
+use rb_core::text::{push, push_number};
 use rb_target::fault::CodeFault;
 use std::alloc::{AllocError, Global};
 
@@ -213,7 +213,7 @@ fn push_word(alloc: Global, text: &mut Vec<u8>, number: u64) -> Result<(), Alloc
 
 // The text with the numbers behind it, each after a blank, in decimal digits.
 fn push_spaced(alloc: Global, text: &mut Vec<u8>, numbers: &[u64]) -> Result<(), AllocError>
-    ensures { OnOk result (text.new.items ≡ text.old.items ++ line.spaced numbers.now) }
+    ensures { OnOk result (text.new.items ≡ text.old.items ++ line.numbers_after_blanks numbers.now) }
 {
     for number in numbers {
         push_word(alloc, text, *number)?;

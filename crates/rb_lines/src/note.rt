@@ -11,7 +11,7 @@ ghost use Rattle.rb_lines.specs.Notes.{check_text, note_text};
 
 use crate::place::byte_of;
 use rb_core::program::Note;
-use rb_show::text::push;
+use rb_core::text::push;
 use rb_syntax::token::Placed;
 use std::alloc::{AllocError, Global};
 

@@ -5,9 +5,9 @@ ghost use Rattle.rb_lines.specs.FileLines as line;
 
 use crate::line::{begin, end};
 use rb_core::pattern::Pat;
+use rb_core::pattern_text::push_pattern;
+use rb_core::text::{push, push_number};
 use rb_core::types::DataDecl;
-use rb_show::pattern::push_pattern;
-use rb_show::text::{push, push_number};
 use std::alloc::{AllocError, Global};
 
 /// The line of the match at byte `at` of the file, which misses the values of a pattern; `types`

@@ -1,31 +1,13 @@
 //! The lines of faults of types. `types` are the types of the program, by which types are named,
 //! and `at` is a byte of the file, counted from 0. Every error is want of memory.
 
-ghost use Rattle.std.specs.Prelude.{◌≡◌, ◌++◌, IfOk, OnOk};
+ghost use Rattle.std.specs.Prelude.{◌≡◌, IfOk};
 ghost use Rattle.rb_lines.specs.FileLines as line;
 
 use crate::line::{begin, end};
+use rb_core::text::{push, push_name, push_number, push_type};
 use rb_core::types::{DataDecl, Ty};
-use rb_show::show::push_name;
-use rb_show::text::{push, push_number};
 use std::alloc::{AllocError, Global};
-
-/// The text with a type behind it: an integer by its width, a data type by its name.
-pub(crate) fn push_type(text: &mut Vec<u8>, types: &[DataDecl], ty: Ty) -> Result<(), AllocError>
-    ensures { OnOk result (text.new.items ≡ text.old.items ++ line.type_text types.now ty) }
-{
-    match ty {
-        Ty::Int(bits) => {
-            push(text, b"u")?;
-            push_number(text, bits as u64)?;
-            Ok(())
-        }
-        Ty::Named(number) => {
-            push_name(text, types, number)?;
-            Ok(())
-        }
-    }
-}
 
 /// The line of the type with this number, which has no value.
 ///

@@ -16,8 +16,8 @@ use Rattle.rb_fragment.specs.Plan.{Plan, Rep}
 use Rattle.rb_fragment.proofs.Holds.{slots_at-kept}
 use Rattle.rb_match.specs.declared.knowledge.Known.TheVariants.{Leaf, Saved}
 use Rattle.rb_match.specs.declared.knowledge.Spot.{Spot}
-use Rattle.rb_match.specs.inner.Knowing.{View, seen, SpotsBelow, IsSaved, IsKnown, AreKnown, FollowsLeaf, FollowsSaved, IsShared, SharesKnown, IsMet, IsCommonKnowledge}
-use Rattle.rb_match.specs.inner.Asking.{is_test, carried}
+use Rattle.rb_match.specs.inner.Knowing.{View, view_of, SpotsBelow, IsSaved, IsKnown, AreKnown, FollowsLeaf, FollowsSaved, IsShared, SharesKnown, IsMet, IsCommonKnowledge}
+use Rattle.rb_match.specs.inner.Asking.{is_test, known_at_node}
 
 -- an item of a list with one more
 pub snoc-at : {A : Type 0} (xs : List A) (x y : A) (i : ℕ) → slice_get (xs ++ x ∷ []) i ≡ Some y → (slice_get xs i ≡ Some y) ⊎ (x ≡ y)
@@ -60,7 +60,7 @@ common-next edges i x node found r lt is c m = λ view e at leaf all.
     ])
 
 -- what an edge carries is so, too
-pub carried_known : (nodes : List GraphNode) (node : ℕ) (view : View) (known : List Known) → AreKnown view known → AreKnown view (carried nodes node known)
+pub carried_known : (nodes : List GraphNode) (node : ℕ) (view : View) (known : List Known) → AreKnown view known → AreKnown view (known_at_node nodes node known)
 carried_known nodes node view known all = go (is_test (slice_get nodes node))
   where
     go : (u : Bool) → AreKnown view (if u then known else [])
@@ -68,10 +68,10 @@ carried_known nodes node view known all = go (is_test (slice_get nodes node))
     go false = λ i x at. absurd cc
 
 -- facts on slots that are kept
-pub known-kept : (n : ℕ) (plan : Plan) (clean : Bool) (v : Value) (spots : List Spot) (s s' : List ℕ) (m : Memory) → Keeps n s s' → SpotsBelow n spots → (known : List Known) → AreKnown (seen plan clean v spots s m) known → AreKnown (seen plan clean v spots s' m) known
+pub known-kept : (n : ℕ) (plan : Plan) (clean : Bool) (v : Value) (spots : List Spot) (s s' : List ℕ) (m : Memory) → Keeps n s s' → SpotsBelow n spots → (known : List Known) → AreKnown (view_of plan clean v spots s m) known → AreKnown (view_of plan clean v spots s' m) known
 known-kept n plan clean v spots s s' m k below known all i x at = go x (all i x at)
   where
-    go : (x : Known) → IsKnown (seen plan clean v spots s m) x → IsKnown (seen plan clean v spots s' m) x
+    go : (x : Known) → IsKnown (view_of plan clean v spots s m) x → IsKnown (view_of plan clean v spots s' m) x
     go (Leaf q t l) h = h
     go (Saved j) h = (h.0, h.1, (h.2.0, h.2.1, subst (λ ws. Rep plan m clean h.0.ty h.2.0 ws) (sym (slots_at-kept n s s' h.0.slots (below j h.0 h.1) k)) h.2.2))
 

@@ -13,7 +13,7 @@ use Rattle.rb_fragment.proofs.Patching.{AreAllHoles, AreClosable, adds_closed, a
 use Rattle.rb_fragment.specs.Arms.{AreOfOneWay, closed}
 use Rattle.rb_match.specs.declared.knowledge.Known.{Known}
 use Rattle.rb_match.specs.declared.knowledge.Edge.{Edge}
-use Rattle.rb_match.specs.inner.Knowing.{IsEdge, IsCommonKnowledge, seen}
+use Rattle.rb_match.specs.inner.Knowing.{IsEdge, IsCommonKnowledge, view_of}
 use Rattle.rb_match.specs.inner.Asking.{holes_of, AreOpen}
 use Rattle.rb_match.specs.inner.Flowing.{landing_of, others_of, Job, IsOn, Arrives, Lands, Flows, FlowsHere, JobStands}
 use Rattle.rb_match.proofs.Edges.{same-nat, other-nat, in_none, in_head, in_tail, in_append, open_edge, edge_open, landing, landed, landed_from, other_kept, other_from, all_holes_from, closable_from}
@@ -147,7 +147,7 @@ module _ (job : Job) (b : Sheet) (edges : List Edge) (n : ℕ) (known : List Kno
             keeps = a.keeps;
             path = a.path;
             later = a.later;
-            is_known = common (seen job.plan clean v job.spots a.slots w.memory) a.edge a.is_edge is a.known;
+            is_known = common (view_of job.plan clean v job.spots a.slots w.memory) a.edge a.is_edge is a.known;
             on = subst (λ k. IsOn job v k a.path) is a.on;
           })
       at final next s w clean v fin a false t = inl (record {

@@ -43,7 +43,7 @@ use Rattle.rb_match.specs.declared.knowledge.Known.{Known}
 use Rattle.rb_match.specs.declared.knowledge.Edge.{Edge}
 use Rattle.rb_match.specs.declared.knowledge.Known.TheVariants as K
 use Rattle.rb_match.specs.Bounding.{choosing_look}
-use Rattle.rb_match.specs.inner.Knowing.{AreKnown, IsEdge, IsKnown, seen}
+use Rattle.rb_match.specs.inner.Knowing.{AreKnown, IsEdge, IsKnown, view_of}
 use Rattle.rb_match.specs.inner.Asking.{take_link, con_in, leaf_con, link_at, group_for, node_for, facts_for, IsGrouped, AreGroups, edge_in, edge_to, edge_for, keep_edge, leaf_edges_of, LeavesBy, StandOpen, AsksLeaf, holes_of}
 use Rattle.rb_match.proofs.Edges.{same-nat, hole_at, in_tail, open_edge}
 use Rattle.rb_match.proofs.Following.{carried_known, known-kept, snoc-at}
@@ -204,7 +204,7 @@ module _ (agreed : LaidOut) (nodes : List GraphNode) (t : ℕ) (position : Bor (
             let has = λ (g : ℕ) (is : group_at groups b.number ≡ Some g). br.leaves final callee next law fin1 s w g long good
             (record { words = ws; are_meant = meant; has_group = record { leaf = b.number; is_group = is; has_leaf = record { layout = b.layout; is_layout = b.is_layout; clean = clean; value = part; represents = rep; is_leaf = b.is_leaf } } }) in
             let kept = λ (s1 : List ℕ) (keeps : Keeps old.slots s s1). known-kept old.slots plan clean v spots s s1 w.memory keeps are.below known all in
-            let by : (g : ℕ) → (its.0 ≡ Some g) → (node_at g ≡ Some node) → ((s1 : List ℕ) → Keeps old.slots s s1 → AreKnown (seen plan clean v spots s1 w.memory) (facts g))
+            let by : (g : ℕ) → (its.0 ≡ Some g) → (node_at g ≡ Some node) → ((s1 : List ℕ) → Keeps old.slots s s1 → AreKnown (view_of plan clean v spots s1 w.memory) (facts g))
             → LeavesBy plan final next (leaf_edges holes) n (choosing_look plan.layouts (Named t)) (length old.code) s w clean v spots node =
             λ g is to_node holds.
             let r = has g (ap group_or_none its.1 ∙ is) in
@@ -219,18 +219,18 @@ module _ (agreed : LaidOut) (nodes : List GraphNode) (t : ℕ) (position : Bor (
               runs = r.runs;
               keeps = Keeps-less n old.slots s r.slots are.low r.keeps;
               later = record { memory = r.later.memory; left = r.later.left; switches = omega (arith, r.later.switches) };
-              known = carried_known nodes node (seen plan clean v spots r.slots w.memory) (facts r.hole.leaf)
-                  (subst (λ k. AreKnown (seen plan clean v spots r.slots w.memory) (facts k)) (sym r.is_way) (holds r.slots r.keeps));
+              known = carried_known nodes node (view_of plan clean v spots r.slots w.memory) (facts r.hole.leaf)
+                  (subst (λ k. AreKnown (view_of plan clean v spots r.slots w.memory) (facts k)) (sym r.is_way) (holds r.slots r.keeps));
             } in
             let number = b.number in
             let own : its.0 ≡ Some number → LeavesBy plan final next (leaf_edges holes) n (choosing_look plan.layouts (Named t)) (length old.code) s w clean v spots node =
             λ is. by number is (own_node number lt ∙ ap (link_at arms other) its.2.is_con ∙ goes) (λ s1 keeps.
-            subst (λ fs. AreKnown (seen plan clean v spots s1 w.memory) fs) (sym (own_facts number lt)) (λ i x e. elim (snoc-at known (fact number) x i e) [
+            subst (λ fs. AreKnown (view_of plan clean v spots s1 w.memory) fs) (sym (own_facts number lt)) (λ i x e. elim (snoc-at known (fact number) x i e) [
               | inl j ↦ kept s1 keeps i x j
-              | inr same ↦ subst (IsKnown (seen plan clean v spots s1 w.memory)) same (part, b.layout, at, b.is_layout, b.is_leaf)
+              | inr same ↦ subst (IsKnown (view_of plan clean v spots s1 w.memory)) same (part, b.layout, at, b.is_layout, b.is_leaf)
             ])) in
             let shared : its.0 ≡ Some (leaf_count agreed t + node) → LeavesBy plan final next (leaf_edges holes) n (choosing_look plan.layouts (Named t)) (length old.code) s w clean v spots node =
-            λ is. by (leaf_count agreed t + node) is (shared_node node) (λ s1 keeps. subst (λ fs. AreKnown (seen plan clean v spots s1 w.memory) fs) (sym (shared_facts node)) (kept s1 keeps)) in
+            λ is. by (leaf_count agreed t + node) is (shared_node node) (λ s1 keeps. subst (λ fs. AreKnown (view_of plan clean v spots s1 w.memory) fs) (sym (shared_facts node)) (kept s1 keeps)) in
             let group : its.0 ≡ group_for (leaf_count agreed t) its.2.itself number (Some node) = its.2.is_group ∙ ap (group_for (leaf_count agreed t) its.2.itself number) goes in
             by_group (leaf_count agreed t) its.2.itself number node its.0 group own shared;
       }

@@ -32,7 +32,7 @@ use Rattle.rb_fragment.specs.WordReads.{AreMeant}
 use Rattle.rb_fragment.proofs.Adding.{Adds-trans, push_adds}
 use Rattle.rb_match.specs.declared.knowledge.Known.{Known}
 use Rattle.rb_match.specs.declared.knowledge.Edge.{Edge}
-use Rattle.rb_match.specs.inner.Knowing.{IsEdge, seen}
+use Rattle.rb_match.specs.inner.Knowing.{IsEdge, view_of}
 use Rattle.rb_match.specs.inner.Asking.{take_link, number_of_head, is_number, are_numbers, number_arm, number_arms, edge_in, arm_edges, else_edges, StandOpen, AsksNumber}
 use Rattle.rb_match.proofs.Edges.{edge_append, edge_left, edge_right, open_edge}
 use Rattle.rb_match.proofs.Following.{carried_known, known-kept}
@@ -225,6 +225,6 @@ module _ (nodes : List GraphNode) (read : Read) (known : List Known) (arms : Lis
               runs = r.3 ∙ ap (λ q. next q r.1 r.2) r.6.0 ∙ ran;
               keeps = Keeps-less n old.slots s r.1 low r.4;
               later = record { memory = r.5.memory; left = r.5.left; switches = omega (arith, r.5.switches) };
-              known = carried_known nodes node (seen plan clean v spots r.1 w.memory) known (known-kept old.slots plan clean v spots s r.1 w.memory r.4 below known all);
+              known = carried_known nodes node (view_of plan clean v spots r.1 w.memory) known (known-kept old.slots plan clean v spots s r.1 w.memory r.4 below known all);
             };
       }

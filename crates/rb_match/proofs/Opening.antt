@@ -45,10 +45,10 @@ use Rattle.rb_match.specs.declared.knowledge.Spot.{Spot}
 use Rattle.rb_match.specs.declared.knowledge.Edge.{Edge}
 use Rattle.rb_match.specs.declared.spots.Whole.{Whole}
 use Rattle.rb_match.specs.Bounding.{choosing_look, rebuilding}
-use Rattle.rb_match.specs.inner.Knowing.{AreKnown, IsEdge, IsKnown, seen}
+use Rattle.rb_match.specs.inner.Knowing.{AreKnown, IsEdge, IsKnown, view_of}
 use Rattle.rb_match.specs.inner.Asking.{AreGroups, AreSpots, LeavesWhere, StandOpen, group_for, edge_at, holes_of, take_link}
 use Rattle.rb_match.specs.inner.Clauses.{way_holes}
-use Rattle.rb_match.specs.inner.Opening.{AsksDeep, CanOpen, GoOn, HasGroupOnward, IsAlone, IsOnward, LeadLeaves, LeadsAll, LeadsFrom, LeadsLeaf, LeadsWays, PartLeads, ShowOnward, StepsWay, WaysLead, WaysStand, group_onward, pending, shared_edge, shared_edges}
+use Rattle.rb_match.specs.inner.Opening.{AsksDeep, CanOpen, GoOn, HasGroupOnward, IsAlone, IsOnward, LeadLeaves, LeadsAll, LeadsFrom, LeadsLeaf, LeadsWays, PartLeads, ShowOnward, StepsWay, WaysLead, WaysStand, group_onward, holes_to_set, shared_edge, shared_edges}
 use Rattle.rb_match.specs.inner.Saving.{IsThereWith, Knows, SavesFields}
 use Rattle.rb_match.specs.inner.Threading.{AllFollow}
 use Rattle.rb_match.proofs.ClauseForms.{way_from, way_in}
@@ -68,31 +68,31 @@ nat_le-true a b le = grind (arith, nat_tests)
 nat_le-is : (a b : ℕ) → nat_le a b ≡ true → a ≤ b
 nat_le-is a b e = grind (arith, nat_tests)
 
-pub pending_in : (i : ℕ) (hs : List Hole) (h : Hole) → IsHoleAmong h hs → i ≤ h.leaf → IsHoleAmong h (pending i hs)
+pub pending_in : (i : ℕ) (hs : List Hole) (h : Hole) → IsHoleAmong h hs → i ≤ h.leaf → IsHoleAmong h (holes_to_set i hs)
 pending_in i [] h (k, at) le = absurd cc
 pending_in i (x ∷ hs) h (zero, at) le =
     let same : x ≡ h = same_Some x h at in
     let test : nat_le i x.leaf ≡ true = nat_le-true i x.leaf (subst (λ (y : Hole). i ≤ y.leaf) (sym same) le) in
-    subst (λ u. IsHoleAmong h (if u then x ∷ pending i hs else pending i hs)) (sym test) (0, at)
+    subst (λ u. IsHoleAmong h (if u then x ∷ holes_to_set i hs else holes_to_set i hs)) (sym test) (0, at)
 pending_in i (x ∷ hs) h (suc k, at) le = let r = pending_in i hs h (k, at) le in go (nat_le i x.leaf) r
   where
-    go : (u : Bool) → IsHoleAmong h (pending i hs) → IsHoleAmong h (if u then x ∷ pending i hs else pending i hs)
+    go : (u : Bool) → IsHoleAmong h (holes_to_set i hs) → IsHoleAmong h (if u then x ∷ holes_to_set i hs else holes_to_set i hs)
     go true r = (suc r.0, r.1)
     go false r = r
 
-pub pending_from : (i : ℕ) (hs : List Hole) (h : Hole) → IsHoleAmong h (pending i hs) → IsHoleAmong h hs × (i ≤ h.leaf)
+pub pending_from : (i : ℕ) (hs : List Hole) (h : Hole) → IsHoleAmong h (holes_to_set i hs) → IsHoleAmong h hs × (i ≤ h.leaf)
 pending_from i [] h (k, at) = absurd cc
 pending_from i (x ∷ hs) h j = go (λ r. pending_from i hs h r) (nat_le i x.leaf) refl j
   where
-    go : (IsHoleAmong h (pending i hs) → IsHoleAmong h hs × (i ≤ h.leaf)) → (u : Bool) → nat_le i x.leaf ≡ u → IsHoleAmong h (if u then x ∷ pending i hs else pending i hs) → IsHoleAmong h (x ∷ hs) × (i ≤ h.leaf)
+    go : (IsHoleAmong h (holes_to_set i hs) → IsHoleAmong h hs × (i ≤ h.leaf)) → (u : Bool) → nat_le i x.leaf ≡ u → IsHoleAmong h (if u then x ∷ holes_to_set i hs else holes_to_set i hs) → IsHoleAmong h (x ∷ hs) × (i ≤ h.leaf)
     go more true e (zero, at) = ((0, at), subst (λ (y : Hole). i ≤ y.leaf) (same_Some x h at) (nat_le-is i x.leaf e))
     go more true e (suc k, at) = let r = more (k, at) in ((suc r.0.0, r.0.1), r.1)
     go more false e r = let q = more r in ((suc q.0.0, q.0.1), q.1)
 
 -- all are pending at first
-pub pending_all : (hs : List Hole) → pending 0 hs ≡ hs
+pub pending_all : (hs : List Hole) → holes_to_set 0 hs ≡ hs
 pending_all [] = refl
-pending_all (h ∷ hs) = let test : nat_le 0 h.leaf ≡ true = nat_le-true 0 h.leaf (omega arith) in ap (λ u. if u then h ∷ pending 0 hs else pending 0 hs) test ∙ ap (λ l. h ∷ l) (pending_all hs)
+pending_all (h ∷ hs) = let test : nat_le 0 h.leaf ≡ true = nat_le-true 0 h.leaf (omega arith) in ap (λ u. if u then h ∷ holes_to_set 0 hs else holes_to_set 0 hs) test ∙ ap (λ l. h ∷ l) (pending_all hs)
 
 -- the holes of a leaf are in front of the end of the code
 pub leaf_patchable : (holes : List Hole) (i : ℕ) (old : Sheet) → CanOpen old.code holes i → ArePatchable old.code (way_holes i 0 holes) (length old.code ∷ [])
@@ -109,11 +109,11 @@ leaf_patchable holes i old can = patchable_from old.code (way_holes i 0 holes) (
 -- Facts
 
 -- a leaf that is found is known beside what was
-leaf_known : (t leaf : ℕ) (position : Bor (List ℕ)) (plan : Plan) (clean : Bool) (v part : Value) (layout : Layout) (spots : List Spot) (s : List ℕ) (m : Memory) (known : List Known) → AreKnown (seen plan clean v spots s m) known
-    → part_at v position.now ≡ Some part → layout_of plan.layouts t ≡ Some layout → leaf_of layout part ≡ Some leaf → AreKnown (seen plan clean v spots s m) (known ++ K.Leaf position t leaf ∷ [])
+leaf_known : (t leaf : ℕ) (position : Bor (List ℕ)) (plan : Plan) (clean : Bool) (v part : Value) (layout : Layout) (spots : List Spot) (s : List ℕ) (m : Memory) (known : List Known) → AreKnown (view_of plan clean v spots s m) known
+    → part_at v position.now ≡ Some part → layout_of plan.layouts t ≡ Some layout → leaf_of layout part ≡ Some leaf → AreKnown (view_of plan clean v spots s m) (known ++ K.Leaf position t leaf ∷ [])
 leaf_known t leaf position plan clean v part layout spots s m known all is_part is_layout is_leaf = λ j x at. elim (snoc-at known (K.Leaf position t leaf) x j at) [
   | inl h ↦ all j x h
-  | inr same ↦ subst (IsKnown (seen plan clean v spots s m)) same (part, layout, is_part, is_layout, is_leaf)
+  | inr same ↦ subst (IsKnown (view_of plan clean v spots s m)) same (part, layout, is_part, is_layout, is_leaf)
 ]
 
 -- where a value of a leaf goes on
@@ -145,7 +145,7 @@ module _ (agreed : LaidOut) (t : ℕ) (words : List ℕ) (spots : List Spot) (po
   Steps new more = StepsWay agreed t words spots position holes i found old edges new more
 
   -- fewer are pending
-  later_pending : (h : Hole) → IsHoleAmong h (pending (i + 1) holes) → IsHoleAmong h (pending i holes)
+  later_pending : (h : Hole) → IsHoleAmong h (holes_to_set (i + 1) holes) → IsHoleAmong h (holes_to_set i holes)
   later_pending h j = let f = pending_from (i + 1) holes h j in let le = f.1 in pending_in i holes h f.0 (omega (arith, le))
 
   -- a leaf that is no group by itself has no way
@@ -155,11 +155,11 @@ module _ (agreed : LaidOut) (t : ℕ) (words : List ℕ) (spots : List Spot) (po
     leads = λ known graph arms other groups plan n mid top goes alone of are low count ways st f. record {
       adds = f.adds;
       leaves = λ final callee next law fin s w clean v part layout leaf node long there is_part is_layout is_leaf takes group has.
-          let fin1 : Finishes final old.code (pending i holes ++ holes_of edges) (length mid.code) (length old.code) = λ q l h.
-          agrees-sub final old.code old.code (pending i holes ++ holes_of edges) (pending (i + 1) holes ++ holes_of edges) q refl
-          (λ arm o. elim (in_append (pending (i + 1) holes) (holes_of edges) o.0 o.1) [
-            | inl j ↦ (o.0, in_left (pending i holes) (holes_of edges) o.0 (later_pending o.0 j), o.2, o.3)
-            | inr j ↦ (o.0, in_right (pending i holes) (holes_of edges) o.0 j, o.2, o.3)
+          let fin1 : Finishes final old.code (holes_to_set i holes ++ holes_of edges) (length mid.code) (length old.code) = λ q l h.
+          agrees-sub final old.code old.code (holes_to_set i holes ++ holes_of edges) (holes_to_set (i + 1) holes ++ holes_of edges) q refl
+          (λ arm o. elim (in_append (holes_to_set (i + 1) holes) (holes_of edges) o.0 o.1) [
+            | inl j ↦ (o.0, in_left (holes_to_set i holes) (holes_of edges) o.0 (later_pending o.0 j), o.2, o.3)
+            | inr j ↦ (o.0, in_right (holes_to_set i holes) (holes_of edges) o.0 j, o.2, o.3)
           ]) (fin q l h) in
           let r = f.leaves final callee next law fin1 s w clean v part layout leaf node long there is_part is_layout is_leaf takes group has in
           let differs : group ≡ i → ⊥ = λ e. none groups alone leaf (has ∙ ap Some e) in
@@ -196,7 +196,7 @@ module _ (agreed : LaidOut) (t : ℕ) (words : List ℕ) (spots : List Spot) (po
     abbrev all : List Edge
     all = edges ++ way_edge ∷ []
 
-    way_of : (h : Hole) → IsHoleAmong h here → (g : Hole) × IsHoleAmong g (pending i holes) × (g.leaf ≡ i) × (h ≡ record { pc = g.pc; arm = g.arm; leaf = 0 })
+    way_of : (h : Hole) → IsHoleAmong h here → (g : Hole) × IsHoleAmong g (holes_to_set i holes) × (g.leaf ≡ i) × (h ≡ record { pc = g.pc; arm = g.arm; leaf = 0 })
     way_of h j = let f = way_from i 0 holes h j in let e = f.2 in (f.0, pending_in i holes f.0 f.1 (omega (arith, e)), f.2, f.3)
 
     here_hole : (h : Hole) → IsHoleAmong h here → IsHole old.code h × (h.leaf ≡ 0)
@@ -260,20 +260,20 @@ module _ (agreed : LaidOut) (t : ℕ) (words : List ℕ) (spots : List Spot) (po
             both e f (inr j) (inl k) p s = absurd (let a = old_low f k in let x = ap (λ (y : Edge). y.hole.pc) (single e j) in omega (arith, a.1, p, x))
             both e f (inr j) (inr k) p s = ap (λ (y : Edge). y.hole.leaf) (sym (single e j)) ∙ ap (λ (y : Edge). y.hole.leaf) (single f k)
 
-        module _ (ways : AreOfOneWay holes) (final : List Instr) (fin : Finishes final way_code.code (pending (i + 1) holes ++ holes_of all) (length mid.code) (length way_code.code)) where
+        module _ (ways : AreOfOneWay holes) (final : List Instr) (fin : Finishes final way_code.code (holes_to_set (i + 1) holes ++ holes_of all) (length mid.code) (length way_code.code)) where
           abbrev rest : List Hole
-          rest = pending (i + 1) holes ++ holes_of edges
+          rest = holes_to_set (i + 1) holes ++ holes_of edges
 
           -- in front of this way only these are open
           fin_rest : Finishes final b.code rest (length mid.code) (length old.code)
           fin_rest = λ q l h.
               let g = grows.longer in
               let same : slice_get way_code.code q ≡ slice_get b.code q = get-append c.code (Jump (length c.code + 1) ∷ []) q (omega (arith, h, len, g)) ∙ grows.same q (omega (arith, h, len)) in
-              agrees-sub final b.code way_code.code rest (pending (i + 1) holes ++ holes_of all) q same
-              (λ arm o. elim (in_append (pending (i + 1) holes) (holes_of all) o.0 o.1) [
-                | inl j ↦ (o.0, in_left (pending (i + 1) holes) (holes_of edges) o.0 j, o.2, o.3)
+              agrees-sub final b.code way_code.code rest (holes_to_set (i + 1) holes ++ holes_of all) q same
+              (λ arm o. elim (in_append (holes_to_set (i + 1) holes) (holes_of all) o.0 o.1) [
+                | inl j ↦ (o.0, in_left (holes_to_set (i + 1) holes) (holes_of edges) o.0 j, o.2, o.3)
                 | inr j ↦ (let e = open_edge all q arm (o.0, j, o.2, o.3) in elim (edge_append edges (way_edge ∷ []) e.0 e.1) [
-                  | inl k ↦ (let x = edge_open edges q arm e.0 k e.2 e.3 in (x.0, in_right (pending (i + 1) holes) (holes_of edges) x.0 x.1, x.2, x.3))
+                  | inl k ↦ (let x = edge_open edges q arm e.0 k e.2 e.3 in (x.0, in_right (holes_to_set (i + 1) holes) (holes_of edges) x.0 x.1, x.2, x.3))
                   | inr k ↦ absurd (let x = ap (λ (y : Edge). y.hole.pc) (single e.0 k) in let z = e.2 in omega (arith, x, z, h, len, g))
                 ])
               ]) (fin q l (omega (arith, h, len, g, last)))
@@ -282,7 +282,7 @@ module _ (agreed : LaidOut) (t : ℕ) (words : List ℕ) (spots : List Spot) (po
           apart h j o =
               let a = way_of h j in
               let s = low_here h j in
-              elim (in_append (pending (i + 1) holes) (holes_of edges) o.0 o.1) [
+              elim (in_append (holes_to_set (i + 1) holes) (holes_of edges) o.0 o.1) [
                 | inl k ↦
                     let f = pending_from (i + 1) holes o.0 k in
                     let g = pending_from i holes a.0 a.1 in
@@ -297,12 +297,12 @@ module _ (agreed : LaidOut) (t : ℕ) (words : List ℕ) (spots : List Spot) (po
           landed : IsLanded final old here rest targets (length mid.code) (length old.code)
           landed = closed_open final rest targets (length mid.code) (length old.code) here old fin_rest all_here one_way apart
 
-          fin_old : Finishes final old.code (pending i holes ++ holes_of edges) (length mid.code) (length old.code)
-          fin_old = λ q l h. agrees-sub final old.code old.code (pending i holes ++ holes_of edges) (here ++ rest) q refl (λ arm o. elim (in_append here rest o.0 o.1) [
-            | inl j ↦ (let a = way_of o.0 j in (a.0, in_left (pending i holes) (holes_of edges) a.0 a.1, sym (ap (λ (x : Hole). x.pc) a.3) ∙ o.2, sym (ap (λ (x : Hole). x.arm) a.3) ∙ o.3))
-            | inr j ↦ elim (in_append (pending (i + 1) holes) (holes_of edges) o.0 j) [
-              | inl k ↦ (o.0, in_left (pending i holes) (holes_of edges) o.0 (later_pending o.0 k), o.2, o.3)
-              | inr k ↦ (o.0, in_right (pending i holes) (holes_of edges) o.0 k, o.2, o.3)
+          fin_old : Finishes final old.code (holes_to_set i holes ++ holes_of edges) (length mid.code) (length old.code)
+          fin_old = λ q l h. agrees-sub final old.code old.code (holes_to_set i holes ++ holes_of edges) (here ++ rest) q refl (λ arm o. elim (in_append here rest o.0 o.1) [
+            | inl j ↦ (let a = way_of o.0 j in (a.0, in_left (holes_to_set i holes) (holes_of edges) a.0 a.1, sym (ap (λ (x : Hole). x.pc) a.3) ∙ o.2, sym (ap (λ (x : Hole). x.arm) a.3) ∙ o.3))
+            | inr j ↦ elim (in_append (holes_to_set (i + 1) holes) (holes_of edges) o.0 j) [
+              | inl k ↦ (o.0, in_left (holes_to_set i holes) (holes_of edges) o.0 (later_pending o.0 k), o.2, o.3)
+              | inr k ↦ (o.0, in_right (holes_to_set i holes) (holes_of edges) o.0 k, o.2, o.3)
             ]
           ]) (landed.finishes q l h)
 
@@ -311,7 +311,7 @@ module _ (agreed : LaidOut) (t : ℕ) (words : List ℕ) (spots : List Spot) (po
           agrees_way = record {
             same = λ q lo hi out.
                 let m = st.grows.longer in
-                (fin q (omega (arith, lo, len, m)) (omega (arith, hi, last))).same (λ arm o. elim (in_append (pending (i + 1) holes) (holes_of all) o.0 o.1) [
+                (fin q (omega (arith, lo, len, m)) (omega (arith, hi, last))).same (λ arm o. elim (in_append (holes_to_set (i + 1) holes) (holes_of all) o.0 o.1) [
                   | inl j ↦ (let s = st.are_holes o.0 (later_pending o.0 j) in let h = st.high in let z = o.2 in omega (arith, s.1, h, z, lo, len))
                   | inr j ↦ (let e = open_edge all q arm (o.0, j, o.2, o.3) in elim (edge_append edges (way_edge ∷ []) e.0 e.1) [
                     | inl k ↦ (let lt = hole_within old.code e.0.hole (st.are_open e.0 k).1 in let z = e.2 in omega (arith, lt, z, lo, len))
@@ -355,7 +355,7 @@ module _ (agreed : LaidOut) (t : ℕ) (words : List ℕ) (spots : List Spot) (po
 
           go : (known : List Known) (graph : Whole) (arms : List GraphArm) (other : Option ℕ) (plan : Plan) (n : ℕ) (mid : Sheet) (top : ℕ) → LeadsLeaf agreed graph t known position arms other i found → IsPlanOf agreed plan → (are : AreSpots plan n mid.slots spots) → AllBelow mid.slots words → mid.slots ≤ b.slots
               → (st : WaysStand mid top holes i old edges) → (k : Knows plan n (rebuilding plan.layouts (Named t)) t i words spots position.now o.known more b c) → (ways : AreOfOneWay holes)
-              → (final : List Instr) (callee : Callee) (next : Next) → Law final callee next → Finishes final way_code.code (pending (i + 1) holes ++ holes_of all) (length mid.code) (length way_code.code)
+              → (final : List Instr) (callee : Callee) (next : Next) → Law final callee next → Finishes final way_code.code (holes_to_set (i + 1) holes ++ holes_of all) (length mid.code) (length way_code.code)
               → (s : List ℕ) (w : World) (clean : Bool) (v part : Value) (layout : Layout) (leaf node1 group : ℕ) → way_code.slots ≤ length s → IsThereWith plan clean t v part words spots known s w.memory
               → part_at v position.now ≡ Some part → layout_of plan.layouts t ≡ Some layout → leaf_of layout part ≡ Some leaf → take_link arms other (out-Value part) ≡ Some node1 → (group ≡ i → leaf ≡ i)
               → (group < i → LeavesWhere (IsOnward agreed graph node1) plan final next edges n (choosing_look plan.layouts (Named t)) (length mid.code) s w clean v spots)
@@ -385,11 +385,11 @@ module _ (agreed : LaidOut) (t : ℕ) (words : List ℕ) (spots : List Spot) (po
               let kept = known-kept mid.slots plan clean v spots s q.slots w.memory q.keeps are.below known there.1 in
               let words1 : slots_at q.slots words ≡ slots_at s words = slots_at-kept mid.slots s q.slots words low q.keeps in
               let facts : List Known = known ++ K.Leaf position t i ∷ [] in
-              let all_facts : AreKnown (seen plan clean v spots q.slots w.memory) facts = leaf_known t i position plan clean v part layout spots q.slots w.memory known kept is_part is_layout is_i in
+              let all_facts : AreKnown (view_of plan clean v spots q.slots w.memory) facts = leaf_known t i position plan clean v part layout spots q.slots w.memory known kept is_part is_layout is_i in
               let shows : AllFollow agreed facts o.known = subst (ShowOnward agreed facts) is_found goes.shows in
               let there1 : IsThereWith plan clean t v part words spots o.known q.slots w.memory = (
                 (there.0.0, subst (λ ws. Rep plan w.memory clean (Named t) part ws) (sym words1) there.0.1),
-                shows (seen plan clean v spots q.slots w.memory) of all_facts,
+                shows (view_of plan clean v spots q.slots w.memory) of all_facts,
               ) in
               let p = k.runs clean v part layout is_layout is_i is_part in
               let r2 = p.runs final callee next law (agrees_way mid top st ways final fin) q.slots q.world (omega (arith, q.keeps.long, long)) (subst (λ m. IsThereWith plan clean t v part words spots o.known q.slots m) mem there1) in
@@ -408,7 +408,7 @@ module _ (agreed : LaidOut) (t : ℕ) (words : List ℕ) (spots : List Spot) (po
                 runs = q.runs ∙ ap (λ x. next x q.slots q.world) to ∙ r2.3 ∙ ap (λ x. next x r2.1 r2.2) r2.6.0 ∙ law.step pc (Jump j.0) r2.1 r2.2 j.1;
                 keeps = Keeps-trans n n s q.slots r2.1 (omega arith) (Keeps-less n mid.slots s q.slots are.low q.keeps) r2.4;
                 later = record { memory = r2.5.memory ∙ q.later.memory; left = r2.5.left ∙ q.later.left; switches = (let x = q.later.switches in let y = r2.5.switches in omega (arith, x, y)) };
-                known = subst (λ m. AreKnown (seen plan clean v spots r2.1 m) more) q.later.memory r2.6.1.1;
+                known = subst (λ m. AreKnown (view_of plan clean v spots r2.1 m) more) q.later.memory r2.6.1.1;
                 is_node = (
                   facts,
                   q.slots,
@@ -434,7 +434,7 @@ ways_lead agreed graph t words spots known position arms other onward old found 
     record {
       adds = f.adds;
       leaves = λ final callee next law fin s w clean v part layout leaf node long there is_part is_layout is_leaf takes group has.
-          let fin1 : Finishes final found.code holes (length old.code) (length found.code) = λ q l h. agrees-sub final found.code found.code holes (pending 0 holes ++ []) q refl (λ arm o. elim (in_append (pending 0 holes) [] o.0 o.1) [
+          let fin1 : Finishes final found.code holes (length old.code) (length found.code) = λ q l h. agrees-sub final found.code found.code holes (holes_to_set 0 holes ++ []) q refl (λ arm o. elim (in_append (holes_to_set 0 holes) [] o.0 o.1) [
             | inl j ↦ (o.0, (pending_from 0 holes o.0 j).0, o.2, o.3)
             | inr j ↦ absurd (let z = j.1 in cc)
           ]) (fin q l h) in (
@@ -475,11 +475,11 @@ module _ (nodes : List GraphNode) (known : List Known) (holes : List Hole) (coun
   abbrev pub both_edges : List Edge
   both_edges = edges ++ shared
 
-  shared_hole : (e : Edge) → IsEdge e shared → (h : Hole) × IsHoleAmong h (pending count holes) × (e ≡ shared_edge nodes count known h)
-  shared_hole e (k, at) = let m = get-map (shared_edge nodes count known) (pending count holes) k e at in (m.0, (k, m.1), m.2)
+  shared_hole : (e : Edge) → IsEdge e shared → (h : Hole) × IsHoleAmong h (holes_to_set count holes) × (e ≡ shared_edge nodes count known h)
+  shared_hole e (k, at) = let m = get-map (shared_edge nodes count known) (holes_to_set count holes) k e at in (m.0, (k, m.1), m.2)
 
-  shared_in : (h : Hole) → IsHoleAmong h (pending count holes) → IsEdge (shared_edge nodes count known h) shared
-  shared_in h (k, at) = (k, get-mapped (shared_edge nodes count known) (pending count holes) k h at)
+  shared_in : (h : Hole) → IsHoleAmong h (holes_to_set count holes) → IsEdge (shared_edge nodes count known h) shared
+  shared_in h (k, at) = (k, get-mapped (shared_edge nodes count known) (holes_to_set count holes) k h at)
 
   pub ways_open : AreOfOneWay holes → Grows old.code new.code → StandOpen old new both_edges
   ways_open ways grows = record {
@@ -507,11 +507,11 @@ module _ (nodes : List GraphNode) (known : List Known) (holes : List Hole) (coun
   ways_part agreed graph t words spots position arms other onward groups plan n counts here lead of are f = record {
     adds = f.adds;
     leaves = λ final callee next law fin s w clean v part layout leaf node long there is_part is_layout is_leaf takes.
-        let fin1 : Finishes final new.code (pending count holes ++ holes_of edges) (length old.code) (length new.code) = λ q l h.
-        agrees-sub final new.code new.code (pending count holes ++ holes_of edges) (holes_of both_edges) q refl
+        let fin1 : Finishes final new.code (holes_to_set count holes ++ holes_of edges) (length old.code) (length new.code) = λ q l h.
+        agrees-sub final new.code new.code (holes_to_set count holes ++ holes_of edges) (holes_of both_edges) q refl
         (λ arm o. let e = open_edge both_edges q arm o in elim (edge_append edges shared e.0 e.1) [
-          | inl k ↦ (let x = edge_open edges q arm e.0 k e.2 e.3 in (x.0, in_right (pending count holes) (holes_of edges) x.0 x.1, x.2, x.3))
-          | inr k ↦ (let x = shared_hole e.0 k in (x.0, in_left (pending count holes) (holes_of edges) x.0 x.1, sym (ap (λ (y : Edge). y.hole.pc) x.2) ∙ e.2, sym (ap (λ (y : Edge). y.hole.arm) x.2) ∙ e.3))
+          | inl k ↦ (let x = edge_open edges q arm e.0 k e.2 e.3 in (x.0, in_right (holes_to_set count holes) (holes_of edges) x.0 x.1, x.2, x.3))
+          | inr k ↦ (let x = shared_hole e.0 k in (x.0, in_left (holes_to_set count holes) (holes_of edges) x.0 x.1, sym (ap (λ (y : Edge). y.hole.pc) x.2) ∙ e.2, sym (ap (λ (y : Edge). y.hole.arm) x.2) ∙ e.3))
         ]) (fin q l h) in
         let b = (opened plan.program.types plan.layouts w.memory clean there.0.1).made in
         let same : b.layout ≡ layout = same_Some b.layout layout (sym b.is_layout ∙ is_layout) in
@@ -555,7 +555,7 @@ module _ (nodes : List GraphNode) (known : List Known) (holes : List Hole) (coun
           runs = q.runs;
           keeps = Keeps-less n old.slots s q.slots are.low q.keeps;
           later = record { memory = q.later.memory; left = q.later.left; switches = omega (arith, q.later.switches) };
-          known = carried_known nodes e.hole.leaf (seen plan clean v spots q.slots w.memory) known kept;
+          known = carried_known nodes e.hole.leaf (view_of plan clean v spots q.slots w.memory) known kept;
           is_node = (
             known ++ K.Leaf position t leaf ∷ [],
             q.slots,
@@ -601,8 +601,8 @@ asks_deep agreed graph t spots reads known position arms other onward old mid ne
             runs = r.3 ∙ ap (λ pc. next pc r.1 r.2) r.6.0 ∙ q.runs;
             keeps = Keeps-trans n n s r.1 q.slots (omega arith) (Keeps-less n old.slots s r.1 low r.4) q.keeps;
             later = record { memory = q.later.memory ∙ r.5.memory; left = q.later.left ∙ r.5.left; switches = (let y = r.5.switches in let z = q.later.switches in omega (arith, y, z)) };
-            known = subst (λ m. AreKnown (seen plan clean v spots q.slots m) q.edge.known) r.5.memory q.known;
-            is_node = subst (λ m. IsOnward agreed graph node (seen plan clean v spots q.slots m) q.edge.hole.leaf) r.5.memory q.is_node;
+            known = subst (λ m. AreKnown (view_of plan clean v spots q.slots m) q.edge.known) r.5.memory q.known;
+            is_node = subst (λ m. IsOnward agreed graph node (view_of plan clean v spots q.slots m) q.edge.hole.leaf) r.5.memory q.is_node;
           };
     }
 

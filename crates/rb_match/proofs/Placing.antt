@@ -34,7 +34,7 @@ use Rattle.rb_match.specs.declared.place.Place.{Place}
 use Rattle.rb_match.specs.Bounding.{places_in, places_step, places_below, place_below}
 use Rattle.rb_match.specs.Bounding as bounding
 use Rattle.rb_match.specs.declared.knowledge.Spot.{Spot}
-use Rattle.rb_match.specs.inner.Knowing.{FollowsLeaf, FollowsSaved, seen}
+use Rattle.rb_match.specs.inner.Knowing.{FollowsLeaf, FollowsSaved, view_of}
 use Rattle.rb_match.specs.inner.Places.{IsFieldOf, FindsPlace, IsSpotOf, StepsPlace, IsPlaceIn, HasPlace}
 
 -- Parts
@@ -71,7 +71,7 @@ reaches agreed place known prefix path t leaf ty reads root words spots named fo
       fit = λ k h b. r.fit k (p.fit k h b);
       means = λ clean v ws s m good meant rep all.
           let a = p.means clean v ws s m good meant rep all in
-          let k = follow (seen plan clean v spots s m) all in
+          let k = follow (view_of plan clean v spots s m) all in
           let part : k.0 ≡ a.part = same_Some k.0 a.part (sym k.2 ∙ a.is_part) in
           let layout : k.1 ≡ f.layout = same_Some k.1 f.layout (sym k.3 ∙ f.is_layout) in
           let is_leaf : leaf_of f.layout a.part ≡ Some leaf = sym (ap (λ (y : Layout). leaf_of y a.part) layout) ∙ sym (ap (leaf_of k.1) part) ∙ k.4 in
@@ -106,7 +106,7 @@ spot_place agreed spots known position k spot at same follows = λ ty words plan
   count = length-map spot.slots (λ x. Slot x) ∙ have k spot at;
   fit = λ n h b. slots_fit n spot.slots (b k spot at);
   means = λ clean v ws s m good meant rep all.
-      let h = follows (seen plan clean v spots s m) all in
+      let h = follows (view_of plan clean v spots s m) all in
       let is : h.0 ≡ spot = same_Some h.0 spot (sym h.1 ∙ at) in
       record {
         part = h.2.0;

@@ -36,7 +36,7 @@ use Rattle.rb_match.specs.Bounding.{binding_bound, binding_look, choosing_look, 
 use Rattle.rb_match.specs.inner.Asking.{AreSpots}
 use Rattle.rb_match.specs.Choosing.{BindsPattern}
 use Rattle.rb_match.specs.inner.Binding.{AreSeen, BindsSaved, BindsSpot, BindsSpots, FieldMatches, FieldsMatch, SavesTogether, fields_bound, is_unbound}
-use Rattle.rb_match.specs.inner.Knowing.{FollowsSaved, seen}
+use Rattle.rb_match.specs.inner.Knowing.{FollowsSaved, view_of}
 use Rattle.rb_match.specs.inner.Saving.{Anything, GivesSpots, IsSpotAt, IsThere}
 use Rattle.rb_match.proofs.Unbound.{unbound_binds}
 use Rattle.rb_match.proofs.Bindings.{begins_with, con_bound, fields_more, kept, scope-append}
@@ -87,7 +87,7 @@ spot_binds agreed spots known sub field i k spot old new bound at place of_type 
           (λ s m. Holds plan clean s m bound (bindings sub part)) (λ s m. Holds plan clean s m bound bs) (omega arith) (omega arith)
           (λ s m x. (
             x.0,
-            (let h = follows (seen plan clean v spots s m) x.1 in
+            (let h = follows (view_of plan clean v spots s m) x.1 in
                 let is : h.0 ≡ spot = same_Some h.0 spot (sym h.1 ∙ at) in
                 let here : part_at v h.0.position ≡ Some part = ap (λ (y : Spot). part_at v y.position) is ∙ ap (part_at v) place ∙ parts.1 in
                 let same : h.2.0 ≡ part = same_Some h.2.0 part (sym h.2.1 ∙ here) in

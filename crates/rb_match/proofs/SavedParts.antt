@@ -12,7 +12,7 @@ use Rattle.rb_fragment.specs.Plan.{Plan, words_needed}
 use Rattle.rb_fragment.specs.Pieces.{AtEnd, Straight}
 use Rattle.rb_fragment.specs.Slots.{AllBelow, AllFrom, SlotsAreApart, IsDistinct, IsOneOf, slots_from}
 use Rattle.rb_fragment.proofs.Holds.{AllBelow-more}
-use Rattle.rb_fragment.proofs.Moves.{one-below, slots_from-above, slots_from-below, slots_from-distinct, slots_from-from, slots_from-length}
+use Rattle.rb_fragment.proofs.Moves.{copied, one-below, slots_from-above, slots_from-below, slots_from-distinct, slots_from-from, slots_from-length}
 use Rattle.rb_fragment.proofs.Pieces.{piece_none, piece_weaken, straight_seq}
 use Rattle.rb_fragment.proofs.Steps.{straight_const}
 use Rattle.rb_match.specs.declared.knowledge.Spot.{Spot}
@@ -29,7 +29,7 @@ use Rattle.rb_target.specs.Meaning.{slots_at}
 use Rattle.rb_layout.specs.Positions.{layout_of, leaf_of}
 use Rattle.rb_fragment.specs.Plan.{Rep}
 use Rattle.rb_fragment.specs.Pieces.{CodePiece}
-use Rattle.rb_fragment.specs.Slots.{copied, copies}
+use Rattle.rb_fragment.specs.Slots.{copies}
 use Rattle.rb_fragment.proofs.Adding.{Adds-refl, Adds-trans}
 use Rattle.rb_fragment.proofs.Moves.{copied-other, slots_at-copied}
 use Rattle.rb_fragment.proofs.Pieces.{piece_frame, straight_write}
@@ -54,7 +54,7 @@ use Rattle.rb_match.proofs.Mending.{has_part}
 use Rattle.rb_match.specs.declared.knowledge.Known.{Known}
 use Rattle.rb_match.specs.declared.knowledge.Known.TheVariants.{Leaf, Saved}
 use Rattle.rb_match.specs.inner.Asking.{AreSpots}
-use Rattle.rb_match.specs.inner.Knowing.{AreKnown, IsKnown, IsSaved, seen}
+use Rattle.rb_match.specs.inner.Knowing.{AreKnown, IsKnown, IsSaved, view_of}
 use Rattle.rb_match.specs.inner.Saving.{Anything, FetchesPart, GivesSpots, IsPositionOf, IsSpotAt, IsThere, HasBelow, IsThereWith, KeepsOthers, Learns, SavesAt, SavesPart, Zeroes, mend_at, mend_pattern, pattern_at, provenance}
 use Rattle.rb_match.proofs.Composing.{pieces}
 use Rattle.rb_match.proofs.Edges.{other-nat, same-nat}
@@ -314,7 +314,7 @@ saves_field agreed t leaf path k words spots spot position known old new at ther
             runs = λ final callee next law agrees s w long pre.
                 let r = (p.runs clean part has.0 layout s is is_leaf has.1).runs final callee next law agrees s w long (refl, pre.0) in
                 let m = w.memory in
-                let view = seen plan clean v spots r.1 m in
+                let view = view_of plan clean v spots r.1 m in
                 let others = r.6.1.0 in
                 let words1 : slots_at r.1 words ≡ slots_at s words = slots_at-apart old.slots spot.slots words s r.1 others low p.apart in
                 let is_there : IsThere plan clean t part words r.1 m = (pre.0.0, subst (λ ws. Rep plan m clean (Named t) part ws) (sym words1) pre.0.1) in
@@ -328,13 +328,13 @@ saves_field agreed t leaf path k words spots spot position known old new at ther
           };
     }
   where
-    kept : (plan : Plan) (n : ℕ) (clean : Bool) (v : Value) (s s' : List ℕ) (m : Memory) → AreSpots plan n old.slots spots → slice_get spots k ≡ Some spot → IsSaved (seen plan clean v spots s' m) k → KeepsOthers old.slots spot.slots s s' → (x : Known)
-        → IsKnown (seen plan clean v spots s m) x → IsKnown (seen plan clean v spots s' m) x
+    kept : (plan : Plan) (n : ℕ) (clean : Bool) (v : Value) (s s' : List ℕ) (m : Memory) → AreSpots plan n old.slots spots → slice_get spots k ≡ Some spot → IsSaved (view_of plan clean v spots s' m) k → KeepsOthers old.slots spot.slots s s' → (x : Known)
+        → IsKnown (view_of plan clean v spots s m) x → IsKnown (view_of plan clean v spots s' m) x
     kept plan n clean v s s' m are at here others (Leaf q u l) h = h
     kept plan n clean v s s' m are at here others (Saved j) h = go (j == k) refl
       where
-        go : (u : Bool) → (j == k) ≡ u → IsSaved (seen plan clean v spots s' m) j
-        go true e = subst (IsSaved (seen plan clean v spots s' m)) (sym (same-nat j k e)) here
+        go : (u : Bool) → (j == k) ≡ u → IsSaved (view_of plan clean v spots s' m) j
+        go true e = subst (IsSaved (view_of plan clean v spots s' m)) (sym (same-nat j k e)) here
         go false e =
             let other = are.apart k j spot h.0 at h.1 (λ same. other-nat j k e (sym same)) in
             (h.0, h.1, (h.2.0, h.2.1, subst (λ ws. Rep plan m clean h.0.ty h.2.0 ws) (sym (slots_at-apart old.slots spot.slots h.0.slots s s' others (are.below j h.0 h.1) other)) h.2.2))

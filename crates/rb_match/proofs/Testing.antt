@@ -25,7 +25,7 @@ use Rattle.rb_match.specs.declared.spots.Whole.{Whole}
 use Rattle.rb_layout.specs.declared.agreed.LaidOut.{LaidOut}
 use Rattle.rb_fetch.specs.Finding.{IsPlanOf}
 use Rattle.rb_match.specs.Bounding.{TypedPosition, choosing_look}
-use Rattle.rb_match.specs.inner.Knowing.{AreKnown, seen}
+use Rattle.rb_match.specs.inner.Knowing.{AreKnown, view_of}
 use Rattle.rb_match.specs.inner.Asking.{holes_of, AreOpen, StandOpen, Asked}
 use Rattle.rb_match.specs.inner.Flowing.{Job, looks, Flows, FlowsHere, job_of}
 use Rattle.rb_match.specs.inner.Opening.{IsOnward}
@@ -103,7 +103,7 @@ module _ (agreed : LaidOut) (graph : Whole) (plan : Plan) (base : ℕ) (spots : 
               let mem = sym l.later.memory in
               let meant = meant-kept job.base s l.slots w.memory l.keeps job.words given.ws fit given.meant in
               let r = asked.leaves final callee next law (second_part final fin) l.slots l.world v t.part clean given.ws t.node (omega (arith, long, l.keeps.long)) (subst IsGood mem given.good)
-              (subst (λ m. AreMeant job.words l.slots m given.ws) mem meant) (subst (λ m. Rep job.plan m clean job.ty v given.ws) mem given.represents) (subst (λ m. AreKnown (seen job.plan clean v job.spots l.slots m) known) mem l.is_known) t.is_part t.is_node in
+              (subst (λ m. AreMeant job.words l.slots m given.ws) mem meant) (subst (λ m. Rep job.plan m clean job.ty v given.ws) mem given.represents) (subst (λ m. AreKnown (view_of job.plan clean v job.spots l.slots m) known) mem l.is_known) t.is_part t.is_node in
               let place : TypedPosition = record { path = position; ty = asked.at } in
               let p = passes job lower n position arms other at v given.clause l.path asked.at given.takes l.on asked.looked t in
               let sum = looks-snoc job.plan l.path place in
@@ -120,7 +120,7 @@ module _ (agreed : LaidOut) (graph : Whole) (plan : Plan) (base : ℕ) (spots : 
                 keeps = Keeps-trans job.base job.base s l.slots r.slots (omega arith) l.keeps r.keeps;
                 path = on.0;
                 later = record { memory = costs.memory; left = costs.left; switches = (let x = costs.switches in let y = on.1 in omega (arith, x, y, sum)) };
-                known = subst (λ m. AreKnown (seen job.plan clean v job.spots r.slots m) r.edge.known) l.later.memory r.known;
+                known = subst (λ m. AreKnown (view_of job.plan clean v job.spots r.slots m) r.edge.known) l.later.memory r.known;
                 on = on.2;
               }
         ];

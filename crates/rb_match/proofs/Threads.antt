@@ -22,7 +22,7 @@ use Rattle.rb_match.specs.declared.knowledge.Known.{Known}
 use Rattle.rb_match.specs.declared.knowledge.Edge.{Edge}
 use Rattle.rb_match.specs.declared.knowledge.Spot.{Spot}
 use Rattle.rb_match.specs.Bounding.{TypedPosition}
-use Rattle.rb_match.specs.inner.Knowing.{IsEdge, seen}
+use Rattle.rb_match.specs.inner.Knowing.{IsEdge, view_of}
 use Rattle.rb_match.specs.inner.Places.{IsLookedAt}
 use Rattle.rb_match.specs.inner.Asking.{holes_of, take_link}
 use Rattle.rb_match.specs.inner.Flowing.{Flows, IsOn, job_of}
@@ -65,13 +65,13 @@ module _ (agreed : LaidOut) (ty : Ty) (pats : List Pat) (nodes : List GraphNode)
   -- where less is known
   pub leads_less : (known more : List Known) (n m : ℕ) → AllFollow agreed known more → LeadsOn agreed ty pats nodes more n m → LeadsOn agreed ty pats nodes known n m
   leads_less known more n m follow f = λ plan base spots words root first of lower clean v s w clause path all root_takes on.
-      f plan base spots words root first of lower clean v s w clause path (follow (seen plan clean v spots s w) of all) root_takes on
+      f plan base spots words root first of lower clean v s w clause path (follow (view_of plan clean v spots s w) of all) root_takes on
 
   pub leads_test : (known : List Known) (n m : ℕ) (position : List ℕ) (arms : List GraphArm) (other : Option ℕ) → slice_get nodes n ≡ Some (Test position arms other) → IsDecided agreed ty pats known position arms other m → LeadsOn agreed ty pats nodes known n m
   leads_test known n m position arms other at d = λ plan base spots words root first of lower clean v s w clause path all root_takes on.
       let job = job_of plan base spots ty words pats nodes root first in
       let t = tested job lower n position arms other at v clause (on.same clause root_takes) in
-      let k = d.takes (seen plan clean v spots s w) of all in
+      let k = d.takes (view_of plan clean v spots s w) of all in
       let same : t.part ≡ k.0 = same_Some t.part k.0 (sym t.is_part ∙ k.1) in
       let node : t.node ≡ m = same_Some t.node m (sym t.is_node ∙ ap (λ u. take_link arms other (out-Value u)) same ∙ k.2) in
       let place : TypedPosition = record { path = position; ty = d.at } in
@@ -174,7 +174,7 @@ module _ (agreed : LaidOut) (ty : Ty) (pats : List Pat) (nodes : List GraphNode)
           keeps = r.keeps;
           path = l.0;
           later = record { memory = r.later.memory; left = r.later.left; switches = (let x = r.later.switches in let y = l.1 in omega (arith, x, y)) };
-          known = b.2.known (seen plan clean v spots r.slots w.memory) of r.known;
+          known = b.2.known (view_of plan clean v spots r.slots w.memory) of r.known;
           on = l.2;
         };
   }

@@ -25,7 +25,7 @@ use Rattle.rb_match.specs.declared.knowledge.Known.{Known}
 use Rattle.rb_match.specs.declared.knowledge.Spot.{Spot}
 use Rattle.rb_match.specs.declared.knowledge.Edge.{Edge}
 use Rattle.rb_match.specs.declared.spots.Whole.{Whole}
-use Rattle.rb_match.specs.inner.Knowing.{IsCommonKnowledge, seen}
+use Rattle.rb_match.specs.inner.Knowing.{IsCommonKnowledge, view_of}
 use Rattle.rb_match.specs.inner.Asking.{StandOpen, holes_of, take_link}
 use Rattle.rb_match.specs.inner.Binding.{SavesTogether}
 use Rattle.rb_match.specs.inner.Flowing.{landing_of}
@@ -68,7 +68,7 @@ saves_together agreed graph c words spots known old b edges asks none stand comm
                 let is_node : r.edge.hole.leaf ≡ 0 = r.is_node.3.1 none in
                 let s1 = stand.are_open r.edge r.is_edge in
                 let to : r.target ≡ length new.code = same_Some r.target (length b.code) (sym r.is_target ∙ shut.leads (landing 0 r.edge) (landed 0 edges r.edge r.is_edge is_node) s1.0 (hole_within b.code r.edge.hole s1.1)) ∙ sym len in
-                let facts = common (seen plan clean v spots r.slots w.memory) r.edge r.is_edge is_node r.known in
+                let facts = common (view_of plan clean v spots r.slots w.memory) r.edge r.is_edge is_node r.known in
                 (length new.code, r.slots, r.world, r.runs ∙ ap (λ k. next k r.slots r.world) to, r.keeps, r.later, (refl, (pre.0, facts)));
           };
     }

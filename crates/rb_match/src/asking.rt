@@ -15,7 +15,7 @@ ghost use Rattle.std.specs.Prelude.{◌≡◌, ◌++◌, ◌<◌, ◌^◌, [], I
 ghost use Rattle.rb_core.specs.declared.value.Value.TheOpen as Layers;
 ghost use Rattle.rb_target.specs.Growth.{Grows};
 ghost use Rattle.rb_fetch.specs.Finding.{leaf_count};
-ghost use Rattle.rb_match.specs.inner.Asking.{number_arm, number_arms, is_number, are_numbers, is_test, carried, edge_at, edge_in, arm_edges, else_edges, leaf_con, link_at, take_link, node_for, facts_for, IsGrouped, AreGroups, edge_for, leaf_edges_of, StandOpen, AsksNumber, AsksLeaf};
+ghost use Rattle.rb_match.specs.inner.Asking.{number_arm, number_arms, is_number, are_numbers, is_test, known_at_node, edge_at, edge_in, arm_edges, else_edges, leaf_con, link_at, take_link, node_for, facts_for, IsGrouped, AreGroups, edge_for, leaf_edges_of, StandOpen, AsksNumber, AsksLeaf};
 ghost use Rattle.rb_match.specs.inner.Opening.{Asks};
 
 use crate::deep::ask_deep;
@@ -396,7 +396,7 @@ fn known_within<'a>(
     group: usize,
 ) -> Result<Seq<Known<'a>>, AllocError>
     ensures { IfOk result
-        (λ k. k ≡ carried nodes.now node (facts_for agreed.now ty position.entry known.now group)) }
+        (λ k. k ≡ known_at_node nodes.now node (facts_for agreed.now ty position.entry known.now group)) }
 {
     if !is_test_at(nodes, node) {
         return Ok(Seq::new(alloc));

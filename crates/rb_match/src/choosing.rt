@@ -83,7 +83,7 @@ fn emit_tree(
     Ok(holes)
 }
 
-/// Code that leaves by a hole of the first clause that matches the value whose words stand in some
+/// Code that goes out by a hole of the clause that is chosen for the value whose words stand in some
 /// slots, a word each. Arms of switches are holes themselves. A tree that is too large is not made:
 /// clauses are tried one by one.
 ///

@@ -34,6 +34,10 @@ none-of_length (h ∷ hs) e = absurd (omega (arith, e))
 abbrev pub NumberAnswer : List Head → ℕ → Option ℕ → Type 0
 NumberAnswer hs most r = MatchOption r ((m : ℕ) → m ≤ most → any_begins hs (V.Num m) ≡ true) (λ m. (m ≤ most) × (any_begins hs (V.Num m) ≡ false) × ((j : ℕ) → j < m → any_begins hs (V.Num j) ≡ true))
 
+-- what the first constructor that is missing of so many answers
+abbrev pub ConAnswer : List Head → ℕ → Option ℕ → Type 0
+ConAnswer hs count r = MatchOption r ((k : ℕ) → k < count → any_begins hs (V.Con k []) ≡ true) (λ k. (k < count) × (any_begins hs (V.Con k []) ≡ false) × ((j : ℕ) → j < k → any_begins hs (V.Con j []) ≡ true))
+
 module _ (types : List DataDecl) where
   -- no head at all
   pub wild-absent : AreInhabited types → (t : Ty) (hs : List Head) → IsTypeIn types t → hs ≡ [] → IsAbsent types t (any_begins hs) (Wild 0)

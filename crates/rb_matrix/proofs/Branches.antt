@@ -1,6 +1,6 @@
 -- Branches: what is left of a problem by the heads of its first column.
-use Rattle.std.proofs.Common.{◌≡◌, ◌*◌, ◌≤◌, List, [], ◌∷◌, ◌++◌, length, Bool, true, false, ◌||◌, Option, Some, None, refl, sym, ap, ◌∙◌, arith, ◌⊎◌, inl, inr}
-use Rattle.std.proofs.lemmas.Bool.{false≢true}
+use Rattle.std.proofs.Common.{◌≡◌, ◌*◌, ◌≤◌, List, [], ◌∷◌, ◌++◌, length, true, Option, Some, None, refl, sym, ap, ◌∙◌, arith, inl, inr}
+use Rattle.std.proofs.lemmas.Bool.{false≢true, or_cases}
 use Rattle.std.proofs.lemmas.List.{length-append}
 use Rattle.rb_core.specs.declared.value.Value.{Value, out-Value}
 use Rattle.rb_core.specs.declared.types.DataDecl.{DataDecl}
@@ -72,15 +72,11 @@ module _ (types : List DataDecl) where
     abbrev IsMade : Option Problem → Type 0
     IsMade o = IsPartAt types b.ty b.behind.tys (parent b) h o
 
-    cases : (a b : Bool) → (a || b) ≡ true → (a ≡ true) ⊎ (b ≡ true)
-    cases true b h = inl refl
-    cases false b h = inr h
-
     -- no vector begins with one of the others, and none with this
     none-more : (hs : List Head) → b.heads ≡ hs ++ h ∷ [] → NoneByHead types (record { ty = b.ty; behind = b.behind; heads = hs; groups = b.groups })
         → NoneBy types b.ty b.behind.tys (parent b) h → NoneByHead types b
     none-more hs e others this v vs begun =
-        elim (cases (any_begins hs (out-Value v)) (begins h v) (sym (any_begins-append hs h (out-Value v)) ∙ ap (λ l. any_begins l (out-Value v)) (sym e) ∙ begun))
+        elim (or_cases (any_begins hs (out-Value v)) (begins h v) (sym (any_begins-append hs h (out-Value v)) ∙ ap (λ l. any_begins l (out-Value v)) (sym e) ∙ begun))
         [ inl a ↦ others v vs a | inr a ↦ this v vs a ]
 
     pub next-split : (hs : List Head) (o : Option Problem) → b.heads ≡ hs ++ h ∷ [] → IsMade o

@@ -2,7 +2,7 @@
 use Rattle.std.proofs.Common.{◌≡◌, ℕ, zero, suc, List, [], ◌∷◌, ◌++◌, map, take, Bool, true, false, ◌&&◌, ◌||◌, ◌==◌, Some, refl, sym, ap, ◌∙◌, subst, arith, ◌⊎◌, inl, inr}
 use Rattle.std.specs.Prelude.{slice_get, Contains}
 use Rattle.std.specs.Bool.{OnTrue}
-use Rattle.std.proofs.Math.Bool.{and-true}
+use Rattle.std.proofs.Math.Bool.{and-true, or-false, or_assoc}
 use Rattle.std.proofs.lemmas.Bool.{eqb-true, false≢true}
 use Rattle.std.proofs.lemmas.Option.{same_Some}
 use Rattle.std.proofs.lemmas.List.Elements.{Contains-push_cases}
@@ -56,21 +56,13 @@ module _ (at bt : ℕ) (c d : ConRef) (ps qs : List Pat) where
 
 -- Rows -------------------------------------------------------------------------------------------
 
-or-false : (b : Bool) → (b || false) ≡ b
-or-false true = refl
-or-false false = refl
-
 or-true : (b : Bool) → (b || true) ≡ true
 or-true true = refl
 or-true false = refl
 
-pub or-assoc : (a b c : Bool) → (a || (b || c)) ≡ ((a || b) || c)
-or-assoc true b c = refl
-or-assoc false b c = refl
-
 any_row-append : (rows : List (List Pat)) (q : Pat) (v : Value) → any_row (rows ++ (q ∷ []) ∷ []) (v ∷ []) ≡ (any_row rows (v ∷ []) || matches_of q v)
 any_row-append [] q v = or-false (matches_of q v && true) ∙ and-true (matches_of q v)
-any_row-append (r ∷ rows) q v = ap (λ b. row_matches r (v ∷ []) || b) (any_row-append rows q v) ∙ or-assoc (row_matches r (v ∷ [])) (any_row rows (v ∷ [])) (matches_of q v)
+any_row-append (r ∷ rows) q v = ap (λ b. row_matches r (v ∷ []) || b) (any_row-append rows q v) ∙ sym (or_assoc (row_matches r (v ∷ [])) (any_row rows (v ∷ [])) (matches_of q v))
 
 pub take-suc : (ps : List Pat) (i : ℕ) (p : Pat) → slice_get ps i ≡ Some p → take (suc i) ps ≡ take i ps ++ p ∷ []
 take-suc [] i p at = cc

@@ -1,10 +1,9 @@
 -- Rows grouped by the heads that they begin with.
 use Rattle.std.proofs.Common.{◌≡◌, ℕ, ◌+◌, ◌<◌, ◌≤◌, List, [], ◌∷◌, ◌++◌, take, length, get_or, Bool, true, false, ◌&&◌, ◌==◌, Option, Some, None, refl, sym, ap, ◌∙◌, subst, arith, inl, inr, append-nil}
 use Rattle.std.specs.Prelude.{nat_lt, if◌then◌else◌, option_map}
-use Rattle.std.proofs.lemmas.Bool.{eqb-true, cases_eq}
-use Rattle.std.proofs.lemmas.Bool.Decides.{nat_tests}
-use Rattle.std.proofs.lemmas.Option.{same_Some}
-use Rattle.std.proofs.lemmas.List.{take_more, take_all}
+use Rattle.std.proofs.lemmas.Bool.{eqb-true, cases_eq, lt-ltb, le-ltb}
+use Rattle.std.proofs.lemmas.Option.{none-some, same_Some}
+use Rattle.std.proofs.lemmas.List.{map-append, take_more, take_all}
 use Rattle.rb_core.specs.declared.pattern.Pat.{Pat, out-Pat}
 use Rattle.rb_core.specs.declared.pattern.Pat.TheOpen as P
 use Rattle.rb_core.specs.declared.pattern.Pat.TheOpen.{Pat-F}
@@ -14,7 +13,6 @@ use Rattle.rb_matrix.specs.declared.groups.Groups.{Groups}
 use Rattle.rb_matrix.specs.Heads.{layer_head}
 use Rattle.rb_matrix.specs.Specialize.{special_image, special_row, special, keep}
 use Rattle.rb_matrix.specs.inner.Groups.{beside, merged, numbers_with, near, HasNoNumber, IsGrouped, IsNumberAdded, key_of_head, row_key, rows_at, AreGrouped}
-use Rattle.rb_matrix.proofs.Parts.{none≢some}
 
 -- Merged numbers ----------------------------------------------------------------------------------
 
@@ -31,17 +29,11 @@ below-push : (i : ℕ) (ns : List ℕ) → AreBelow i ns → AreBelow (i + 1) (n
 below-push i [] h = (omega arith, tt)
 below-push i (n ∷ ns) h = (let a = h.0 in omega (arith, a), below-push i ns h.1)
 
-is-less : (n i : ℕ) → n < i → nat_lt n i ≡ true
-is-less n i lt = grind (arith, nat_tests, lt)
-
-is-more : (n i : ℕ) → n < i → nat_lt i n ≡ false
-is-more n i lt = grind (arith, nat_tests, lt)
-
 -- a number above all comes last, in either list
 module _ (i : ℕ) where
   module _ (n : ℕ) (rest : List ℕ → List ℕ) (less : n < i) (on : (ms : List ℕ) → rest (ms ++ i ∷ []) ≡ rest ms ++ i ∷ []) where
     beside-push : (ms : List ℕ) → beside n rest (ms ++ i ∷ []) ≡ beside n rest ms ++ i ∷ []
-    beside-push [] = ap (λ b. if b then n ∷ rest (i ∷ []) else i ∷ beside n rest []) (is-less n i less) ∙ ap (λ l. n ∷ l) (on [])
+    beside-push [] = ap (λ b. if b then n ∷ rest (i ∷ []) else i ∷ beside n rest []) (lt-ltb n i less) ∙ ap (λ l. n ∷ l) (on [])
     beside-push (m ∷ ms) = by (nat_lt n m) (beside-push ms)
       where
         by : (b : Bool) → beside n rest (ms ++ i ∷ []) ≡ beside n rest ms ++ i ∷ [] → (if b then n ∷ rest (m ∷ ms ++ i ∷ []) else m ∷ beside n rest (ms ++ i ∷ [])) ≡ (if b then n ∷ rest (m ∷ ms) else m ∷ beside n rest ms) ++ i ∷ []
@@ -63,7 +55,7 @@ module _ (i : ℕ) where
 
   merged-last : (ms : List ℕ) → AreBelow i ms → merged (i ∷ []) ms ≡ ms ++ i ∷ []
   merged-last [] below = refl
-  merged-last (m ∷ ms) below = ap (λ b. if b then i ∷ m ∷ ms else m ∷ merged (i ∷ []) ms) (is-more m i below.0) ∙ ap (λ l. m ∷ l) (merged-last ms below.1)
+  merged-last (m ∷ ms) below = ap (λ b. if b then i ∷ m ∷ ms else m ∷ merged (i ∷ []) ms) (le-ltb i m (let less = below.0 in omega (arith, less))) ∙ ap (λ l. m ∷ l) (merged-last ms below.1)
 
   pub merged-left : (ns ms : List ℕ) → AreBelow i ms → merged (ns ++ i ∷ []) ms ≡ merged ns ms ++ i ∷ []
   merged-left [] ms below = merged-last ms below
@@ -79,14 +71,10 @@ special-append : (h : Head) (n : ℕ) (rs ss : List (List Pat)) → special h n 
 special-append h n [] ss = refl
 special-append h n (r ∷ rs) ss = ap (keep (special_row h n r)) (special-append h n rs ss) ∙ keep-append (special_row h n r) (special h n rs) (special h n ss)
 
-rows_at-push : (rows : List (List Pat)) (ns : List ℕ) (i : ℕ) → rows_at rows (ns ++ i ∷ []) ≡ rows_at rows ns ++ get_or rows i [] ∷ []
-rows_at-push rows [] i = refl
-rows_at-push rows (n ∷ ns) i = ap (λ l. get_or rows n [] ∷ l) (rows_at-push rows ns i)
-
 -- a row with another key has no specialised row
 layer-other : (h : Head) (n : ℕ) (rest : List Pat) (l : Pat-F Pat) (q : ℕ) → option_map key_of_head (layer_head l) ≡ Some q → (q ≡ key_of_head h → ⊥) → special_image h n rest l ≡ None
-layer-other h n rest (P.Wild at) q e ne = none≢some q e
-layer-other h n rest (P.Var at x) q e ne = none≢some q e
+layer-other h n rest (P.Wild at) q e ne = absurd (none-some q e)
+layer-other h n rest (P.Var at x) q e ne = absurd (none-some q e)
 layer-other (H.Num m) n rest (P.Num at k) q e ne = by (k == m) refl
   where
     by : (b : Bool) → (k == m) ≡ b → (if b then Some rest else None) ≡ None
@@ -131,7 +119,7 @@ module _ (rows : List (List Pat)) (i : ℕ) (x y : Groups) (within : i < length 
 
   with-row : (h : Head) (n : ℕ) → near y (key_of_head h) ≡ near x (key_of_head h) ++ i ∷ [] → special h n (rows_at rows (near y (key_of_head h))) ≡ special h n (take (i + 1) rows)
   with-row h n e =
-      ap (λ ns. special h n (rows_at rows ns)) e ∙ ap (special h n) (rows_at-push rows (near x (key_of_head h)) i)
+      ap (λ ns. special h n (rows_at rows ns)) e ∙ ap (special h n) (map-append (λ n. get_or rows n []) (near x (key_of_head h)) (i ∷ []))
       ∙ special-append h n (rows_at rows (near x (key_of_head h))) (row ∷ []) ∙ ap (λ l. l ++ special h n (row ∷ [])) (f.same h n) ∙ sym (one-more h n)
 
   without-row : (h : Head) (n : ℕ) → near y (key_of_head h) ≡ near x (key_of_head h) → special_row h n row ≡ None → special h n (rows_at rows (near y (key_of_head h))) ≡ special h n (take (i + 1) rows)

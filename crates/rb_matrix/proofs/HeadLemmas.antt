@@ -1,5 +1,6 @@
 -- Heads of columns.
 use Rattle.std.proofs.Common.{◌≡◌, ℕ, List, [], ◌∷◌, ◌++◌, Bool, true, false, ◌||◌, ◌==◌, refl, sym, ap, ◌∙◌}
+use Rattle.std.proofs.Math.Bool.{or-false, or_assoc}
 use Rattle.std.proofs.lemmas.Bool.{eqb-true, false≢true}
 use Rattle.rb_core.specs.declared.value.Value.{Value}
 use Rattle.rb_core.specs.declared.value.Value.TheOpen as V
@@ -8,17 +9,9 @@ use Rattle.rb_matrix.specs.declared.matrix.Head.{Head}
 use Rattle.rb_matrix.specs.declared.matrix.Head.TheVariants as H
 use Rattle.rb_matrix.specs.Heads.{layer_begins, any_begins, sample}
 
-or-assoc : (a b c : Bool) → (a || (b || c)) ≡ ((a || b) || c)
-or-assoc true b c = refl
-or-assoc false b c = refl
-
-or-false : (a : Bool) → (a || false) ≡ a
-or-false true = refl
-or-false false = refl
-
 pub any_begins-append : (hs : List Head) (h : Head) (l : Value-F Value) → any_begins (hs ++ h ∷ []) l ≡ (any_begins hs l || layer_begins h l)
 any_begins-append [] h l = or-false (layer_begins h l)
-any_begins-append (g ∷ hs) h l = ap (λ b. layer_begins g l || b) (any_begins-append hs h l) ∙ or-assoc (layer_begins g l) (any_begins hs l) (layer_begins h l)
+any_begins-append (g ∷ hs) h l = ap (λ b. layer_begins g l || b) (any_begins-append hs h l) ∙ sym (or_assoc (layer_begins g l) (any_begins hs l) (layer_begins h l))
 
 -- what begins with one head is alike to every other head
 alike : (g h : Head) (l : Value-F Value) → layer_begins h l ≡ true → layer_begins g l ≡ layer_begins g (sample h)

@@ -1,6 +1,6 @@
 -- What stands in patterns and values at a path, and which numbers an index keeps.
-use Rattle.std.proofs.Common.{◌≡◌, ℕ, zero, suc, ◌+◌, ◌<◌, List, [], ◌∷◌, ◌++◌, map, length, true, ◌==◌, Option, Some, None, Result, Ok, Err, refl, sym, ap, ◌∙◌, subst, arith, Bor, ◌⊎◌, inl, inr}
-use Rattle.std.specs.Prelude.{slice_get, slice_index_or, IfSome, IfOk, OnOk, Contains, unwrap_or}
+use Rattle.std.proofs.Common.{◌≡◌, ℕ, zero, suc, ◌+◌, ◌<◌, List, [], ◌∷◌, ◌++◌, map, length, true, ◌==◌, Option, Some, None, refl, sym, ap, ◌∙◌, subst, arith, Bor, ◌⊎◌, inl, inr}
+use Rattle.std.specs.Prelude.{slice_get, slice_index_or, IfSome, Contains, unwrap_or}
 use Rattle.std.specs.Option.{option_copied}
 use Rattle.std.specs.Ordering.{nat_cmp}
 use Rattle.std.specs.BTreeMap as tree
@@ -70,10 +70,6 @@ get-push [] p (suc j) q e = absurd cc
 get-push (r ∷ ps) p zero q e = inl e
 get-push (r ∷ ps) p (suc j) q e = elim (get-push ps p j q e) [ inl l ↦ inl l | inr s ↦ inr (ap suc s.0, s.1) ]
 
-pub on-ok : {A E : Type 0} (r : Result A E) (P Q : Type 0) → OnOk r P → (P → Q) → OnOk r Q
-on-ok (Ok u) P Q h f = f h
-on-ok (Err e) P Q h f = tt
-
 -- a number is added to its group, or to those without a key
 module _ (i : ℕ) (p : Pat) (old new : Index) (path : new.path ≡ old.path) where
   extends-keyless : (new.numbers.keyless ≡ old.numbers.keyless ++ i ∷ []) × (new.numbers.by_key ≡ old.numbers.by_key) → ExtendsIndex i p old new
@@ -112,10 +108,6 @@ module _ (i : ℕ) (p : Pat) (old new : Index) (path : new.path ≡ old.path) wh
 -- all numbers
 pub near-all : (p : Pat) (n : ℕ) (x : Index) (js : List ℕ) → ((j : ℕ) → j < n → Contains js j) → AreNear p n x js
 near-all p n x js all = λ ps len h j q at. inl (all j (let w = slice_get_within ps j q at in omega (arith, w, len)))
-
-pub if-ok : {A E : Type 0} (r : Result A E) (P Q : A → Type 0) → IfOk r P → ((x : A) → P x → Q x) → IfOk r Q
-if-ok (Ok x) P Q h f = f x h
-if-ok (Err e) P Q h f = tt
 
 pub below-push : (js more : List ℕ) (n : ℕ) → more ≡ js ++ n ∷ [] → ((j : ℕ) → j < n → Contains js j) → (j : ℕ) → j < n + 1 → Contains more j
 below-push js more n is h j lt = subst (λ (l : List ℕ). Contains l j) (sym is) (elim (cases_lt j n) [

@@ -9,6 +9,7 @@ pub mod Exhausts
 pub mod FirstAbsent
 pub mod Grouping
 pub mod HeadLemmas
+pub mod HeadSets
 pub mod Inhabited
 pub mod Keys
 pub mod Laws

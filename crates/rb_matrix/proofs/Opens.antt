@@ -1,7 +1,7 @@
 -- A row without a head matches every vector of its length.
-use Rattle.std.proofs.Common.{◌≡◌, ℕ, List, [], ◌∷◌, length, Bool, true, false, ◌&&◌, ◌||◌, ◌==◌, not, refl, sym, ap, ◌∙◌, arith, ◌⊎◌, inl, inr}
+use Rattle.std.proofs.Common.{◌≡◌, ℕ, List, [], ◌∷◌, length, Bool, true, false, ◌&&◌, ◌||◌, ◌==◌, not, refl, sym, ap, ◌∙◌, arith, inl, inr}
 use Rattle.std.proofs.Math.Bool.{and-false}
-use Rattle.std.proofs.lemmas.Bool.{eqb-true, false≢true}
+use Rattle.std.proofs.lemmas.Bool.{eqb-true, false≢true, or_cases}
 use Rattle.rb_core.specs.declared.value.Value.{Value}
 use Rattle.rb_core.specs.declared.types.DataDecl.{DataDecl}
 use Rattle.rb_core.specs.declared.types.Ty.{Ty}
@@ -33,17 +33,13 @@ open-matches (p ∷ ps) (v ∷ vs) h e =
     let first = opened p v ∙ layer-matches (out-Pat p) v (and-left (layer_open (out-Pat p)) (is_open ps) h) in
     ap (λ b. b && row_matches ps vs) first ∙ open-matches ps vs (and-right (layer_open (out-Pat p)) (is_open ps) h) (omega (arith, e))
 
-or-cases : (a b : Bool) → (a || b) ≡ true → (a ≡ true) ⊎ (b ≡ true)
-or-cases true b h = inl refl
-or-cases false b h = inr h
-
 or-right : (a b : Bool) → b ≡ true → (a || b) ≡ true
 or-right true b h = refl
 or-right false b h = h
 
 any-matches : (rows : List (List Pat)) (n : ℕ) (vs : List Value) → any_open rows n ≡ true → length vs ≡ n → any_row rows vs ≡ true
 any-matches [] n vs h e = absurd (false≢true h)
-any-matches (r ∷ rs) n vs h e = elim (or-cases ((length r == n) && is_open r) (any_open rs n) h) [
+any-matches (r ∷ rs) n vs h e = elim (or_cases ((length r == n) && is_open r) (any_open rs n) h) [
   | inl here ↦ ap (λ b. b || any_row rs vs) (open-matches r vs (and-right (length r == n) (is_open r) here) (eqb-true (length r) n (and-left (length r == n) (is_open r) here) ∙ sym e))
   | inr later ↦ or-right (row_matches r vs) (any_row rs vs) (any-matches rs n vs later e)
 ]

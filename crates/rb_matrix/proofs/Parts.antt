@@ -3,6 +3,7 @@ use Rattle.std.proofs.Common.{◌≡◌, ℕ, ◌+◌, ◌^◌, ◌<◌, ◌≤�
 use Rattle.std.specs.Prelude.{slice_get, nat_lt, if◌then◌else◌}
 use Rattle.std.proofs.Math.Bool.{and-false}
 use Rattle.std.proofs.lemmas.Bool.{eqb-true, eqb-false, eq-eqb, false≢true, false_from_ne_true}
+use Rattle.std.proofs.lemmas.Option.{none-some}
 use Rattle.std.proofs.lemmas.List.{take-append-drop, length-append, length-take}
 use Rattle.rb_core.specs.declared.value.Value.{Value, Num, Con, out-Value}
 use Rattle.rb_core.specs.declared.value.Value.TheOpen as V
@@ -38,14 +39,11 @@ pub same_or : (n m : ℕ) (b : Bool) → (n == m) ≡ b → (n ≡ m) ⊎ (n ≡
 same_or n m true e = inl (eqb-true n m e)
 same_or n m false e = inr (eqb-false n m e)
 
-pub none≢some : {A B : Type 0} (x : A) → None ≡ Some x → B
-none≢some x e = cc
-
 -- A head's fields at a type ----------------------------------------------------------------------
 
 fits-num : (b : Bool) (fs : List Ty) → (if b then Some [] else None) ≡ Some fs → (b ≡ true) × (fs ≡ [])
 fits-num true fs e = (refl, cc)
-fits-num false fs e = none≢some fs e
+fits-num false fs e = absurd (none-some fs e)
 
 abbrev no_types : Option (List Ty)
 no_types = Some []
@@ -62,8 +60,8 @@ module _ (types : List DataDecl) where
       let f = fits-num (nat_lt m (2 ^ bits)) fs at in
       num-of_int types v n bits is ∙ ap (λ i. nat_lt i (2 ^ bits)) (sym (eqb-true m n e)) ∙ f.0 ∙ ap (λ l. vector_of types l []) (sym f.1)
   of-layer (Int bits) (H.Num m) fs v (V.Con k us) at is e = absurd (false≢true e)
-  of-layer (Int bits) (H.Con c) fs v l at is e = none≢some fs at
-  of-layer (Named t) (H.Num m) fs v l at is e = none≢some fs at
+  of-layer (Int bits) (H.Con c) fs v l at is e = absurd (none-some fs at)
+  of-layer (Named t) (H.Num m) fs v l at is e = absurd (none-some fs at)
   of-layer (Named t) (H.Con c) fs v (V.Num n) at is e = absurd (false≢true e)
   of-layer (Named t) (H.Con c) fs v (V.Con k us) at is e =
       con-of types v k us t is ∙ ap (λ i. are_of (map (is_of_type types) us) (fields_in (slice_get types t) i)) (sym (eqb-true c.con k e))
@@ -93,14 +91,14 @@ module _ (types : List DataDecl) where
 
   pub fields_at-few : (ty : Ty) (h : Head) (fs : List Ty) → fields_at types ty h ≡ Some fs → length fs ≤ fields_bound types
   fields_at-few (Int bits) (H.Num m) fs at = let f = fits-num (nat_lt m (2 ^ bits)) fs at in let e = ap (λ l. length l) f.1 in omega (arith, e)
-  fields_at-few (Int bits) (H.Con c) fs at = none≢some fs at
-  fields_at-few (Named t) (H.Num m) fs at = none≢some fs at
+  fields_at-few (Int bits) (H.Con c) fs at = absurd (none-some fs at)
+  fields_at-few (Named t) (H.Num m) fs at = absurd (none-some fs at)
   fields_at-few (Named t) (H.Con c) fs at = fields-bound types t c.con fs at
 
   pub fields_at-live : AreInhabited types → (ty : Ty) (h : Head) (fs : List Ty) → fields_at types ty h ≡ Some fs → AreTypesIn types fs
   fields_at-live i (Int bits) (H.Num m) fs at = subst (AreTypesIn types) (sym (fits-num (nat_lt m (2 ^ bits)) fs at).1) tt
-  fields_at-live i (Int bits) (H.Con c) fs at = none≢some fs at
-  fields_at-live i (Named t) (H.Num m) fs at = none≢some fs at
+  fields_at-live i (Int bits) (H.Con c) fs at = absurd (none-some fs at)
+  fields_at-live i (Named t) (H.Num m) fs at = absurd (none-some fs at)
   fields_at-live i (Named t) (H.Con c) fs at = fields-live types i t c.con fs at
 
   pub live-append : (fs ts : List Ty) → AreTypesIn types fs → AreTypesIn types ts → AreTypesIn types (fs ++ ts)
@@ -246,7 +244,7 @@ part-found types (Int bits) ts wanted unwanted (H.Num m) fs at row kept r =
     subst (λ l. IsFront types (Int bits) (H.Num m) l (take (length l) row) (Pats.Num 0 m)) (sym f.1) (number-front types bits m f.0) in
     subst (λ k. RowIsFound types (Int bits ∷ ts) wanted unwanted (Pats.Num 0 m ∷ drop k row)) none
     (found-front types (Int bits) ts wanted unwanted (H.Num m) fs at row kept r (Pats.Num 0 m) front)
-part-found types (Int bits) ts wanted unwanted (H.Con c) fs at row kept r = none≢some fs at
-part-found types (Named t) ts wanted unwanted (H.Num m) fs at row kept r = none≢some fs at
+part-found types (Int bits) ts wanted unwanted (H.Con c) fs at row kept r = absurd (none-some fs at)
+part-found types (Named t) ts wanted unwanted (H.Num m) fs at row kept r = absurd (none-some fs at)
 part-found types (Named t) ts wanted unwanted (H.Con c) fs at row kept r =
     found-front types (Named t) ts wanted unwanted (H.Con c) fs at row kept r _ (con-front types t c fs (take (length fs) row) at)

@@ -2,6 +2,7 @@
 use Rattle.std.proofs.Common.{◌≡◌, ℕ, zero, suc, ◌+◌, ◌^◌, List, [], ◌∷◌, ◌++◌, take, length, Bool, true, false, ◌&&◌, ◌||◌, ◌==◌, not, Some, None, refl, sym, ap, ◌∙◌, arith, subst, add-one}
 use Rattle.std.specs.Prelude.{slice_get, is_some, nat_lt, if◌then◌else◌, cond}
 use Rattle.std.specs.Ordering.{nat_cmp, is_eq}
+use Rattle.std.proofs.Math.Bool.{or-false, or_assoc}
 use Rattle.std.proofs.lemmas.Bool.{eqb-true, eq-eqb, false≢true}
 use Rattle.std.proofs.lemmas.Bool.Decides.{nat_tests}
 use Rattle.rb_core.specs.declared.value.Value.{Value, Num, out-Value}
@@ -23,7 +24,7 @@ use Rattle.rb_matrix.specs.inner.Open.{layer_open}
 use Rattle.rb_matrix.specs.Known.{has}
 use Rattle.rb_matrix.specs.inner.Indexes.{BothExtend}
 use Rattle.rb_matrix.specs.inner.Passed.{layer_number, some_open, some_number, ArePassed}
-use Rattle.rb_matrix.proofs.Differing.{or-assoc, take-suc}
+use Rattle.rb_matrix.proofs.Differing.{take-suc}
 use Rattle.rb_matrix.proofs.Exhausts.{first-chosen, chosen-first}
 use Rattle.rb_matrix.proofs.Inhabited.{out-num}
 use Rattle.rb_matrix.proofs.Laws.{opened, open_matches}
@@ -39,10 +40,6 @@ with-number true k n = by (is_eq (nat_cmp k n))
     by false = refl
 with-number false k n = grind (arith, nat_tests)
 
-pub or-false : (b : Bool) → b ≡ (b || false)
-or-false true = refl
-or-false false = refl
-
 pub or-true : (b : Bool) → true ≡ (b || true)
 or-true true = refl
 or-true false = refl
@@ -57,12 +54,12 @@ or-both false false true d = refl
 or-both false false false d = refl
 
 some_open-append : (ps : List Pat) (p : Pat) → some_open (ps ++ p ∷ []) ≡ (some_open ps || layer_open (out-Pat p))
-some_open-append [] p = sym (or-false (layer_open (out-Pat p)))
-some_open-append (q ∷ ps) p = ap (λ b. layer_open (out-Pat q) || b) (some_open-append ps p) ∙ or-assoc (layer_open (out-Pat q)) (some_open ps) (layer_open (out-Pat p))
+some_open-append [] p = or-false (layer_open (out-Pat p))
+some_open-append (q ∷ ps) p = ap (λ b. layer_open (out-Pat q) || b) (some_open-append ps p) ∙ sym (or_assoc (layer_open (out-Pat q)) (some_open ps) (layer_open (out-Pat p)))
 
 some_number-append : (ps : List Pat) (p : Pat) (n : ℕ) → some_number (ps ++ p ∷ []) n ≡ (some_number ps n || layer_number (out-Pat p) n)
-some_number-append [] p n = sym (or-false (layer_number (out-Pat p) n))
-some_number-append (q ∷ ps) p n = ap (λ b. layer_number (out-Pat q) n || b) (some_number-append ps p n) ∙ or-assoc (layer_number (out-Pat q) n) (some_number ps n) (layer_number (out-Pat p) n)
+some_number-append [] p n = or-false (layer_number (out-Pat p) n)
+some_number-append (q ∷ ps) p n = ap (λ b. layer_number (out-Pat q) n || b) (some_number-append ps p n) ∙ sym (or_assoc (layer_number (out-Pat q) n) (some_number ps n) (layer_number (out-Pat p) n))
 
 take-length : (ps : List Pat) (i : ℕ) (p : Pat) → slice_get ps i ≡ Some p → length (take i ps) ≡ i
 take-length [] i p at = absurd cc

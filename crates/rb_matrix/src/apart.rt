@@ -8,10 +8,11 @@ ghost use Rattle.rb_matrix.specs.inner.Against.{HaveApart, Covers, CoverEach};
 
 use rb_core::pattern::Pat;
 
-/// Whether two patterns have different numbers or constructors in one place, or a number and a
-/// constructor, so that no value matches both, of whatever type it is. Constructors differ by their
-/// numbers in their types. Two that share no value for another reason, such as constructors with
-/// different counts of subpatterns, are not told apart.
+/// True only of two patterns such that no value matches both, of whatever type it is. It is found
+/// where they have different numbers or constructors in one place, or a number and a constructor;
+/// constructors differ by their numbers in their types. False tells nothing: two that share no
+/// value for another reason, such as constructors with different counts of subpatterns, are not
+/// found.
 #[cycle(comparing)]
 pub fn are_apart(one: &Pat, other: &Pat) -> bool
     ensures { OnTrue result (PatternsAreApart one.now other.now) }

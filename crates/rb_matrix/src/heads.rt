@@ -2,15 +2,15 @@
 //! constructor with which a pattern begins. Two heads are alike where they are the same number, or
 //! constructors with the same number in their types: the same values of a type begin with them.
 
-ghost use Rattle.std.specs.Prelude.{◌≡◌, ◌+◌, ◌≤◌, ◌||◌, ℕ, length, IfOk, OnOk};
+ghost use Rattle.std.specs.Prelude.{◌≡◌, ◌+◌, ◌≤◌, ◌||◌, ℕ, length, IfOk, OnOk, OnErr};
 ghost use Rattle.rb_core.specs.declared.value.Value as Values;
 ghost use Rattle.rb_core.specs.declared.value.Value.TheOpen as Layers;
 ghost use Rattle.rb_matrix.specs.Heads.{layer_begins, any_begins, option_begins, row_head, sample, some_head};
 ghost use Rattle.rb_matrix.specs.inner.Groups.{key_of_head as the_key};
-ghost use Rattle.rb_matrix.specs.Known.{has, with_head, AreNumbersOf};
+ghost use Rattle.rb_matrix.specs.Known.{with_head, AreHeadsOf};
 
+use crate::head_set::HeadSet;
 use crate::matrix::Head;
-use crate::numbers::Numbers;
 use rb_core::pattern::Pat;
 use std::alloc::{AllocError, Global};
 
@@ -71,74 +71,50 @@ pub fn is_known(known: &[Head], head: Head) -> bool
     false
 }
 
-// Adds the number that a head is; a constructor adds none.
-fn add_number(numbers: &mut Numbers, head: Head) -> Result<(), AllocError>
-    ensures { OnOk result ((n : ℕ)
-        → has numbers.new n ≡ (has numbers.old n || layer_begins head (Layers.Num n))) }
-{
-    match head {
-        Head::Num(number) => {
-            numbers.insert(number)?;
-            Ok(())
-        }
-        Head::Con(_) => Ok(()),
-    }
-}
-
-/// The set of the numbers among heads; constructors do not count.
+/// The set of some heads.
 ///
 /// # Errors
 ///
 /// Want of memory.
-pub(crate) fn numbers_of(alloc: Global, heads: &[Head]) -> Result<Numbers, AllocError>
-    ensures { IfOk result (λ s. AreNumbersOf s heads.now) }
+pub(crate) fn set_of(alloc: Global, heads: &[Head]) -> Result<HeadSet, AllocError>
+    ensures { IfOk result (λ s. AreHeadsOf s heads.now) }
 {
-    let mut numbers = Numbers::new(alloc);
+    let mut set = HeadSet::new(alloc);
     for head in heads {
-        add_number(&mut numbers, *head)?;
+        set.insert(*head)?;
     }
-    Ok(numbers)
+    Ok(set)
 }
 
-// Whether one of the known heads is like this one, where the numbers among the known ones also
-// stand in a set: a number is looked up there, since a column may have thousands of them, and a
-// constructor is compared with each head, since a type has few.
-fn is_noted(known: &[Head], numbers: &Numbers, head: Head) -> bool
-    requires { AreNumbersOf numbers.now known.now }
-    ensures { result ≡ any_begins known.now (sample head) }
-{
-    match head {
-        Head::Num(number) => numbers.contains(number),
-        Head::Con(_) => is_known(known, head),
-    }
-}
-
-/// Adds a head behind those known, unless one like it is known; None adds nothing. The numbers
-/// among the known heads also stand in a set, which grows along, so that thousands of them are not
-/// compared with each other.
+/// Adds a head behind those known, unless one like it is known; None adds nothing. The known heads
+/// also stand in a set, which grows along, so that thousands of them are not compared with each
+/// other.
 ///
 /// # Errors
 ///
-/// Want of memory.
+/// Want of memory; the heads are then as they were, and the set is theirs.
 pub fn add_head(
     heads: &mut Vec<Head>,
-    numbers: &mut Numbers,
+    known: &mut HeadSet,
     head: Option<Head>,
 ) -> Result<(), AllocError>
-    requires { AreNumbersOf numbers.old heads.old.items }
+    requires { AreHeadsOf known.old heads.old.items }
     ensures heads { OnOk result ((l : Layers.Value-F Values.Value)
         → any_begins heads.new.items l ≡ (any_begins heads.old.items l || option_begins head l)) }
     ensures few { OnOk result (length heads.new.items ≤ length heads.old.items + some_head head) }
-    ensures numbers { OnOk result (AreNumbersOf numbers.new heads.new.items) }
+    ensures known { AreHeadsOf known.new heads.new.items }
     ensures order { OnOk result (heads.new.items ≡ with_head heads.old.items head) }
+    ensures err { OnErr result (heads.new.items ≡ heads.old.items) }
 {
     let Some(head) = head else {
         return Ok(());
     };
-    if is_noted(heads.as_slice(), numbers, head) {
+    if known.contains(head) {
         return Ok(());
     }
-    add_number(numbers, head)?;
+    // With the room made first, the push behind the set's cannot fail.
+    heads.reserve(1)?;
+    known.insert(head)?;
     heads.push(head)?;
     Ok(())
 }

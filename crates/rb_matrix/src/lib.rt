@@ -33,10 +33,12 @@
 //! signature, `Nil` alone, from which `Cons(_, _)` is absent. The first two of these patterns become
 //! the fields of the `Cons` that the first line takes apart. The search keeps what is left in a
 //! list, so that it takes no deeper stack on wider or longer patterns, and makes the matrix of a
-//! head when its turn comes, so that it does not hold one for each head. Rows are grouped once by
-//! the heads that they begin with, so that the matrix of a head is made without a look at those
-//! that begin with another. Rows borrow their patterns. Only patterns themselves are copied,
-//! compared, counted and dropped by recursion, to their own depth.
+//! head when its turn comes, so that it does not hold one for each head. Unwanted rows are grouped
+//! once by the heads that they begin with, so that the matrix of a head is made without a look at
+//! those that begin with another, but for the head whose turn comes last: its matrix is made of all
+//! rows, as is the one that is made where a wanted row begins with a head. Rows borrow their
+//! patterns. Only patterns themselves are copied, compared, counted and dropped by recursion, to
+//! their own depth.
 //!
 //! The answers of [`find`], [`exhaust`], [`unreached`] and [`common`] speak of all values of the
 //! types. These calls, and [`absent_pattern`], need the types of a well numbered program, each of
@@ -49,11 +51,12 @@
 mod apart;
 pub mod coverage;
 mod groups;
+pub mod head_set;
 pub mod heads;
 mod index;
 mod indexes;
 pub mod matrix;
-pub mod numbers;
+mod numbers;
 mod open;
 mod part;
 mod passed;

@@ -5,7 +5,9 @@ use rb_core::seq::Seq;
 use rb_core::types::{ConRef, Ty};
 
 /// What a pattern or a value begins with: a constructor, Maranget's head constructor, or a number,
-/// which has no fields. Patterns that are a wildcard or a variable begin with no head.
+/// which has no fields. Patterns that are a wildcard or a variable begin with no head. The derived
+/// `==` also compares the types that two constructors name; whether heads are alike does not depend
+/// on them.
 #[derive(Clone, Copy, PartialEq, Eq)]
 pub enum Head {
     /// A constructor, which counts by its number in the type.

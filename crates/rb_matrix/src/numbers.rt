@@ -1,6 +1,6 @@
 //! Sets of numbers, for the numbers among heads or patterns.
 
-ghost use Rattle.std.specs.Prelude.{◌≡◌, ◌||◌, ◌==◌, ℕ, false, OnOk};
+ghost use Rattle.std.specs.Prelude.{◌≡◌, ◌||◌, ◌==◌, ℕ, false, OnOk, OnErr};
 ghost use Rattle.rb_matrix.specs.Known.{has};
 
 use std::alloc::{AllocError, Global};
@@ -33,9 +33,10 @@ impl Numbers {
     ///
     /// # Errors
     ///
-    /// Want of memory.
+    /// Want of memory; the set is then as it was.
     pub fn insert(&mut self, number: u64) -> Result<(), AllocError>
-        ensures { OnOk result ((n : ℕ) → has self.new n ≡ (has self.old n || (number == n))) }
+        ensures ok { OnOk result ((n : ℕ) → has self.new n ≡ (has self.old n || (number == n))) }
+        ensures err { OnErr result ((n : ℕ) → has self.new n ≡ has self.old n) }
     {
         self.held.insert(number)?;
         Ok(())

@@ -33,8 +33,8 @@ pub struct Problem<'a> {
 
 /// The parts of a problem that are not made yet, one for each of these heads: for its vectors that
 /// begin with the head. The last head's part is made first. The problem stands here without its
-/// first column's type, which stands beside it. Its unwanted rows are grouped, by their numbers, by
-/// the heads that they begin with.
+/// first column's type, which stands beside it. Its unwanted rows are grouped by the keys of the
+/// heads that they begin with, each row given by its place among them.
 #[derive(Drop)]
 pub struct Branches<'a> {
     pub ty: Ty,

@@ -13,9 +13,9 @@ ghost use Rattle.rb_matrix.specs.Counts.{rows_heads};
 ghost use Rattle.rb_matrix.specs.Specialize.{special_row, special, defaults};
 
 use crate::groups::{Groups, Merged};
+use crate::head_set::HeadSet;
 use crate::heads::add_head;
 use crate::matrix::Head;
-use crate::numbers::Numbers;
 use crate::row::Row;
 use rb_core::seq::Seq;
 use std::alloc::{AllocError, Global};
@@ -46,9 +46,9 @@ pub fn heads_in(alloc: Global, rows: &[Row]) -> Result<Seq<Head>, AllocError>
     ensures few { IfOk result (λ heads. length heads ≤ rows_heads rows.now) }
 {
     let mut heads = Vec::new(alloc);
-    let mut numbers = Numbers::new(alloc);
+    let mut known = HeadSet::new(alloc);
     for row in rows {
-        add_head(&mut heads, &mut numbers, row.head())?;
+        add_head(&mut heads, &mut known, row.head())?;
     }
     Ok(Seq::from_vec(heads))
 }
@@ -93,8 +93,9 @@ pub fn special_copies<'a>(
     Ok(kept)
 }
 
-/// The rows in groups, by their numbers: those that begin with heads alike, and those that begin
-/// with none, ascending.
+/// The rows in groups, each by its place: those with the same key, which is the number that a row
+/// begins with, or that of its constructor in the type, and those that begin with no head. In a
+/// group places ascend. A number and a constructor of the same number share a group.
 ///
 /// # Errors
 ///
@@ -109,8 +110,8 @@ pub fn grouped(alloc: Global, rows: &[Row]) -> Result<Groups, AllocError>
     Ok(groups)
 }
 
-// The specialised row of the row with this number for a head with so many fields, or None where it
-// has none, or where no row has the number. The row stays.
+// The specialised row of the row in place `number` for a head with so many fields, or None where it
+// has none, or where no row is in that place. The row stays.
 fn special_at<'a>(
     alloc: Global,
     rows: &[Row<'a>],
@@ -126,8 +127,8 @@ fn special_at<'a>(
     }
 }
 
-/// The specialised rows of the rows with these numbers for a head with so many fields, in the order
-/// of the numbers; a row that has none is left out. The rows stay.
+/// The specialised rows of the rows in these places for a head with so many fields, in the order of
+/// the places; a row that has none is left out. The rows stay.
 ///
 /// # Errors
 ///

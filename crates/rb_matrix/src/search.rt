@@ -3,16 +3,19 @@
 //!
 //! What is left of a search stands in a list, not on the stack, so that it takes no deeper stack on
 //! wider or longer patterns. An unwanted row of wildcards and variables alone ends its branch, so
-//! rows that each look at one column take a time that grows with their number. Time grows as in
-//! Maranget's algorithm: exponentially in the number of columns at worst, where rows that look at
-//! several columns take turns. Unwanted rows are grouped by their heads, so a row that begins with
-//! a head is gone through for the part of that head, and one that begins with a wildcard for the part
-//! of each; for the part that is made last, of the problem itself, all rows are gone through once
-//! more. A number is looked up among the heads, and a constructor compared with each of them.
-//! Memory does not grow so: the parts of a problem are made one after another, each when the one
-//! before has no answer, so that of each problem on the way one part is held. Rows borrow their
-//! patterns, and the wildcards for a head's fields are only counted, so that a row of a part takes a
-//! word for each pattern behind these, however deep the patterns are.
+//! rows that each look at one column take no exponential time. But for each column all rows that
+//! are left are gone through: where each column has a row that looks at it alone, a search takes a
+//! time that grows with the square of the rows, and a search for each row, as `unreached` makes it,
+//! takes together one that grows with their cube. Time grows as in Maranget's algorithm:
+//! exponentially in the number of columns at worst, where rows that look at several columns take
+//! turns. Unwanted rows are grouped by their heads, so a row that begins with a head is gone
+//! through for the part of that head, and one that begins with a wildcard for the part of each; for
+//! the part that is made last, of the problem itself, all rows are gone through once more. A head
+//! is looked up in the set of those of its column. Memory does not grow so: the parts of a problem
+//! are made one after another, each when the one before has no answer, so that of each problem on
+//! the way one part is held. Rows borrow their patterns, and the wildcards for a head's fields are
+//! only counted, so that a row of a part takes a word for each pattern behind these, however deep
+//! the patterns are.
 
 ghost use Rattle.std.specs.Prelude.{◌≡◌, List, IfOk, []};
 ghost use Rattle.rb_core.specs.declared.types.DataDecl as DataDecls;
@@ -157,7 +160,7 @@ fn step<'a>(alloc: Global, types: &[DataDecl], left: Left<'a>) -> Result<Outcome
 /// # Errors
 ///
 /// Want of memory.
-pub fn find_in(
+pub(crate) fn find_in(
     alloc: Global,
     types: &[DataDecl],
     root: Problem,

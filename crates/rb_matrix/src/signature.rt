@@ -11,7 +11,7 @@ ghost use Rattle.rb_matrix.specs.Heads.{any_begins};
 ghost use Rattle.rb_matrix.specs.Search.{AreInhabited, IsTypeIn};
 ghost use Rattle.rb_matrix.specs.Specialize.{wilds};
 
-use crate::heads::{is_known, numbers_of};
+use crate::heads::set_of;
 use crate::matrix::Head;
 use rb_core::pattern::Pat;
 use rb_core::seq::Seq;
@@ -37,10 +37,10 @@ fn least_missing(alloc: Global, heads: &[Head], most: u64) -> Result<Option<u64>
         (λ m. (m ≤ most) × (any_begins heads.now (Layers.Num m) ≡ false)
         × ((j : ℕ) → j < m → any_begins heads.now (Layers.Num j) ≡ true))) }
 {
-    let numbers = numbers_of(alloc, heads)?;
+    let known = set_of(alloc, heads)?;
     let mut number = 0;
     loop {
-        if !numbers.contains(number) {
+        if !known.contains(Head::Num(number)) {
             return Ok(Some(number));
         }
         if number == most {
@@ -53,19 +53,26 @@ fn least_missing(alloc: Global, heads: &[Head], most: u64) -> Result<Option<u64>
 // The number of the first of the `count` constructors of data type `ty` that is not among the
 // heads; None where all of them are, or where there is none. What type a head names is not looked
 // at.
-fn missing_con(heads: &[Head], ty: u32, count: usize) -> Option<u32>
+fn missing_con(
+    alloc: Global,
+    heads: &[Head],
+    ty: u32,
+    count: usize,
+) -> Result<Option<u32>, AllocError>
     requires { count < 2 ^ 32 }
-    ensures { MatchOption result ((k : ℕ) → k < count → any_begins heads.now (Layers.Con k []) ≡ true)
+    ensures { IfOk result (λ r. MatchOption r
+        ((k : ℕ) → k < count → any_begins heads.now (Layers.Con k []) ≡ true)
         (λ k. (k < count) × (any_begins heads.now (Layers.Con k []) ≡ false)
-        × ((j : ℕ) → j < k → any_begins heads.now (Layers.Con j []) ≡ true)) }
+        × ((j : ℕ) → j < k → any_begins heads.now (Layers.Con j []) ≡ true))) }
 {
+    let known = set_of(alloc, heads)?;
     for k in 0..count {
         let con = k as u32;
-        if !is_known(heads, Head::Con(ConRef { ty, con })) {
-            return Some(con);
+        if !known.contains(Head::Con(ConRef { ty, con })) {
+            return Ok(Some(con));
         }
     }
-    None
+    Ok(None)
 }
 
 // A row of `count` wildcards. Each bears token number 0, since it stands at no token of a file.
@@ -96,11 +103,12 @@ fn absent_con(
     }
     let decl = &types[t as usize];
     let cons = decl.cons.as_slice();
-    match missing_con(heads, t, cons.len()) {
+    let missing = missing_con(alloc, heads, t, cons.len())?;
+    match missing {
         None => Ok(None),
         Some(con) => {
-            let missing = &cons[con as usize];
-            let pats = wildcards(alloc, missing.fields.len())?;
+            let first = &cons[con as usize];
+            let pats = wildcards(alloc, first.fields.len())?;
             Ok(Some(Pat::Con(0, ConRef { ty: t, con }, pats)))
         }
     }

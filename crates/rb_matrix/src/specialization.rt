@@ -15,16 +15,17 @@ ghost use Rattle.rb_matrix.specs.Rows.{row_matches, image_matches};
 ghost use Rattle.rb_matrix.specs.Specialize.{wilds, special_row, special, default_row, defaults, specialized, defaulted, UnfoldsAlike, RestsAlike};
 
 use crate::matrix::{Head, Matrix};
+use rb_core::constructors::con_of;
 use rb_core::pattern::{Pat, copy_patterns};
 use rb_core::seq::Seq;
-use rb_core::types::{DataDecl, Ty};
+use rb_core::types::{ConRef, DataDecl, Ty};
 use std::alloc::{AllocError, Global};
 
 /// Adds copies of patterns at the end of a row, in their order.
 ///
 /// # Errors
 ///
-/// Want of memory: the copies that were added until then stay.
+/// Want of memory.
 pub fn push_patterns(alloc: Global, row: &mut Seq<Pat>, more: &[Pat]) -> Result<(), AllocError>
     ensures { OnOk result (row.new ≡ row.old ++ more.now) }
 {
@@ -216,16 +217,10 @@ fn holds(bits: u8, number: u64) -> bool
 fn con_fields(types: &[DataDecl], ty: u32, con: u32) -> Option<&[Ty]>
     ensures { option_copied result ≡ fields_in (slice_get types.now ty) con }
 {
-    let ty = ty as usize;
-    if ty >= types.len() {
-        return None;
+    match con_of(types, ConRef { ty, con }) {
+        None => None,
+        Some(con) => Some(con.fields.as_slice()),
     }
-    let cons = types[ty].cons.as_slice();
-    let con = con as usize;
-    if con >= cons.len() {
-        return None;
-    }
-    Some(cons[con].fields.as_slice())
 }
 
 /// The types of a head's fields, or None where the head is not of the type. A number is of an

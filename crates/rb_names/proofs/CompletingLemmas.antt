@@ -24,7 +24,7 @@ use Rattle.rb_names.specs.declared.items.Items.{Items}
 use Rattle.rb_names.specs.declared.tables.Tables.{Tables}
 use Rattle.rb_names.specs.Tables.{Name, Table, meaning}
 use Rattle.rb_names.specs.Definitions.{defined_twice, numbered_from, tables_of, type_names}
-use Rattle.rb_names.specs.Programs.{main_number, no_twice, numbered, numbered_items}
+use Rattle.rb_names.specs.Programs.{main_number, no_twice, program_of, numbered_items}
 use Rattle.rb_names.specs.Completing.{AreDerived, IsCompleted, IsCompletion, first_refusal, kinds_of, layouts_in, left_in, left_types, type_numbers, with_number}
 use Rattle.rb_names.specs.inner.Deriving.{IsAllDerived, IsWith}
 use Rattle.rb_names.proofs.Inverting.{then-ok, ok-is}
@@ -172,7 +172,7 @@ record IsFound (file : FileTree) (p : Program) : Type 0 where
   types : all.types ≡ p.types
   layouts : all.layouts ≡ p.layouts
 
-is-found : (file : FileTree) (p : Program) → numbered file ≡ Ok p → IsFound file p
+is-found : (file : FileTree) (p : Program) → program_of file ≡ Ok p → IsFound file p
 is-found file p e =
     let t : Tables = tables_of file.items in
     let a = then-ok (no_twice (defined_twice file.items)) _ p e in
@@ -187,14 +187,14 @@ is-found file p e =
       layouts = ap (λ (q : Program). q.layouts) same;
     }
 
-pub once : (file : FileTree) (p : Program) → numbered file ≡ Ok p → defined_twice file.items ≡ None
+pub once : (file : FileTree) (p : Program) → program_of file ≡ Ok p → defined_twice file.items ≡ None
 once file p e = (is-found file p e).once
 
 all-join : {A : Type 0} (test : A → Bool) (xs ys : List A) → list_all test xs ≡ true → list_all test ys ≡ true → list_all test (xs ++ ys) ≡ true
 all-join test [] ys h g = g
 all-join test (x ∷ xs) ys h g = let parts = and_parts (test x) (list_all test xs) h in and_from _ _ parts.0 (all-join test xs ys parts.1 g)
 
-module _ (file : FileTree) (p : Program) (named : numbered file ≡ Ok p) where
+module _ (file : FileTree) (p : Program) (named : program_of file ≡ Ok p) where
   abbrev is : IsFound file p
   is = is-found file p named
 
@@ -266,7 +266,7 @@ module _ {E : Type 0} (file : FileTree) (p : Program) (r : Result Completed E) w
         refused = w.refused ∙ all.refused;
       })
 
-module _ {E : Type 0} (file : FileTree) (p : Program) (named : numbered file ≡ Ok p) (r : Result Completed E) (done : IfOk r (IsCompleted file p)) where
+module _ {E : Type 0} (file : FileTree) (p : Program) (named : program_of file ≡ Ok p) (r : Result Completed E) (done : IfOk r (IsCompleted file p)) where
   pub answer-whole : IfOk r (λ c. c.refused ≡ None → IsCompletion file p c)
   answer-whole = IfOk-weaker r (IsCompleted file p) (λ c. c.refused ≡ None → IsCompletion file p c) (is-whole file p named) done
 

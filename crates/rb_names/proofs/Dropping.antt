@@ -1,4 +1,5 @@
--- What holds of all that is written from a place on, and then of what is written from the next place on, holds behind each part.
+-- What holds of all that is written from a place on, and then of what is written from the next place on, holds behind
+-- each part.
 use Rattle.std.proofs.Common.{ℕ, suc, ◌^◌, nat_lt, List, [], ◌∷◌, map, Bool, true, false, subst}
 use Rattle.rb_syntax.specs.declared.token.Token.{Token}
 use Rattle.rb_syntax.specs.declared.token.Token.TheVariants as tok

@@ -16,7 +16,7 @@ use Rattle.rb_names.specs.declared.fault.NameFault.TheVariants.{Twice, Unknown, 
 use Rattle.rb_names.specs.declared.tables.Tables.{Tables}
 use Rattle.rb_names.specs.Scopes.{binders_of}
 use Rattle.rb_names.specs.Numbering.{numbered_expression}
-use Rattle.rb_names.specs.Programs.{numbered}
+use Rattle.rb_names.specs.Programs.{program_of}
 use Rattle.rb_names.proofs.ExpressionEquations.{expression_rules}
 
 abbrev named : ℕ → List ℕ → NameTree
@@ -50,7 +50,7 @@ abbrev constant : ℕ → ExprTree → FunTree
 constant at body = record { name = named at (codes "main"); params = []; result = Int 8; body = body }
 
 -- fun main(): u8 = y; fun main(): u8 = 0;
-twice-first : numbered (record { items = Funs (constant 1 (expr.Var 7 (named 7 (codes "y")))) ∷ Funs (constant 10 (expr.Num 16 0)) ∷ [] }) ≡ Err (Twice (codes "main") 10)
+twice-first : program_of (record { items = Funs (constant 1 (expr.Var 7 (named 7 (codes "y")))) ∷ Funs (constant 10 (expr.Num 16 0)) ∷ [] }) ≡ Err (Twice (codes "main") 10)
 twice-first = refl
 
 -- type T = A; type S = A;
@@ -58,8 +58,8 @@ abbrev two_types : List ItemTree
 two_types = Types (record { name = named 1 (codes "T"); cons = record { name = named 3 (codes "A"); fields = [] } ∷ [] })
     ∷ Types (record { name = named 6 (codes "S"); cons = record { name = named 8 (codes "A"); fields = [] } ∷ [] }) ∷ []
 
-constructor-twice : numbered (record { items = two_types }) ≡ Err (Twice (codes "A") 8)
+constructor-twice : program_of (record { items = two_types }) ≡ Err (Twice (codes "A") 8)
 constructor-twice = refl
 
-empty-file : numbered (record { items = [] }) ≡ Err NoMain
+empty-file : program_of (record { items = [] }) ≡ Err NoMain
 empty-file = refl

@@ -30,7 +30,7 @@ use Rattle.rb_auto.specs.declared.room.Room.{Room}
 use Rattle.rb_auto.specs.Fields.{cons_in, cons_of}
 use Rattle.rb_auto.specs.FieldWords.{content, content_in, constructor_words}
 use Rattle.rb_auto.specs.Items.{block_items, boxed_parts, field_item, form_parts, form_tag, form_width, group_item, groups, leaf_items, packed_parts, part, parts_from, pointer_parts, whole_word}
-use Rattle.rb_auto.specs.Derived.{arms_from, derived, leaf, provenance, tag_loc, tree_of}
+use Rattle.rb_auto.specs.Derived.{arms_from, derived_layout, leaf, provenance, tag_loc, tree_of}
 use Rattle.rb_auto.proofs.Leaves.{leaves_from, tree-leaves}
 use Rattle.rb_auto.proofs.Lists.{IsGroup, are-groups, few-groups}
 use Rattle.rb_auto.proofs.Numbering.{TypeIsSmall, type-is-small, words-count}
@@ -283,16 +283,16 @@ module _ (p : Program) (numbered : IsWellNumbered p) (rooms : List Room) (t : �
   tree-good (suc tag) cs few h = split-good (suc tag) cs few h
 
   -- what is derived for a type of a well numbered program is a layout of that program
-  pub derived-well : layout_is_numbered p.types (derived p rooms t form) ≡ true
+  pub derived-well : layout_is_numbered p.types (derived_layout p rooms t form) ≡ true
   derived-well =
       let cs = cons_of p.types t in
       let is_small : TypeIsSmall p numbered cs = type-is-small p numbered t lt in
       let few = is_small.few in
       let are : AreCons 0 cs = λ n c at. (ap (slice_get cs) (none_before n) ∙ at, (is_small.each n c at).few) in
       let its = tree-leaves p rooms t form (form_tag form) cs in
-      let shown : list_all (provenance_is_numbered p.types) (provenances (derived p rooms t form).tree) ≡ true =
+      let shown : list_all (provenance_is_numbered p.types) (provenances (derived_layout p rooms t form).tree) ≡ true =
       ap (λ (ls : List WrittenLeaf). list_all (provenance_is_numbered p.types) (map (λ l. l.provenance) ls)) its ∙ provenances-good 0 cs are in
-      let long : is_short (leaves (derived p rooms t form).tree) ≡ true =
+      let long : is_short (leaves (derived_layout p rooms t form).tree) ≡ true =
       ap (λ (ls : List WrittenLeaf). is_short ls) its ∙ short-of most small (leaves_from p rooms t form 0 cs) (omega (arith, leaves-count 0 cs, few)) in
       and_from _ _ (below t (length p.types) lt) (and_from _ _ refl (and_from _ _ shown (and_from _ _ long (tree-good (form_tag form) cs few are))))
     where

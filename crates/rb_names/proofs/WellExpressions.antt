@@ -33,7 +33,7 @@ use Rattle.rb_syntax.specs.declared.tree.ClauseTree.{ClauseTree}
 use Rattle.rb_syntax.specs.declared.tree.ExprTree.{ExprTree}
 use Rattle.rb_syntax.specs.declared.tree.ExprTree as X
 use Rattle.rb_syntax.specs.Written.{Written, Writing, token, number, node, tokens_in, each_behind, any_with, some_with}
-use Rattle.rb_syntax.specs.Spelling.{fields_written, op_word, reserved, ty_written, uint_written, pat_written, expr_written, clause_written}
+use Rattle.rb_syntax.specs.Spelling.{fields_written, op_word, word_token, ty_written, uint_written, pat_written, expr_written, clause_written}
 use Rattle.rb_syntax.proofs.SpellingLemmas as spelled
 use Rattle.rb_syntax.proofs.ExpressionInduction.{Each, EachBody, induction}
 use Rattle.rb_names.specs.declared.tables.Tables.{Tables}
@@ -330,7 +330,7 @@ module _ (total : ℕ) (small : total < 2 ^ 32) (types : List DataDecl) (funs : 
       let close : List Written = token (tok.Symbol symbol.CloseParen) ∷ rest in
       let ws : List Written = at_expr (suc l) b close in
       let vs : List Written = at_expr (suc l) a (token comma ∷ ws) in
-      let s : Right total (node l ∷ number at ∷ reserved (op_word o) ∷ token (tok.Symbol symbol.OpenParen) ∷ vs) = moved total small types t known_con (spelled.expr-Binary at o a b l rest) r in
+      let s : Right total (node l ∷ number at ∷ word_token (op_word o) ∷ token (tok.Symbol symbol.OpenParen) ∷ vs) = moved total small types t known_con (spelled.expr-Binary at o a b l rest) r in
       let f : ExprWell a (suc l) (token comma ∷ ws) = ha (suc l) (token comma ∷ ws) (record { formed = s.formed; numbers = s.numbers.1; fits = omega (arith, s.fits) }) in
       let g : ExprWell b (suc l) close = hb (suc l) close (record { formed = f.right.formed; numbers = f.right.numbers; fits = omega (arith, f.right.fits) }) in record {
         right = record { formed = g.right.formed; numbers = g.right.numbers; fits = omega (arith, g.right.fits) };
@@ -356,7 +356,7 @@ module _ (total : ℕ) (small : total < 2 ^ 32) (types : List DataDecl) (funs : 
       let close : List Written = token (tok.Symbol symbol.CloseParen) ∷ rest in
       let vs : List Written = at_expr (suc l) a close in
       let us : List Written = token (tok.Symbol symbol.OpenParen) ∷ vs in
-      let s : Right total (node l ∷ number at ∷ reserved word.To ∷ uint_written bits us) = moved total small types t known_con (spelled.expr-To at bits a l rest) r in
+      let s : Right total (node l ∷ number at ∷ word_token word.To ∷ uint_written bits us) = moved total small types t known_con (spelled.expr-To at bits a l rest) r in
       let k : TypeWell total types t known_type (ty.Int bits) us = type-well total types t known_type (ty.Int bits) us (record { formed = s.formed; numbers = s.numbers.1; fits = omega (arith, s.fits) }) in
       let f : ExprWell a (suc l) close = ha (suc l) close (record { formed = k.right.formed; numbers = k.right.numbers; fits = omega (arith, k.right.fits) }) in record {
         right = record { formed = f.right.formed; numbers = f.right.numbers; fits = omega (arith, f.right.fits) };
@@ -382,10 +382,10 @@ module _ (total : ℕ) (small : total < 2 ^ 32) (types : List DataDecl) (funs : 
   unfolding C.roll-Expr denote.Hole.Carrier.roll
   let-well at x u a b ha hb l rest r =
       let ws : List Written = at_expr (suc l) b rest in
-      let inner : List Written = reserved word.In ∷ ws in
+      let inner : List Written = word_token word.In ∷ ws in
       let vs : List Written = at_expr (suc l) a inner in
       let us : List Written = token (tok.Symbol symbol.Equals) ∷ vs in
-      let s : Right total (node l ∷ number at ∷ reserved word.Let ∷ number x.at ∷ token (tok.Lower x.text) ∷ token (tok.Symbol symbol.Colon) ∷ ty_written u us)
+      let s : Right total (node l ∷ number at ∷ word_token word.Let ∷ number x.at ∷ token (tok.Lower x.text) ∷ token (tok.Symbol symbol.Colon) ∷ ty_written u us)
       = moved total small types t known_con (spelled.expr-Let at x u a b l rest) r in
       let k : TypeWell total types t known_type u us = type-well total types t known_type u us (record { formed = s.formed; numbers = s.numbers.1.1; fits = omega (arith, s.fits) }) in
       let f : ExprWell a (suc l) inner = ha (suc l) inner (record { formed = k.right.formed; numbers = k.right.numbers; fits = omega (arith, k.right.fits) }) in
@@ -497,10 +497,10 @@ module _ (total : ℕ) (small : total < 2 ^ 32) (types : List DataDecl) (funs : 
       )
 
   match-written : (at : ℕ) (e : ExprTree) (cs : List ClauseTree) (l : ℕ) (rest : List Written) → expr_written (X.Match at e cs) l rest
-      ≡ node l ∷ number at ∷ reserved word.Match ∷ expr_written e (suc l) (token (tok.Symbol symbol.OpenBrace)
+      ≡ node l ∷ number at ∷ word_token word.Match ∷ expr_written e (suc l) (token (tok.Symbol symbol.OpenBrace)
       ∷ some_with comma (map (at_clause (suc l)) cs) (token (tok.Symbol symbol.CloseBrace) ∷ rest))
   match-written at e cs l rest = spelled.expr-Match at e cs l rest
-      ∙ ap (λ ws. node l ∷ number at ∷ reserved word.Match ∷ expr_written e (suc l) (token (tok.Symbol symbol.OpenBrace)
+      ∙ ap (λ ws. node l ∷ number at ∷ word_token word.Match ∷ expr_written e (suc l) (token (tok.Symbol symbol.OpenBrace)
       ∷ some_with comma ws (token (tok.Symbol symbol.CloseBrace) ∷ rest))) (at_level-map clause_written (suc l) cs)
 
   match-well : (at : ℕ) (a : ExprTree) (cs : List ClauseTree) → Well a → EachBody Well cs → Well (X.Match at a cs)
@@ -510,7 +510,7 @@ module _ (total : ℕ) (small : total < 2 ^ 32) (types : List DataDecl) (funs : 
       let ws : List Written = some_with comma (map (at_clause (suc l)) cs) close in
       let inner : List Written = token (tok.Symbol symbol.OpenBrace) ∷ ws in
       let vs : List Written = at_expr (suc l) a inner in
-      let us : List Written = node l ∷ number at ∷ reserved word.Match ∷ vs in
+      let us : List Written = node l ∷ number at ∷ word_token word.Match ∷ vs in
       let s : Right total us = moved total small types t known_con (match-written at a cs l rest) r in
       let f : ExprWell a (suc l) inner = ha (suc l) inner (record { formed = s.formed; numbers = s.numbers.1; fits = omega (arith, s.fits) }) in
       let some = clauses-some cs hs (suc l) close (record { formed = f.right.formed; numbers = f.right.numbers; fits = omega (arith, f.right.fits) }) in

@@ -296,7 +296,8 @@ module _ (types : List Name) where
   skip-type : (d : TypeTree) (ds : List Definition) → names_of OfLayout (definitions types (top.Types d) ++ ds) ≡ names_of OfLayout ds
   skip-type d ds = skip-constructors OfLayout refl d.cons ds
 
--- Layouts of distinct types have distinct types' numbers: the written ones, and behind them those that are left to the compiler.
+-- Layouts of distinct types have distinct types' numbers: the written ones, and behind them those that are left to the
+-- compiler.
 module _ (t : Tables) (types : List Name)
     (named : (name : Name) (n : ℕ) → meaning t.types name ≡ Some n → list_any (bytes_eq name) types ≡ true)
     (one : (a b : Name) (n : ℕ) → meaning t.types a ≡ Some n → meaning t.types b ≡ Some n → bytes_eq a b ≡ true) where

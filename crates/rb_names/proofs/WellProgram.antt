@@ -21,7 +21,7 @@ use Rattle.rb_names.specs.Answers.{AnswersNumbering}
 use Rattle.rb_names.specs.Tables.{Name, meaning}
 use Rattle.rb_names.specs.Definitions.{tables_of, defined_twice}
 use Rattle.rb_names.specs.Numbering.{Resolved, name_found, numbered_data, numbered_layout, numbered_function}
-use Rattle.rb_names.specs.Programs.{numbered_items, no_twice, main_number, numbered}
+use Rattle.rb_names.specs.Programs.{numbered_items, no_twice, main_number, program_of}
 use Rattle.rb_names.specs.Written.{AreNamed, IsReadFile, item_is_counted}
 use Rattle.rb_names.proofs.Rising.{rise-distinct, Right, place}
 use Rattle.rb_names.proofs.Inverting.{then-ok, ok-is}
@@ -65,7 +65,7 @@ pub once-ok : (o : Option NameTree) (u : Unit {0}) → no_twice o ≡ Ok u → o
 once-ok None u e = refl
 once-ok (Some name) u e = absurd cc
 
-pub well-numbered : (ts : List Token) (file : FileTree) (p : Program) → IsReadFile ts file → numbered file ≡ Ok p → IsWellNumbered p
+pub well-numbered : (ts : List Token) (file : FileTree) (p : Program) → IsReadFile ts file → program_of file ≡ Ok p → IsWellNumbered p
 well-numbered ts file p w e =
     let items : List ItemTree = file.items in
     let t : Tables = tables_of items in
@@ -100,6 +100,6 @@ well-numbered ts file p w e =
     })
 
 -- so is the program that a call answers
-pub answer-well : (result : Resolved Program) (file : FileTree) → AnswersNumbering result (numbered file) → (ts : List Token) → IsReadFile ts file → IfOk result IsWellNumbered
+pub answer-well : (result : Resolved Program) (file : FileTree) → AnswersNumbering result (program_of file) → (ts : List Token) → IsReadFile ts file → IfOk result IsWellNumbered
 answer-well (Ok p) file a ts w = well-numbered ts file p w a
 answer-well (Err fault) file a ts w = tt

@@ -54,8 +54,8 @@ main_number (Some n) = Ok n
 
 -- The program of a file's tree, or its first fault: first a name that is defined twice is looked for, then one that
 -- stands for nothing, then `main`.
-abbrev pub numbered : FileTree → Resolved Program
-numbered file =
+abbrev pub program_of : FileTree → Resolved Program
+program_of file =
     let t = tables_of file.items in
     and_then (no_twice (defined_twice file.items)) (λ done. and_then (numbered_items t file.items) (λ all.
     and_then (main_number (meaning t.functions (codes "main"))) (λ main.

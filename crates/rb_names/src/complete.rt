@@ -4,7 +4,7 @@
 ghost use Rattle.std.specs.Prelude.{◌≡◌, Ok, None, IfOk};
 ghost use Rattle.rb_core.specs.WellNumbered.{IsWellNumbered};
 ghost use Rattle.rb_names.specs.Completing.{IsCompleted, IsCompletion};
-ghost use Rattle.rb_names.specs.Programs.{numbered};
+ghost use Rattle.rb_names.specs.Programs.{program_of};
 ghost use Rattle.rb_names.specs.inner.Deriving.{IsWith};
 
 use crate::derivation::{Derived, derive_all};
@@ -30,7 +30,7 @@ pub struct Completed {
 ///
 /// Want of memory.
 pub fn complete(alloc: Global, tree: &FileTree, program: Program) -> Result<Completed, AllocError>
-    requires named { numbered tree.now ≡ Ok program }
+    requires named { program_of tree.now ≡ Ok program }
     ensures completed { IfOk result (IsCompleted tree.now program) }
     ensures whole { IfOk result (λ c. c.refused ≡ None → IsCompletion tree.now program c) }
     ensures well { IsWellNumbered program → IfOk result (λ c. IsWellNumbered c.program) }

@@ -25,7 +25,7 @@ ghost use Rattle.std.specs.Prelude.{List, IfOk};
 ghost use Rattle.rb_core.specs.WellNumbered.{IsWellNumbered};
 ghost use Rattle.rb_syntax.specs.declared.token.Token.{Token};
 ghost use Rattle.rb_names.specs.Answers.{AnswersNumbering};
-ghost use Rattle.rb_names.specs.Programs.{numbered};
+ghost use Rattle.rb_names.specs.Programs.{program_of};
 ghost use Rattle.rb_names.specs.Written.{IsReadFile};
 
 pub mod complete;
@@ -60,7 +60,7 @@ use std::alloc::Global;
 /// already; else `Unknown` for the first name that stands for nothing; else `NoMain`. `Memory` where
 /// there is want of memory, which says nothing of the tree.
 pub fn resolve(alloc: Global, tree: &FileTree) -> Result<Program, NameFault>
-    ensures answers { AnswersNumbering result (numbered tree.now) }
+    ensures answers { AnswersNumbering result (program_of tree.now) }
     // the program of a file that was read is well numbered
     ensures well { (ts : List Token) → IsReadFile ts tree.now → IfOk result IsWellNumbered }
 {
@@ -70,7 +70,7 @@ pub fn resolve(alloc: Global, tree: &FileTree) -> Result<Program, NameFault>
 // The program of a tree, or the first fault of its names: one that is defined twice, then one that
 // stands for nothing, then that no function is called `main`; or want of memory.
 fn number_file(alloc: Global, tree: &FileTree) -> Result<Program, NameFault>
-    ensures { AnswersNumbering result (numbered tree.now) }
+    ensures { AnswersNumbering result (program_of tree.now) }
 {
     let items = tree.items.as_slice();
     let tables = define_all(alloc, items)?;

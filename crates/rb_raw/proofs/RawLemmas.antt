@@ -2,7 +2,7 @@
 use Rattle.std.proofs.Common.{◌≡◌, ℕ, ◌+◌, ◌-◌, ◌/◌, ◌^◌, ◌<◌, ◌≤◌, Bool, true, false, [], ◌∷◌, ◌++◌, length, get_or, set, replicate, None, Result, Ok, Err, refl, sym, ap, ◌∙◌, arith, length-append, length-set}
 use Rattle.std.specs.Prelude.{slice_index, bit_or, IsOk, if◌then◌else◌}
 use Rattle.std.proofs.lemmas.List.{length-replicate}
-use Rattle.rb_bytes.specs.Memory.{Memory, IsAlign, empty_memory, aligned, place_of, write_le, store_of, lies_within, size_at, load_of, read_le}
+use Rattle.rb_bytes.specs.Memory.{Memory, IsAlign, empty_memory, least_multiple, place_of, write_le, store_of, lies_within, size_at, load_of, read_le}
 use Rattle.rb_bytes.specs.declared.fault.Full.{Full}
 use Rattle.rb_bytes.specs.declared.fault.Trap.{Trap}
 use Rattle.rb_bytes.specs.declared.fault.Trap.TheVariants.{Astray}
@@ -33,7 +33,7 @@ blocks_few r kept =
     let good = kept.good in
     omega (arith, kept.counted, AreBlocks_length (blocks_in r.marks.items 0 0) 64 r.next good.blocks, good.next, good.limit)
 
-module _ (r r' : Inside) (kept : MarksAreKept r) (size align at m n : ℕ) (pos : 0 < size) (aligns : IsAlign align) (is : at ≡ aligned r.next align) (fits : at + size ≤ r.limit)
+module _ (r r' : Inside) (kept : MarksAreKept r) (size align at m n : ℕ) (pos : 0 < size) (aligns : IsAlign align) (is : at ≡ least_multiple r.next align) (fits : at + size ≤ r.limit)
     (begins : m ≡ get_or r.marks.items at m) (ends : n ≡ get_or (set r.marks.items at (bit_or m 1)) (at + size - 1) n)
     (marks' : r'.marks.items ≡ set (set r.marks.items at (bit_or m 1)) (at + size - 1) (bit_or n 2))
     (bytes' : r'.bytes ≡ r.bytes) (blocks' : r'.blocks ≡ r.blocks + 1) (next' : r'.next ≡ at + size) (limit' : r'.limit ≡ r.limit) where

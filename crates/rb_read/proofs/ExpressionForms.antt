@@ -25,7 +25,7 @@ use Rattle.rb_read.specs.inner.Combining.{Reader, into, nothing, pair, expect, e
 use Rattle.rb_read.proofs.Open as open_at
 use Rattle.rb_read.proofs.Open.{one, maybe, next, the, the_word, a_lower, a_width, a_type, fields, begins, as_expr, ahead_of, if_so}
 use Rattle.rb_read.specs.inner.Tokens.{lower_name, width}
-use Rattle.rb_read.specs.inner.Reading.{named, called, type_tree, pattern, begins_expression, is_form, expression_one, expression, binding_of, clause_of, conversion_of, matching_of, operation_of}
+use Rattle.rb_read.specs.inner.Reading.{name_tree, name_or_call, type_tree, pattern, begins_expression, is_form, expression_one, expression, binding_of, clause_of, conversion_of, matching_of, operation_of}
 use Rattle.rb_read.specs.inner.Reading as reading
 use Rattle.rb_read.proofs.Forms.{IsRight, Again, Clear, IsForm}
 use Rattle.rb_read.proofs.FormLaws.{nothing-form, pair-form, first-strict, iso-form, into-strict, alias-form}
@@ -279,9 +279,9 @@ module _ (total limit l : ℕ) (small : nat_lt limit l ≡ false) {inside : Read
         same false = refl
 
   called-written : (at : ℕ) (x : List ℕ) (o : Option (List ExprTree)) (rest : List Written)
-      → at_expr l (called at x o) rest ≡ node l ∷ number at ∷ number at ∷ token (tok.Lower x) ∷ perhaps args_written o rest
-  called-written at x None rest = expr-Var at (named at x) l rest
-  called-written at x (Some es) rest = call-written at (named at x) es l rest
+      → at_expr l (name_or_call at x o) rest ≡ node l ∷ number at ∷ number at ∷ token (tok.Lower x) ∷ perhaps args_written o rest
+  called-written at x None rest = expr-Var at (name_tree at x) l rest
+  called-written at x (Some es) rest = call-written at (name_tree at x) es l rest
 
   form-at : (w : ReservedWord) (f : Form) → form_of w ≡ f → IsWordOf f w → AtToken total limit (open_at.expr l) (at_expr l) this (tok.Reserved w)
   unfolding begins expression_one reading.expression_from reading.from_form reading.operation reading.conversion reading.binding reading.matching reading.clause_tree
@@ -303,10 +303,10 @@ module _ (total limit l : ℕ) (small : nat_lt limit l ≡ false) {inside : Read
   unfolding begins expression_one reading.expression_from reading.arguments into nothing
   expression-on (tok.Num n) = node-at (nothing-form total limit) l refl small (λ at y. X.Num at n) (λ ts. refl) marks
       (λ at. tt) (λ at. (refl, tt)) (λ at. rw small refl) (λ at y rest. expr-Num at n l rest)
-  expression-on (tok.Lower x) = node-at arguments-form l refl small (λ at o. called at x o) (λ ts. refl) (λ at. node l ∷ number at ∷ number at ∷ [])
+  expression-on (tok.Lower x) = node-at arguments-form l refl small (λ at o. name_or_call at x o) (λ ts. refl) (λ at. node l ∷ number at ∷ number at ∷ [])
       (λ at. tt) (λ at. (refl, (refl, tt))) (λ at. rw small refl) (λ at o rest. called-written at x o rest)
-  expression-on (tok.Upper x) = node-at build-form l refl small (λ at es. X.Build at (named at x) es) (λ ts. refl) (λ at. node l ∷ number at ∷ number at ∷ [])
-      (λ at. tt) (λ at. (refl, (refl, tt))) (λ at. rw small refl) (λ at es rest. build-written at (named at x) es l rest)
+  expression-on (tok.Upper x) = node-at build-form l refl small (λ at es. X.Build at (name_tree at x) es) (λ ts. refl) (λ at. node l ∷ number at ∷ number at ∷ [])
+      (λ at. tt) (λ at. (refl, (refl, tt))) (λ at. rw small refl) (λ at es rest. build-written at (name_tree at x) es l rest)
   expression-on (tok.Reserved w) = form-at w (form_of w) refl (word-of-form w)
   expression-on _ = none-at refl (λ ts. refl)
 
@@ -316,11 +316,11 @@ module _ (total limit l : ℕ) (small : nat_lt limit l ≡ false) {inside : Read
   expression-again rest c = by_form (λ x. IsRight total (at_expr l x rest) → Again total limit this x (at_expr l x rest) rest)
       (λ at n i. node-again (nothing-form total limit) (tok.Num n) (λ m y. X.Num m n) (λ ts. refl) (marks at) tt (rw small refl) _ tt rest _
       (expr-Num at n l rest) (λ m h. rw h.0 refl) i clear)
-      (λ at x i. node-again arguments-form (tok.Lower x.text) (λ m o. called m x.text o) (λ ts. refl) (node l ∷ number at ∷ number x.at ∷ []) tt (rw small refl) _ None rest _
+      (λ at x i. node-again arguments-form (tok.Lower x.text) (λ m o. name_or_call m x.text o) (λ ts. refl) (node l ∷ number at ∷ number x.at ∷ []) tt (rw small refl) _ None rest _
       (expr-Var at x l rest) (λ m h. rw (h.0, ← h.1.0) refl) i c)
-      (λ at x es i. node-again arguments-form (tok.Lower x.text) (λ m o. called m x.text o) (λ ts. refl) (node l ∷ number at ∷ number x.at ∷ []) tt (rw small refl) _ (Some es) rest _
+      (λ at x es i. node-again arguments-form (tok.Lower x.text) (λ m o. name_or_call m x.text o) (λ ts. refl) (node l ∷ number at ∷ number x.at ∷ []) tt (rw small refl) _ (Some es) rest _
       (call-written at x es l rest) (λ m h. rw (h.0, ← h.1.0) refl) i c)
-      (λ at x es i. node-again build-form (tok.Upper x.text) (λ m es. X.Build m (named m x.text) es) (λ ts. refl) (node l ∷ number at ∷ number x.at ∷ []) tt (rw small refl) _ es rest _
+      (λ at x es i. node-again build-form (tok.Upper x.text) (λ m es. X.Build m (name_tree m x.text) es) (λ ts. refl) (node l ∷ number at ∷ number x.at ∷ []) tt (rw small refl) _ es rest _
       (build-written at x es l rest) (λ m h. rw (h.0, ← h.1.0) refl) i c)
       (λ at o a b i. node-again operands-form (tok.Reserved (op_word o)) (λ m. operation_of m o) (λ ts. rw (form_of-op_word o) refl) (marks at) tt (rw small refl) _ (tt, (a, (tt, (b, tt)))) rest _
       (expr-Binary at o a b l rest) (λ m h. rw h.0 refl) i clear)

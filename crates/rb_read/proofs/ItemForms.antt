@@ -16,7 +16,7 @@ use Rattle.rb_syntax.specs.declared.tree.ItemTree.{ItemTree}
 use Rattle.rb_syntax.specs.declared.tree.ItemTree.TheVariants as top
 use Rattle.rb_syntax.specs.Written.{Written, Writing, token, number, tokens_in, each, some_with, any_with}
 use Rattle.rb_syntax.specs.Spelling as spelling
-use Rattle.rb_syntax.specs.Spelling.{reserved, upper_written, lower_written, ty_written, con_written, param_written, width_written, item_written}
+use Rattle.rb_syntax.specs.Spelling.{word_token, upper_written, lower_written, ty_written, con_written, param_written, width_written, item_written}
 use Rattle.rb_read.specs.inner.Combining.{Reader, pair, into, nothing, expect, some_closed, any_closed}
 use Rattle.rb_read.proofs.Open.{one, first, next, the, a_number, a_lower, an_upper, a_type, a_con, a_param, derived, layout_rest, item, begins, start}
 use Rattle.rb_read.proofs.Open as open_at
@@ -39,7 +39,7 @@ none t = false
 -- The word of a derived layout.
 
 abbrev auto_written : Auto → Writing
-auto_written a rest = reserved (spelling.auto_word a) ∷ rest
+auto_written a rest = word_token (spelling.auto_word a) ∷ rest
 
 derived-part : (total limit : ℕ) → IsPart total limit none derived auto_written auto_word
 unfolding begins auto_word auto_from into nothing

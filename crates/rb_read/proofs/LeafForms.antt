@@ -13,7 +13,7 @@ use Rattle.rb_syntax.specs.declared.token.Symbol.TheVariants as symbol
 use Rattle.rb_syntax.specs.declared.token.Token.{Token}
 use Rattle.rb_syntax.specs.declared.token.Token.TheVariants as tok
 use Rattle.rb_syntax.specs.Written.{Written, Writing, token, node, flaw, tokens_in, each, any_with}
-use Rattle.rb_syntax.specs.Spelling.{num, reserved, range_written, field_written, kind_written, part_written, lay_item_written}
+use Rattle.rb_syntax.specs.Spelling.{num, word_token, range_written, field_written, kind_written, part_written, lay_item_written}
 use Rattle.rb_syntax.proofs.LayoutSpelling.{item-Word, item-Inline, part-is, kind-Const, kind-Whole, kind-Slice, kind-Word, kind-Pointer}
 use Rattle.rb_read.specs.inner.Starting.{is_symbol}
 use Rattle.rb_read.specs.inner.Combining.{Reader, ReadOutcome, ◌>>=◌, pair, into, expect, optional, any_closed}
@@ -38,7 +38,7 @@ none t = false
 
 abbrev end_written : PathEnd → Writing
 end_written (sliced a b) rest = range_written a b rest
-end_written (numbered j) rest = reserved word.Word ∷ num j ∷ rest
+end_written (numbered j) rest = word_token word.Word ∷ num j ∷ rest
 
 path_end-part : (total limit : ℕ) → IsPart total limit none open_at.path_end end_written reading.path_end
 unfolding begins reading.path_end path_end_from
@@ -103,7 +103,7 @@ into-into f g (Err e) = refl
 flawed-path : (total : ℕ) (o : Option PathEnd) (l : ℕ) (rest : List Written) → IsRight total (kind_written (field_part [] o) l rest) → ⊥
 flawed-path total None l rest i = let j : IsRight total (flaw ∷ rest) = subst (λ ws. IsRight total ws) (kind-Whole [] l rest) i in j.0
 flawed-path total (Some (sliced a b)) l rest i = let j : IsRight total (flaw ∷ range_written a b rest) = subst (λ ws. IsRight total ws) (kind-Slice [] a b l rest) i in j.0
-flawed-path total (Some (numbered j)) l rest i = let k : IsRight total (flaw ∷ reserved word.Word ∷ num j ∷ rest) = subst (λ ws. IsRight total ws) (kind-Word [] j l rest) i in k.0
+flawed-path total (Some (numbered j)) l rest i = let k : IsRight total (flaw ∷ word_token word.Word ∷ num j ∷ rest) = subst (λ ws. IsRight total ws) (kind-Word [] j l rest) i in k.0
 
 -- a part's kind, form by form
 kind_by_form : (Q : PartKind → Type 0) → ((c : ℕ) → Q (K.Const c)) → ((p : List ℕ) → Q (K.Whole p)) → ((p : List ℕ) (a b : ℕ) → Q (K.Slice p a b))
@@ -224,7 +224,7 @@ module _ (total limit l : ℕ) (pointed : Reader PartKind) (arrow : IsPointed to
 
   inline-again : (rest : List Written) → Clear opens_dot (tokens_in rest) → (ns : List ℕ) → IsRight total (at_item l (I.Inline ns) rest)
       → Again total limit (item_one pointed) (I.Inline ns) (at_item l (I.Inline ns) rest) rest
-  inline-again rest c [] i = let j : IsRight total (reserved word.Inline ∷ flaw ∷ rest) = subst (λ ws. IsRight total ws) (item-Inline [] l rest) i in absurd j.0
+  inline-again rest c [] i = let j : IsRight total (word_token word.Inline ∷ flaw ∷ rest) = subst (λ ws. IsRight total ws) (item-Inline [] l rest) i in absurd j.0
   inline-again rest c (n ∷ ns) i = node-again fields-form (tok.Reserved word.Inline) (λ at p. I.Inline (p.0 ∷ p.1)) (λ ts. inline-reads ts) [] tt refl _ (n, ns) rest _
       (item-Inline (n ∷ ns) l rest) (λ at h. refl) i c
 

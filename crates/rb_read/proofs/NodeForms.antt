@@ -1,10 +1,11 @@
 -- Forms that are told by their first token.
 --
--- A production takes two tables and `part-form`. One goes over the first token: `node-at`, with the form that stands behind the
--- token; `whole-at`, with a form that begins with the token itself; `deep-at` where what begins is too deep; `none-at` where
--- nothing begins; and `if-at` where the token has a test to pass. The other goes over the tree's forms: `node-again`,
--- `whole-again` or `deep-again`. Each line names what is made of what stands behind, with the number of the node's place, and the
--- marks in front of the token; what is left to prove is `refl` or the equation of the form's spelling. So an addition is
+-- A production takes two tables and `part-form`. One goes over the first token: `node-at`, with the form that stands
+-- behind the token; `whole-at`, with a form that begins with the token itself; `deep-at` where what begins is too deep;
+-- `none-at` where nothing begins; and `if-at` where the token has a test to pass. The other goes over the tree's forms:
+-- `node-again`, `whole-again` or `deep-again`. Each line names what is made of what stands behind, with the number of
+-- the node's place, and the marks in front of the token; what is left to prove is `refl` or the equation of the form's
+-- spelling. So an addition is
 --
 --     on (tok.Reserved word.Add) = node-at operands l refl small (λ at. operation_of at op.Add) (λ ts. refl)
 --         (λ at. node l ∷ number at ∷ []) (λ at. tt) (λ at. (refl, tt)) (λ at. rw small refl)
@@ -14,8 +15,8 @@
 --         (node l ∷ number at ∷ []) tt (rw small refl) (X.Binary at op.Add a b) (tt, (a, (tt, (b, tt)))) rest _
 --         (expr-Binary at op.Add a b l rest) (λ m h. rw h.0 refl) i c
 --
--- where `operands` is the form of `(a, b)`, by `pair-form` of forms of its symbols and of the expressions one level below, and
--- `operation_of` makes a tree of its parts.
+-- where `operands` is the form of `(a, b)`, by `pair-form` of forms of its symbols and of the expressions one level
+-- below, and `operation_of` makes a tree of its parts.
 use Rattle.std.proofs.Common.{◌≡◌, ℕ, suc, ◌-◌, ◌≤◌, List, [], ◌∷◌, ◌++◌, length, Bool, true, false, nat_lt, if◌then◌else◌, Some, None, Err, IfOk, refl, sym, ◌∙◌, ap, subst, arith}
 use Rattle.std.proofs.lemmas.Grind.{common_steps}
 use Rattle.rb_syntax.specs.declared.token.Token.{Token}

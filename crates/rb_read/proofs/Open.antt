@@ -1,4 +1,5 @@
--- What is still open while tokens are read from left to right: the grammar, without trees and without a limit of levels.
+-- What is still open while tokens are read from left to right: the grammar, without trees and without a limit of
+-- levels.
 use Rattle.std.specs.Prelude.{ℕ, suc, ◌^◌, List, [], ◌∷◌, ◌++◌, length, Bool, true, false, nat_lt, if◌then◌else◌, Option, Some, None}
 use Rattle.rb_syntax.specs.declared.token.ReservedWord.{ReservedWord}
 use Rattle.rb_syntax.specs.declared.token.ReservedWord.TheVariants as word

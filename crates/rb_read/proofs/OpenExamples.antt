@@ -38,8 +38,8 @@ function = res Fun ∷ low ∷ sym OpenParen ∷ low ∷ sym Colon ∷ up ∷ sy
     ∷ res In ∷ res Add ∷ sym OpenParen ∷ low ∷ sym Comma ∷ up ∷ sym CloseParen ∷ sym Comma
     ∷ sym Underscore ∷ sym FatArrow ∷ res To ∷ token.Uint 8 ∷ sym OpenParen ∷ num ∷ sym CloseParen ∷ sym CloseBrace ∷ sym Semicolon ∷ []
 
--- layout T <0, 0> = split 0 [0:0] -> 0 @ 0 : 0 [0:0] { 0 => T : { inline .0.0 } else => T(_) : { word 0 { [0:0] = 0, [0:0] .0
--- [0:0], [0:0] .0.0 word 0, [0:0] -> 0 { word 0 { } } } } };
+-- layout T <0, 0> = split 0 [0:0] -> 0 @ 0 : 0 [0:0] { 0 => T : { inline .0.0 } else => T(_) : { word 0 { [0:0] = 0,
+-- [0:0] .0 [0:0], [0:0] .0.0 word 0, [0:0] -> 0 { word 0 { } } } } };
 abbrev layout : List Token
 layout = res Layout ∷ up ∷ sym Less ∷ num ∷ sym Comma ∷ num ∷ sym Greater ∷ sym Equals ∷ res Split ∷ num ∷ range
     ++ sym Arrow ∷ num ∷ sym At ∷ num ∷ sym Colon ∷ num ∷ range

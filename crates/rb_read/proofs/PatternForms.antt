@@ -14,7 +14,7 @@ use Rattle.rb_syntax.proofs.LayoutSpelling.{below-Wild, below-Var, below-Num, be
 use Rattle.rb_syntax.proofs.PatternInduction.{induction}
 use Rattle.rb_read.specs.inner.Combining.{Reader, into, nothing, in_parens, beyond}
 use Rattle.rb_read.proofs.Open.{maybe, fields, pat, below, prov, begins, as_pattern}
-use Rattle.rb_read.specs.inner.Reading.{named, begins_pattern, pattern_from, pattern_one, pattern, begins_below, below_from, below_one, begins_provenance, provenance_from, provenance_one, provenance}
+use Rattle.rb_read.specs.inner.Reading.{name_tree, begins_pattern, pattern_from, pattern_one, pattern, begins_below, below_from, below_one, begins_provenance, provenance_from, provenance_one, provenance}
 use Rattle.rb_read.specs.inner.Reading as reading
 use Rattle.rb_read.proofs.Forms.{IsRight, Again, Clear, IsForm}
 use Rattle.rb_read.proofs.FormLaws.{nothing-form}
@@ -75,10 +75,10 @@ module _ (total limit l : ℕ) (small : nat_lt limit l ≡ false) {inner : Reade
 
   pattern-on : (t : Token) → AtToken total limit (pat l) (λ p. pat_written p l) (pattern_one inner total) t
   unfolding pattern_one pattern_from begins as_pattern into nothing
-  pattern-on (tok.Upper x) = node-at subpatterns l refl small (λ at ps. P.Con at (named at x) ps) (λ ts. refl) (λ at. node l ∷ number at ∷ number at ∷ [])
-      (λ at. tt) (λ at. (refl, (refl, tt))) (λ at. rw small refl) (λ at ps rest. con-written at (named at x) ps l rest)
-  pattern-on (tok.Lower x) = node-at (nothing-form total limit) l refl small (λ at y. P.Var at (named at x)) (λ ts. refl) (λ at. node l ∷ number at ∷ number at ∷ [])
-      (λ at. tt) (λ at. (refl, (refl, tt))) (λ at. rw small refl) (λ at y rest. pat-Var at (named at x) l rest)
+  pattern-on (tok.Upper x) = node-at subpatterns l refl small (λ at ps. P.Con at (name_tree at x) ps) (λ ts. refl) (λ at. node l ∷ number at ∷ number at ∷ [])
+      (λ at. tt) (λ at. (refl, (refl, tt))) (λ at. rw small refl) (λ at ps rest. con-written at (name_tree at x) ps l rest)
+  pattern-on (tok.Lower x) = node-at (nothing-form total limit) l refl small (λ at y. P.Var at (name_tree at x)) (λ ts. refl) (λ at. node l ∷ number at ∷ number at ∷ [])
+      (λ at. tt) (λ at. (refl, (refl, tt))) (λ at. rw small refl) (λ at y rest. pat-Var at (name_tree at x) l rest)
   pattern-on (tok.Num n) = node-at (nothing-form total limit) l refl small (λ at y. P.Num at n) (λ ts. refl) (λ at. node l ∷ number at ∷ [])
       (λ at. tt) (λ at. (refl, tt)) (λ at. rw small refl) (λ at y rest. pat-Num at n l rest)
   pattern-on (tok.Symbol symbol.Underscore) = node-at (nothing-form total limit) l refl small (λ at y. P.Wild at) (λ ts. refl) (λ at. node l ∷ number at ∷ [])
@@ -91,11 +91,11 @@ module _ (total limit l : ℕ) (small : nat_lt limit l ≡ false) {inner : Reade
   pattern-again rest c = by_form (λ p. IsRight total (pat_written p l rest) → Again total limit (pattern_one inner total) p (pat_written p l rest) rest)
       (λ at i. node-again (nothing-form total limit) (tok.Symbol symbol.Underscore) (λ at y. P.Wild at) (λ ts. refl) (node l ∷ number at ∷ []) tt (rw small refl) _ tt rest _
       (pat-Wild at l rest) (λ m h. rw h.0 refl) i clear)
-      (λ at x i. node-again (nothing-form total limit) (tok.Lower x.text) (λ at y. P.Var at (named at x.text)) (λ ts. refl) (node l ∷ number at ∷ number x.at ∷ []) tt (rw small refl) _ tt rest _
+      (λ at x i. node-again (nothing-form total limit) (tok.Lower x.text) (λ at y. P.Var at (name_tree at x.text)) (λ ts. refl) (node l ∷ number at ∷ number x.at ∷ []) tt (rw small refl) _ tt rest _
       (pat-Var at x l rest) (λ m h. rw (h.0, ← h.1.0) refl) i clear)
       (λ at k i. node-again (nothing-form total limit) (tok.Num k) (λ at y. P.Num at k) (λ ts. refl) (node l ∷ number at ∷ []) tt (rw small refl) _ tt rest _
       (pat-Num at k l rest) (λ m h. rw h.0 refl) i clear)
-      (λ at x ps i. node-again subpatterns (tok.Upper x.text) (λ at ps. P.Con at (named at x.text) ps) (λ ts. refl) (node l ∷ number at ∷ number x.at ∷ []) tt (rw small refl) _ ps rest _
+      (λ at x ps i. node-again subpatterns (tok.Upper x.text) (λ at ps. P.Con at (name_tree at x.text) ps) (λ ts. refl) (node l ∷ number at ∷ number x.at ∷ []) tt (rw small refl) _ ps rest _
       (con-written at x ps l rest) (λ m h. rw (h.0, ← h.1.0) refl) i c) where
         clear : Clear (λ _. false) (tokens_in rest)
         clear = all-clear (tokens_in rest)
@@ -147,8 +147,8 @@ module _ (total limit l : ℕ) (small : nat_lt limit l ≡ false) {inner : Reade
 
   below-on : (t : Token) → AtToken total limit (below l) (λ p. below_written p l) (below_one inner total) t
   unfolding below_one below_from begins into nothing
-  below-on (tok.Upper x) = node-at subprovenances l refl small (λ at ps. P.Con at (named at x) ps) (λ ts. refl) (λ at. node l ∷ number at ∷ number at ∷ [])
-      (λ at. tt) (λ at. (refl, (refl, tt))) (λ at. rw small refl) (λ at ps rest. below-con-written at (named at x) ps l rest)
+  below-on (tok.Upper x) = node-at subprovenances l refl small (λ at ps. P.Con at (name_tree at x) ps) (λ ts. refl) (λ at. node l ∷ number at ∷ number at ∷ [])
+      (λ at. tt) (λ at. (refl, (refl, tt))) (λ at. rw small refl) (λ at ps rest. below-con-written at (name_tree at x) ps l rest)
   below-on (tok.Symbol symbol.Underscore) = node-at (nothing-form total limit) l refl small (λ at y. P.Wild at) (λ ts. refl) (λ at. node l ∷ number at ∷ [])
       (λ at. tt) (λ at. (refl, tt)) (λ at. rw small refl) (λ at y rest. below-Wild at l rest)
   below-on _ = none-at refl (λ ts. refl)
@@ -161,7 +161,7 @@ module _ (total limit l : ℕ) (small : nat_lt limit l ≡ false) {inner : Reade
       (below-Wild at l rest) (λ m h. rw h.0 refl) i (all-clear (tokens_in rest)))
       (λ at x i. flawed total _ rest (below-Var at x l rest) i)
       (λ at n i. flawed total _ rest (below-Num at n l rest) i)
-      (λ at x ps i. node-again subprovenances (tok.Upper x.text) (λ at ps. P.Con at (named at x.text) ps) (λ ts. refl) (node l ∷ number at ∷ number x.at ∷ []) tt (rw small refl) _ ps rest _
+      (λ at x ps i. node-again subprovenances (tok.Upper x.text) (λ at ps. P.Con at (name_tree at x.text) ps) (λ ts. refl) (node l ∷ number at ∷ number x.at ∷ []) tt (rw small refl) _ ps rest _
       (below-con-written at x ps l rest) (λ m h. rw (h.0, ← h.1.0) refl) i c)
 
   below-above : IsPart total limit opens_paren (below l) (λ p. below_written p l) (below_one inner total)
@@ -170,8 +170,8 @@ module _ (total limit l : ℕ) (small : nat_lt limit l ≡ false) {inner : Reade
 
   provenance-on : (t : Token) → AtToken total limit (prov l) (λ p. prov_written p l) (provenance_one inner total) t
   unfolding provenance_one provenance_from begins into P.roll-PatTree denote.Hole.Carrier.roll P.out-PatTree denote.Hole.Carrier.out
-  provenance-on (tok.Upper x) = node-at subprovenances l refl small (λ at ps. P.Con at (named at x) ps) (λ ts. refl) (λ at. node l ∷ number at ∷ number at ∷ [])
-      (λ at. tt) (λ at. (refl, (refl, tt))) (λ at. rw small refl) (λ at ps rest. below-con-written at (named at x) ps l rest)
+  provenance-on (tok.Upper x) = node-at subprovenances l refl small (λ at ps. P.Con at (name_tree at x) ps) (λ ts. refl) (λ at. node l ∷ number at ∷ number at ∷ [])
+      (λ at. tt) (λ at. (refl, (refl, tt))) (λ at. rw small refl) (λ at ps rest. below-con-written at (name_tree at x) ps l rest)
   provenance-on _ = none-at refl (λ ts. refl)
 
   provenance-again : (rest : List Written) → Clear opens_paren (tokens_in rest) → (p : PatTree) → IsRight total (prov_written p l rest)
@@ -181,7 +181,7 @@ module _ (total limit l : ℕ) (small : nat_lt limit l ≡ false) {inner : Reade
       (λ at i. absurd i.0)
       (λ at x i. flawed total _ rest (below-Var at x l rest) i)
       (λ at n i. flawed total _ rest (below-Num at n l rest) i)
-      (λ at x ps i. node-again subprovenances (tok.Upper x.text) (λ at ps. P.Con at (named at x.text) ps) (λ ts. refl) (node l ∷ number at ∷ number x.at ∷ []) tt (rw small refl) _ ps rest _
+      (λ at x ps i. node-again subprovenances (tok.Upper x.text) (λ at ps. P.Con at (name_tree at x.text) ps) (λ ts. refl) (node l ∷ number at ∷ number x.at ∷ []) tt (rw small refl) _ ps rest _
       (below-con-written at x ps l rest) (λ m h. rw (h.0, ← h.1.0) refl) i c)
 
   provenance-above : IsPart total limit opens_paren (prov l) (λ p. prov_written p l) (provenance_one inner total)

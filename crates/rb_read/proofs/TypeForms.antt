@@ -11,7 +11,7 @@ use Rattle.rb_read.specs.inner.Starting.{is_symbol}
 use Rattle.rb_read.specs.inner.Combining.{ReadOutcome, Reader, ◌>>=◌, pair, into, nothing, expect, in_parens}
 use Rattle.rb_read.specs.inner.Tokens.{lower_name}
 use Rattle.rb_read.proofs.Open.{Open, one, maybe, the, an_upper, fields, a_type, a_con, a_param, begins, ahead_of}
-use Rattle.rb_read.specs.inner.Reading.{named, type_from, type_tree, con_tree, param_tree, parameter_of}
+use Rattle.rb_read.specs.inner.Reading.{name_tree, type_from, type_tree, con_tree, param_tree, parameter_of}
 use Rattle.rb_read.proofs.Forms.{IsRight, Again, Clear, IsForm}
 use Rattle.rb_read.proofs.FormLaws.{nat_lt-zero, nothing-form, pair-form, first-strict, iso-form, into-strict, alias-form}
 use Rattle.rb_read.proofs.ListForms.{in_parens-form}
@@ -35,7 +35,7 @@ type-part total limit = part-form refl on again where
   on (tok.Uint bits) = if-at (is_uint_width bits)
       (λ e. node-at (nothing-form total limit) 0 (rw e refl) (nat_lt-zero limit) (λ at y. ty.Int bits) (λ ts. rw e refl) (λ at. []) (λ at. tt) (λ at. tt) (λ at. refl) (λ at y rest. rw e refl))
       (λ e. none-at (rw e refl) (λ ts. rw e refl))
-  on (tok.Upper name) = node-at (nothing-form total limit) 0 refl (nat_lt-zero limit) (λ at y. ty.Named (named at name)) (λ ts. refl) (λ at. number at ∷ [])
+  on (tok.Upper name) = node-at (nothing-form total limit) 0 refl (nat_lt-zero limit) (λ at y. ty.Named (name_tree at name)) (λ ts. refl) (λ at. number at ∷ [])
       (λ at. tt) (λ at. (refl, tt)) (λ at. refl) (λ at y rest. refl)
   on _ = none-at refl (λ ts. refl)
 
@@ -44,7 +44,7 @@ type-part total limit = part-form refl on again where
   again (ty.Int bits) rest i c = let e : is_uint_width bits ≡ true = checked-right total _ _ i in
       node-again (nothing-form total limit) (tok.Uint bits) (λ at y. ty.Int bits) (λ ts. rw e refl) [] tt refl (ty.Int bits) tt rest _ (rw e refl) (λ at h. refl) i c
   again (ty.Named x) rest i c =
-      node-again (nothing-form total limit) (tok.Upper x.text) (λ at y. ty.Named (named at x.text)) (λ ts. refl) (number x.at ∷ []) tt refl (ty.Named x) tt rest _ refl
+      node-again (nothing-form total limit) (tok.Upper x.text) (λ at y. ty.Named (name_tree at x.text)) (λ ts. refl) (number x.at ∷ []) tt refl (ty.Named x) tt rest _ refl
       (λ at h. rw (← h.0) refl) i c
 
 abbrev pub opens_paren : Token → Bool
@@ -78,13 +78,13 @@ param-taken total limit = before-any (symbol-part total limit symbol.Colon).form
 pub param-part : (total limit : ℕ) → IsPart total limit (λ _. false) a_param param_written (param_tree total)
 unfolding begins param_tree lower_name pair into
 param-part total limit = part-form refl on
-    (λ x rest i c. node-again (param-taken total limit) (tok.Lower x.var.text) (λ at p. record { at = at; var = named at x.var.text; ty = p.1 }) (λ ts. reads x.var.text ts)
-    (number x.at ∷ number x.var.at ∷ []) tt refl x (tt, x.ty) rest _ refl (λ at h. rw (← h.0) (ap (λ (m : ℕ). record { at = x.at; var = named m x.var.text; ty = x.ty }) (h.0 ∙ sym h.1.0))) i c) where
+    (λ x rest i c. node-again (param-taken total limit) (tok.Lower x.var.text) (λ at p. record { at = at; var = name_tree at x.var.text; ty = p.1 }) (λ ts. reads x.var.text ts)
+    (number x.at ∷ number x.var.at ∷ []) tt refl x (tt, x.ty) rest _ refl (λ at h. rw (← h.0) (ap (λ (m : ℕ). record { at = x.at; var = name_tree m x.var.text; ty = x.ty }) (h.0 ∙ sym h.1.0))) i c) where
       reads : (name : List ℕ) (ts : List Token) → param_tree total (tok.Lower name ∷ ts)
-          ≡ into (λ p. record { at = total - suc (length ts); var = named (total - suc (length ts)) name; ty = p.1 }) (pair (expect symbol.Colon) (type_tree total)) ts
-      reads name ts = behind-name parameter_of (named (total - suc (length ts)) name) (pair (expect symbol.Colon) (type_tree total) ts)
+          ≡ into (λ p. record { at = total - suc (length ts); var = name_tree (total - suc (length ts)) name; ty = p.1 }) (pair (expect symbol.Colon) (type_tree total)) ts
+      reads name ts = behind-name parameter_of (name_tree (total - suc (length ts)) name) (pair (expect symbol.Colon) (type_tree total) ts)
 
       on : (t : Token) → AtToken total limit a_param param_written (param_tree total) t
-      on (tok.Lower x) = node-at (param-taken total limit) 0 refl (nat_lt-zero limit) (λ at p. record { at = at; var = named at x; ty = p.1 }) (λ ts. reads x ts) (λ at. number at ∷ number at ∷ [])
+      on (tok.Lower x) = node-at (param-taken total limit) 0 refl (nat_lt-zero limit) (λ at p. record { at = at; var = name_tree at x; ty = p.1 }) (λ ts. reads x ts) (λ at. number at ∷ number at ∷ [])
           (λ at. tt) (λ at. (refl, (refl, tt))) (λ at. refl) (λ at p rest. refl)
       on _ = none-at refl (λ ts. refl)

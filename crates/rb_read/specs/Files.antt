@@ -8,7 +8,7 @@ use Rattle.rb_syntax.specs.Spelling.{IsTreeOf, file_written}
 use Rattle.rb_read.specs.declared.fault.ReadFault.{ReadFault}
 use Rattle.rb_read.specs.declared.fault.ReadFault.TheVariants.{TooDeep, Syntax, Limit, Memory}
 use Rattle.rb_read.specs.Exact.{StopsAt, IsFirstTooDeep, IsNowhereTooDeep}
-use Rattle.rb_read.specs.Limits.{counted, first_over}
+use Rattle.rb_read.specs.Limits.{count_of, first_over}
 
 -- `file` is the tree that the tokens spell, of no more levels than are allowed
 pub record IsFile (ts : List Token) (file : FileTree) : Type 0 where
@@ -21,7 +21,7 @@ abbrev pub IsFileAnswer : List Token → Result FileTree ReadFault → Type 0
 IsFileAnswer ts (Ok file) = IsFile ts file × (first_over file ≡ None)
 IsFileAnswer ts (Err (TooDeep p)) = IsFirstTooDeep ts p
 IsFileAnswer ts (Err (Syntax p)) = IsNowhereTooDeep ts × StopsAt ts p
-IsFileAnswer ts (Err (Limit q n)) = (file : FileTree) × IsFile ts file × (first_over file ≡ Some (counted q n))
+IsFileAnswer ts (Err (Limit q n)) = (file : FileTree) × IsFile ts file × (first_over file ≡ Some (count_of q n))
 IsFileAnswer ts (Err Memory) = ⊥
 
 -- the result is the answer to the tokens, or want of memory, which says nothing of them

@@ -24,8 +24,8 @@ limit_of Parameters = limits.most_parameters
 limit_of ShapeWords = limits.most_words
 
 -- the count of a quantity of which there are `n`
-abbrev pub counted : Quantity → ℕ → Count
-counted q n = record { quantity = q; count = n }
+abbrev pub count_of : Quantity → ℕ → Count
+count_of q n = record { quantity = q; count = n }
 
 -- whether a count is over the limit of its quantity; a count equal to the limit is not
 abbrev pub is_over : Count → Bool
@@ -33,18 +33,18 @@ is_over c = nat_lt (limit_of c.quantity) c.count
 
 -- the count of a constructor's fields
 abbrev pub field_count : ConTree → Count
-field_count con = counted Fields (length con.fields)
+field_count con = count_of Fields (length con.fields)
 
 -- the counts of a type: its constructors, then the fields of each
 abbrev pub type_counts : TypeTree → List Count
-type_counts t = counted Constructors (length t.cons) ∷ map field_count t.cons
+type_counts t = count_of Constructors (length t.cons) ∷ map field_count t.cons
 
 -- the counts of one item that have a limit: those of a type, the words of a layout's shape, or the parameters of a
 -- function; a derived layout has none
 abbrev pub item_counts : ItemTree → List Count
 item_counts (top.Types t) = type_counts t
-item_counts (top.Layouts l) = counted ShapeWords (length l.shape) ∷ []
-item_counts (top.Funs f) = counted Parameters (length f.params) ∷ []
+item_counts (top.Layouts l) = count_of ShapeWords (length l.shape) ∷ []
+item_counts (top.Funs f) = count_of Parameters (length f.params) ∷ []
 item_counts (top.Derived name a) = []
 
 -- the types among the items, in their order
@@ -63,7 +63,7 @@ functions_in (_ ∷ items) = functions_in items
 -- the file's bytes are not among them, since they are counted where the file is read
 abbrev pub counts : List ItemTree → List Count
 counts items =
-    counted Types (length (types_in items)) ∷ counted Functions (length (functions_in items))
+    count_of Types (length (types_in items)) ∷ count_of Functions (length (functions_in items))
     ∷ flat_map item_counts items
 
 -- the first of a file's counts, in the order of `counts`, that is over its limit, or none; its bytes are not counted

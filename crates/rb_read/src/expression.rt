@@ -138,7 +138,7 @@ fn read_called<'a>(
 ) -> Result<(ExprTree, &'a [Placed]), Stop>
     requires { total < 2 ^ 32 }
     ensures { Gives (λ x. (x.0, tokens x.1.now)) result
-        (combining.into (λ o. reading.called at name.now o)
+        (combining.into (λ o. reading.name_or_call at name.now o)
         (reading.arguments (λ ts. reading.pattern levels total ts)
         (λ ts. reading.expression levels total ts) total at) (tokens placed.now)) }
 {
@@ -190,7 +190,7 @@ fn read_built<'a>(
 ) -> Result<(ExprTree, &'a [Placed]), Stop>
     requires { total < 2 ^ 32 }
     ensures { Gives (λ x. (x.0, tokens x.1.now)) result
-        (combining.into (λ es. exprs.Build at (reading.named at name.now) es)
+        (combining.into (λ es. exprs.Build at (reading.name_tree at name.now) es)
         (combining.in_parens (λ ts. reading.expression levels total ts)) (tokens placed.now)) }
 {
     let text = name.copy(alloc)?;

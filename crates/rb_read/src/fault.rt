@@ -7,6 +7,7 @@
 ghost use Rattle.std.specs.Prelude.{◌≡◌};
 ghost use Rattle.rb_read.specs.declared.fault.ReadFault.TheVariants.{Memory};
 
+use rb_core::limits::MOST_LEVELS;
 use std::alloc::{AllocError, AllocFailed};
 use thiserror::Error;
 
@@ -32,8 +33,8 @@ pub enum Quantity {
 /// Why tokens are no file that is read, with the number of the token at fault.
 #[derive(Debug, Drop, Error)]
 pub enum ReadFault {
-    /// The first token that begins a node deeper than 128 levels.
-    #[error("nesting over 128 at token {0}")]
+    /// The first token that begins a node deeper than `MOST_LEVELS` levels.
+    #[error("nesting over {most} at token {0}", most = MOST_LEVELS)]
     TooDeep(u32),
     /// The first token at which no file goes on, or the number of tokens where they are no whole
     /// file.

@@ -22,7 +22,7 @@ ghost use Rattle.rb_syntax.specs.Tokens.{tokens};
 ghost use Rattle.rb_read.specs.inner.Combining as combining;
 ghost use Rattle.rb_read.specs.inner.Gives.{Gives, seen_end};
 ghost use Rattle.rb_read.specs.inner.Reading as reading;
-ghost use Rattle.rb_read.specs.inner.Reading.{pointed};
+ghost use Rattle.rb_read.specs.inner.Reading.{pointer_tree};
 
 use crate::list::{read_any_closed, read_some_closed};
 use crate::location::{joined, read_more_fields, read_path, read_range, read_range_rest};
@@ -92,13 +92,13 @@ fn read_field_part(alloc: Global, placed: &[Placed]) -> Result<(PartKind, &[Plac
 // A pointer part behind its arrow, its alignment and its block: `8 { inline .1 }`. Where no level
 // is left, the arrow, which was taken already, begins a node too deep.
 #[cycle(leaf)]
-#[tactic(auto, unfolding(crate::specs::inner::Reading::pointed, crate::specs::inner::Reading::no_pointer, crate::specs::inner::Reading::pointer, crate::specs::inner::Combining::pair, crate::specs::inner::Combining::into))]
+#[tactic(auto, unfolding(crate::specs::inner::Reading::pointer_tree, crate::specs::inner::Reading::no_pointer, crate::specs::inner::Reading::pointer, crate::specs::inner::Combining::pair, crate::specs::inner::Combining::into))]
 fn read_pointed<'a>(
     alloc: Global,
     levels: u32,
     placed: &'a [Placed],
 ) -> Result<(PartKind, &'a [Placed]), Stop>
-    ensures { Gives (λ x. (x.0, tokens x.1.now)) result (pointed levels (tokens placed.now)) }
+    ensures { Gives (λ x. (x.0, tokens x.1.now)) result (pointer_tree levels (tokens placed.now)) }
 {
     if levels == 0 {
         return Err(Stop::Deep(placed.len() + 1));
@@ -117,7 +117,7 @@ fn read_part_kind<'a>(
     levels: u32,
     placed: &'a [Placed],
 ) -> Result<(PartKind, &'a [Placed]), Stop>
-    ensures { Gives (λ x. (x.0, tokens x.1.now)) result (reading.part_kind (pointed levels) (tokens placed.now)) }
+    ensures { Gives (λ x. (x.0, tokens x.1.now)) result (reading.part_kind (pointer_tree levels) (tokens placed.now)) }
 {
     match placed {
         [] => Err(Stop::Stuck(0)),
@@ -141,7 +141,7 @@ fn read_part<'a>(
     levels: u32,
     placed: &'a [Placed],
 ) -> Result<(PartDecl, &'a [Placed]), Stop>
-    ensures { Gives (λ x. (x.0, tokens x.1.now)) result (reading.part (pointed levels) (tokens placed.now)) }
+    ensures { Gives (λ x. (x.0, tokens x.1.now)) result (reading.part (pointer_tree levels) (tokens placed.now)) }
 {
     let ((o, l), rest) = read_range(placed)?;
     let (kind, rest) = read_part_kind(alloc, levels, rest)?;
@@ -156,12 +156,12 @@ fn read_parts<'a>(
     placed: &'a [Placed],
 ) -> Result<(Seq<PartDecl>, &'a [Placed]), Stop>
     ensures { Gives (λ x. (x.0, tokens x.1.now)) result
-        (combining.any_closed (reading.part (pointed levels)) symbol.CloseBrace (tokens placed.now)) }
+        (combining.any_closed (reading.part (pointer_tree levels)) symbol.CloseBrace (tokens placed.now)) }
 {
     read_any_closed(
         alloc,
         |rest|
-            ensures { Gives (λ x. (x.0, tokens x.1.now)) result (reading.part (pointed levels) (tokens rest.now)) }
+            ensures { Gives (λ x. (x.0, tokens x.1.now)) result (reading.part (pointer_tree levels) (tokens rest.now)) }
         { read_part(alloc, levels, rest) },
         Symbol::CloseBrace,
         placed,
@@ -177,7 +177,7 @@ fn read_word<'a>(
     placed: &'a [Placed],
 ) -> Result<(LayItem, &'a [Placed]), Stop>
     ensures { Gives (λ x. (x.0, tokens x.1.now)) result
-        (reading.item_from (pointed levels) (token.Reserved word.Word) (tokens placed.now)) }
+        (reading.item_from (pointer_tree levels) (token.Reserved word.Word) (tokens placed.now)) }
 {
     let (bits, rest) = read_number(placed)?;
     let rest = expect(Symbol::OpenBrace, rest)?;
@@ -193,7 +193,7 @@ fn read_item<'a>(
     levels: u32,
     placed: &'a [Placed],
 ) -> Result<(LayItem, &'a [Placed]), Stop>
-    ensures { Gives (λ x. (x.0, tokens x.1.now)) result (reading.item_one (pointed levels) (tokens placed.now)) }
+    ensures { Gives (λ x. (x.0, tokens x.1.now)) result (reading.item_one (pointer_tree levels) (tokens placed.now)) }
 {
     match placed {
         [] => Err(Stop::Stuck(0)),
@@ -221,7 +221,8 @@ fn read_items<'a>(
     read_any_closed(
         alloc,
         |rest|
-            ensures { Gives (λ x. (x.0, tokens x.1.now)) result (reading.item_one (pointed levels) (tokens rest.now)) }
+            ensures { Gives (λ x. (x.0, tokens x.1.now)) result
+                (reading.item_one (pointer_tree levels) (tokens rest.now)) }
         { read_item(alloc, levels, rest) },
         Symbol::CloseBrace,
         placed,
@@ -246,7 +247,8 @@ pub(crate) fn read_some_items(
     read_some_closed(
         alloc,
         |rest|
-            ensures { Gives (λ x. (x.0, tokens x.1.now)) result (reading.item_one (pointed levels) (tokens rest.now)) }
+            ensures { Gives (λ x. (x.0, tokens x.1.now)) result
+                (reading.item_one (pointer_tree levels) (tokens rest.now)) }
         { read_item(alloc, levels, rest) },
         Symbol::Comma,
         Symbol::CloseBrace,

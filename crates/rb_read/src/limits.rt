@@ -40,7 +40,7 @@ pub fn greatest(quantity: Quantity) -> u64
 
 // The count of a quantity, if it is over its limit, which itself is allowed.
 fn over(quantity: Quantity, count: usize) -> Option<Count>
-    ensures { result ≡ find limits.is_over (limits.counted quantity count ∷ []) }
+    ensures { result ≡ find limits.is_over (limits.count_of quantity count ∷ []) }
 {
     let count = count as u64;
     if greatest(quantity) < count {

@@ -155,7 +155,7 @@ fn read_constructed<'a>(
 ) -> Result<(PatTree, &'a [Placed]), Stop>
     requires { total < 2 ^ 32 }
     ensures { Gives (λ x. (x.0, tokens x.1.now)) result
-        (combining.into (λ parts. pats.Con at (reading.named at name.now) parts)
+        (combining.into (λ parts. pats.Con at (reading.name_tree at name.now) parts)
         (combining.in_parens (λ ts. reading.below levels total ts)) (tokens placed.now)) }
 {
     let text = name.copy(alloc)?;

@@ -21,7 +21,8 @@ use Rattle.rb_layout.specs.Positions.{root_type, layout_of}
 use Rattle.rb_layout.specs.Splits.{routes_of}
 use Rattle.rb_layout.specs.Flattening.{flat_leaf, flat_layouts, shape_in, shape_of}
 use Rattle.rb_rel.specs.Relation.{shape_length}
-use Rattle.rb_rel.proofs.Lawful.{Lawful, units_of, fits_type}
+use Rattle.rb_rel.proofs.Lawful.{Lawful, units_of}
+use Rattle.rb_rel.specs.Provenances.{fits_type}
 use Rattle.rb_rel.proofs.Declared.{Declared, declared, decl_at}
 use Rattle.rb_layout.proofs.FlatLaws.{leaves_are_flat}
 use Rattle.rb_rel.proofs.Holding.{is_held}

@@ -21,7 +21,7 @@ use Rattle.rb_core.specs.Values.{is_of_type, all_of_types, are_of, fields_in, fi
 use Rattle.rb_core.proofs.MatchingForms.{matches-Con}
 use Rattle.rb_core.proofs.PatternLaws as PL
 use Rattle.rb_core.proofs.ValueLaws.{Each, induction, subs-Con, subs-Num, is_of_type-Num, is_of_type-Con}
-use Rattle.rb_bytes.specs.Memory.{Memory, IsGood, aligned}
+use Rattle.rb_bytes.specs.Memory.{Memory, IsGood, least_multiple}
 use Rattle.rb_bytes.specs.Growth.{Grown}
 use Rattle.rb_bytes.proofs.GrowthLemmas.{Grown-refl, Grown-trans, Grown-extends}
 use Rattle.rb_layout.specs.declared.layout.Leaf.{Leaf}
@@ -44,7 +44,7 @@ use Rattle.rb_rel.specs.Relation.{Represent, Represents, number}
 use Rattle.rb_rel.specs.Answers.{Making, making_of, all_makings, in_turn}
 use Rattle.rb_rel.proofs.Makings.{making-Num, making-Con}
 use Rattle.rb_rel.proofs.Growth.{Represents-kept}
-use Rattle.rb_rel.proofs.Lawful.{fits_type, is_named}
+use Rattle.rb_rel.specs.Provenances.{fits_type, is_named}
 use Rattle.rb_rel.proofs.Lists.{both, get-append, get-map}
 use Rattle.rb_rel.proofs.Opens.{fits-Con, opens-Con, opens-Wild, opens-Var, fitting}
 use Rattle.rb_rel.proofs.Reading.{same_nat}
@@ -56,7 +56,7 @@ pub laid_parts : (limit next : ℕ) (rs qs : List Request) (bs : List (ℕ × �
 laid_parts limit next [] qs bs p e = ([], next, bs, refl, e, refl)
 laid_parts limit next (r ∷ rs) qs bs p e =
     let l = laid_more (λ f. 0) limit next r (rs ++ qs) bs p e in
-    let a = aligned next r.align in
+    let a = least_multiple next r.align in
     let h = laid_parts limit (a + r.size) rs qs l.1 p l.2 in
     let yes : lay limit next (r ∷ rs) ≡ Fits ((a, r.size) ∷ h.0) h.1 = elim (leb_tells (a + r.size) limit) [
       | inl t ↦ ap (λ x. if x then block_before (a, r.size) (lay limit (a + r.size) rs) else Over (record { next = next; size = r.size; align = r.align; limit = limit })) t.0 ∙ ap (block_before (a, r.size)) h.3

@@ -21,7 +21,7 @@ use Rattle.rb_layout.specs.Positions.{Open}
 use Rattle.rb_layout.specs.Items.{Content, Number, Whole, Slice, WordOf, Address, WrittenPart, Item, AWord, Around, items_inside, item_list}
 use Rattle.rb_layout.specs.Items as J
 use Rattle.rb_layout.specs.A3.{Fits, FitsWhole, FitsSlice, FitsWord, IsContentPlaced, PartsFit, ItemFits}
-use Rattle.rb_layout.specs.Flattening.{type_at, IsOpenIn, WithBlocks, Laying, without_blocks, in_turn, whole_kind, kind_if_open, kind_step, part_step, full_word, inline_words, inlined, shape_of, item_step, item_laid, kind_laid, part_laid, parts_of, items_laid}
+use Rattle.rb_layout.specs.Flattening.{type_at, IsOpenIn, WithBlocks, Laying, without_blocks, in_turn, whole_kind, kind_if_open, kind_step, part_step, full_word, inline_words, words_inlined, shape_of, item_step, item_laid, kind_laid, part_laid, parts_of, items_laid}
 use Rattle.rb_layout.specs.Flattening as P
 use Rattle.rb_layout.proofs.FlatForms.{Each}
 use Rattle.rb_layout.proofs.WrittenForms as D
@@ -248,7 +248,7 @@ module _ (decls : List LayoutDecl) (opens : List Open) where
         (only_word (full_word w (Word path j)) (let z : j ≡ j + 0 = omega arith in let at = ap (slice_get (shape_of decls s)) z ∙ h 0 w refl in one_fits w (Word path j) (shapes s j w at) (s, is, at)))
         (words_fit path s is (j + 1) widths (λ i x e. let z : j + 1 + i ≡ j + suc i = omega arith in ap (slice_get (shape_of decls s)) z ∙ h (suc i) x e))
 
-    inlined_fit : (path : List ℕ) (o : Option Ty) → type_at opens path ≡ o → AllFit (inlined decls o path)
+    inlined_fit : (path : List ℕ) (o : Option Ty) → type_at opens path ≡ o → AllFit (words_inlined decls o path)
     inlined_fit path None is = no_words
     inlined_fit path (Some (Int bits)) is = only_word (full_word bits (Bits path 0)) (one_fits bits (Bits path 0) (ints path bits is) (bits, is, omega arith))
     inlined_fit path (Some (Named s)) is = words_fit path s is 0 (shape_of decls s) (λ i w e. let z : 0 + i ≡ i = omega arith in ap (slice_get (shape_of decls s)) z ∙ e)
@@ -323,7 +323,7 @@ module _ (decls : List LayoutDecl) (opens : List Open) where
           (λ n x e. if_open_placed path (Word path j) (type_at opens path) refl x e) (λ l f n x e. word_of_fits l j path (type_at opens path) refl f x e) (λ d n. no_blocks);
       pointer = λ align items each.
           let lay : Laying (List FlatWord) = in_turn (map (item_laid decls opens) items) in
-          well_kind (K.Pointer align items) (λ n. P.pointed align n (lay n)) (record { it = Address align; inside = flat_map (λ xs. xs) (map item_list items) }) (D.fold-Pointer F G H (item_step decls opens) (kind_step opens) part_step align items)
+          well_kind (K.Pointer align items) (λ n. P.pointer_to_block align n (lay n)) (record { it = Address align; inside = flat_map (λ xs. xs) (map item_list items) }) (D.fold-Pointer F G H (item_step decls opens) (kind_step opens) part_step align items)
           (D.fold-Pointer (List Item) (Around Content) (Around WrittenPart) J.items_step J.content_step J.written_part_step align items)
           (λ n x e. tt)
           (λ l f n x e. subst (KindFits l) (same_Some (Pointer align (n + length (lay n).blocks)) x e) tt)

@@ -16,7 +16,8 @@ use Rattle.rb_layout.specs.declared.layout.WordRef.{WordRef}
 use Rattle.rb_layout.specs.Words.{words_in, words_of_block, flat_at, begins_at, size_of}
 use Rattle.rb_rel.specs.Relation.{IsFound, WordHolds, LeafStands}
 use Rattle.rb_rel.proofs.Lists.{both}
-use Rattle.rb_rel.proofs.Packing.{number_of, packed, packed_holds}
+use Rattle.rb_rel.proofs.Packing.{packed, packed_holds}
+use Rattle.rb_rel.specs.Storing.{number_of}
 use Rattle.rb_rel.proofs.Reading.{leb_is}
 use Rattle.rb_rel.proofs.Known.{ltb_is}
 

@@ -1,13 +1,8 @@
 -- What the laws of representation need of layouts.
-use Rattle.std.specs.Prelude.{◌+◌, ◌≤◌, ◌==◌, ◌&&◌, Bool, true, false, ◌≡◌, ℕ, ◌<◌, List, Some, slice_get}
+use Rattle.std.specs.Prelude.{◌+◌, ◌≤◌, true, ◌≡◌, ℕ, ◌<◌, List, Some, slice_get}
 use Rattle.rb_core.specs.declared.types.Ty.{Ty}
 use Rattle.rb_core.specs.declared.types.Ty.TheVariants.{Int, Named}
-use Rattle.rb_core.specs.declared.pattern.Pat.{Pat, out-Pat}
-use Rattle.rb_core.specs.declared.pattern.Pat.TheOpen as P
-use Rattle.rb_core.specs.declared.pattern.Pat.TheOpen.{Pat-F}
-use Rattle.rb_core.specs.declared.pattern.Pat.TheFolds.{fold-Pat}
-use Rattle.rb_core.specs.Values.{are_of, fields_of}
-use Rattle.rb_core.specs.Typing.{type_holds}
+use Rattle.rb_core.specs.declared.pattern.Pat.{out-Pat}
 use Rattle.rb_core.specs.WellNumbered.{is_provenance}
 use Rattle.rb_core.specs.declared.types.DataDecl.{DataDecl}
 use Rattle.rb_layout.specs.declared.layout.Leaf.{Leaf}
@@ -18,6 +13,7 @@ use Rattle.rb_layout.specs.declared.layout.WordRef.{WordRef}
 use Rattle.rb_layout.specs.declared.layout.Layout.{Layout}
 use Rattle.rb_layout.specs.Words.{flat_at}
 use Rattle.rb_layout.specs.Positions.{Open, open_positions, root_type}
+use Rattle.rb_rel.specs.Provenances.{fits_type}
 use Rattle.rb_rel.specs.Relation.{word_count}
 use Rattle.rb_layout.specs.Splits.{Route, routes_of}
 use Rattle.rb_layout.specs.Flat.{IsFlat}
@@ -33,20 +29,6 @@ abbrev pub AllReached : List Layout → Type 0
 AllReached layouts = EachLeaf layouts (λ t layout n leaf. (k : ℕ) × (r : Route) × (slice_get (routes_of layout.tree) k ≡ Some r) × (r.leaf ≡ n))
 
 -- Provenances ---------------------------------------------------------------------------------
-
-abbrev pub is_named : ℕ → Ty → Bool
-is_named t (Int bits) = false
-is_named t (Named s) = s == t
-
-abbrev pub fits_step : List DataDecl → Pat-F (Ty → Bool) → Ty → Bool
-fits_step types (P.Wild at) ty = true
-fits_step types (P.Var at x) ty = true
-fits_step types (P.Num at n) ty = type_holds ty n
-fits_step types (P.Con at c ps) ty = is_named c.ty ty && are_of ps (fields_of types c)
-
--- a pattern is of a type
-abbrev pub fits_type : List DataDecl → Pat → Ty → Bool
-fits_type types = fold-Pat (Ty → Bool) (fits_step types)
 
 -- the provenances are patterns of their types, with constructors at their roots and wildcards or constructors below
 pub record ProvenancesFit (types : List DataDecl) (layouts : List Layout) : Type 0 where

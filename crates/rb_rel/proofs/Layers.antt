@@ -14,7 +14,7 @@ use Rattle.rb_core.specs.declared.program.Program.{Program}
 use Rattle.rb_core.specs.TypedPrograms.{IsTyped}
 use Rattle.rb_core.specs.Values.{part_at}
 use Rattle.rb_bits.proofs.WordLemmas.{take_fits}
-use Rattle.rb_bytes.specs.Memory.{Memory, IsGood, size_at, load_of, aligned}
+use Rattle.rb_bytes.specs.Memory.{Memory, IsGood, size_at, load_of, least_multiple}
 use Rattle.rb_bytes.proofs.GrowthLemmas.{Grown-extends}
 use Rattle.rb_layout.specs.declared.layout.Leaf.{Leaf}
 use Rattle.rb_layout.specs.declared.layout.Block.{Block}
@@ -41,18 +41,13 @@ use Rattle.rb_rel.proofs.Fitting.{KindFits, WordFits, AllFit, BlocksFit, Demands
 use Rattle.rb_rel.proofs.Growth.{Represents-kept}
 use Rattle.rb_rel.proofs.Holding.{path_is}
 use Rattle.rb_rel.proofs.Lists.{get-map, get-mapped}
-use Rattle.rb_rel.proofs.Packing.{number_of, packed, CanHold, packed_holds}
+use Rattle.rb_rel.proofs.Packing.{packed, CanHold, packed_holds}
+use Rattle.rb_rel.specs.Storing.{address_at, number_of}
 use Rattle.rb_rel.proofs.Represented.{opened}
 use Rattle.rb_rel.proofs.Widths.{positions_typed, int_wide, shape_wide}
 use Rattle.rb_core.specs.WellNumbered.{is_type}
 use Rattle.rb_core.specs.declared.pattern.Pat.{out-Pat}
 use Rattle.rb_rel.proofs.Storing.{IsBlock, AllStored, all_stored, laid_more}
-
--- the address of each block
-abbrev pub address_at : List (ℕ × ℕ) → ℕ → ℕ
-address_at [] b = 0
-address_at (x ∷ xs) zero = x.0
-address_at (x ∷ xs) (suc b) = address_at xs b
 
 pub address_is : (bs : List (ℕ × ℕ)) (b : ℕ) (at : ℕ × ℕ) → slice_get bs b ≡ Some at → address_at bs b ≡ at.0
 address_is [] b at e = absurd cc
@@ -69,11 +64,11 @@ laid_at : (limit next : ℕ) (rs : List Request) (bs : List (ℕ × ℕ)) (p : �
 laid_at limit next [] bs p e b r is = absurd cc
 laid_at limit next (q ∷ rs) bs p e zero r is =
     let l = laid_more (λ f. 0) limit next q rs bs p e in
-    let x : LaidAt limit q (aligned next q.align) = record { times = (next + (q.align - 1)) / q.align; multiple = refl; within = l.0 } in
+    let x : LaidAt limit q (least_multiple next q.align) = record { times = (next + (q.align - 1)) / q.align; multiple = refl; within = l.0 } in
     subst (λ (y : Request). LaidAt limit y (address_at bs 0)) (same_Some q r is) (subst (λ cs. LaidAt limit q (address_at cs 0)) (sym l.3) x)
 laid_at limit next (q ∷ rs) bs p e (suc b) r is =
     let l = laid_more (λ f. 0) limit next q rs bs p e in
-    subst (λ cs. LaidAt limit r (address_at cs (suc b))) (sym l.3) (laid_at limit (aligned next q.align + q.size) rs l.1 p l.2 b r is)
+    subst (λ cs. LaidAt limit r (address_at cs (suc b))) (sym l.3) (laid_at limit (least_multiple next q.align + q.size) rs l.1 p l.2 b r is)
 
 -- the open position at a path
 pub open_of : (os : List Open) (path : List ℕ) (ty : Ty) → type_at os path ≡ Some ty → (k : ℕ) × (o : Open) × (slice_get os k ≡ Some o) × (o.path ≡ path) × (o.ty ≡ ty)

@@ -15,7 +15,7 @@ use Rattle.rb_core.specs.Values.{subs_in, sub_at, part_from, all_of_types, are_o
 use Rattle.rb_core.proofs.PatternLaws.{Each, induction, fold-Wild, fold-Var, fold-Num, fold-Con}
 use Rattle.rb_core.proofs.MatchingForms.{matches-Num, matches-Con}
 use Rattle.rb_layout.specs.Positions.{Open, below, opens_below, opens_of, opens_step, types_or_none}
-use Rattle.rb_rel.proofs.Lawful.{fits_type, fits_step, is_named}
+use Rattle.rb_rel.specs.Provenances.{fits_type, fits_step, is_named}
 use Rattle.rb_rel.proofs.Lists.{both, get-left, get-right, get-mapped}
 use Rattle.rb_rel.proofs.Reading.{same_nat}
 

@@ -1,6 +1,6 @@
 -- A word made of its parts: each part holds, and the other bits are 0.
 use Rattle.std.proofs.Common.{◌≡◌, ℕ, zero, suc, ◌+◌, ◌-◌, ◌*◌, ◌/◌, ◌%◌, ◌^◌, ◌<◌, ◌≤◌, inl, inr, Bool, List, [], ◌∷◌, Some, refl, sym, subst, ap, ◌∙◌, arith}
-use Rattle.std.specs.Prelude.{slice_get, slice_index}
+use Rattle.std.specs.Prelude.{slice_get}
 use Rattle.std.specs.Int.{bit_at}
 use Rattle.std.proofs.lemmas.Bool.{cases_lt}
 use Rattle.std.proofs.lemmas.Option.{same_Some}
@@ -15,14 +15,8 @@ use Rattle.rb_layout.specs.declared.layout.Kind.{Kind}
 use Rattle.rb_layout.specs.declared.layout.Kind.TheVariants.{Const, Bits, Word, Pointer}
 use Rattle.rb_layout.specs.A3.{IsIn}
 use Rattle.rb_rel.specs.Relation.{HoldsKind, WordHolds}
+use Rattle.rb_rel.specs.Storing.{number_of}
 use Rattle.std.proofs.lemmas.Nat.Bits.{same_from_bits_below}
-
--- the number that a part has to hold
-abbrev pub number_of : (List ℕ → List ℕ) → (ℕ → ℕ) → ℕ → Kind → ℕ
-number_of subs ats l (Const c) = c
-number_of subs ats l (Bits path a) = take_of (slice_index (subs path) 0) a l
-number_of subs ats l (Word path j) = slice_index (subs path) j
-number_of subs ats l (Pointer align b) = ats b / align
 
 -- all parts in their places, and 0 elsewhere
 abbrev pub packed : (List ℕ → List ℕ) → (ℕ → ℕ) → List Part → ℕ

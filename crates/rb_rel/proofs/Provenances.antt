@@ -23,7 +23,7 @@ use Rattle.rb_core.specs.WellNumbered as W
 use Rattle.rb_core.proofs.PatternLaws.{Each, induction, fold-Wild, fold-Var, fold-Num, fold-Con}
 use Rattle.rb_core.proofs.TypingLemmas.{pattern-Num, pattern-Con}
 use Rattle.rb_layout.specs.Positions.{root_type}
-use Rattle.rb_rel.proofs.Lawful.{fits_type, fits_step, is_named}
+use Rattle.rb_rel.specs.Provenances.{fits_type, fits_step, is_named}
 use Rattle.rb_rel.proofs.Lists.{both, and_true}
 use Rattle.rb_rel.proofs.Opens.{fits-Con, fits-Num}
 use Rattle.rb_rel.proofs.Reading.{same_nat}

@@ -1,11 +1,11 @@
 -- Blocks that are placed and filled: the memory grows by them, and each word is loaded again.
-use Rattle.std.proofs.Common.{◌≡◌, ℕ, zero, suc, ◌+◌, ◌*◌, ◌/◌, ◌%◌, ◌^◌, ◌<◌, ◌≤◌, ◌⊎◌, inl, inr, length, map, List, [], ◌∷◌, ◌++◌, true, Option, Some, None, Result, Ok, Err, refl, sym, subst, ap, ◌∙◌, arith}
+use Rattle.std.proofs.Common.{◌≡◌, ℕ, zero, suc, ◌+◌, ◌*◌, ◌/◌, ◌%◌, ◌^◌, ◌<◌, ◌≤◌, ◌⊎◌, inl, inr, length, map, List, [], ◌∷◌, true, Option, Some, None, Result, Ok, Err, refl, sym, subst, ap, ◌∙◌, arith}
 use Rattle.std.specs.Prelude.{slice_get, if◌then◌else◌}
 use Rattle.std.proofs.lemmas.Bool.{cases_lt}
 use Rattle.std.proofs.lemmas.Bool.Decides.{leb_tells}
 use Rattle.std.proofs.lemmas.Option.{same_Some}
 use Rattle.std.proofs.Math.Nat.{mod-eq_of_lt}
-use Rattle.rb_bytes.specs.Memory.{Memory, IsGood, byte_at, aligned, then_byte, read_le, write_le, size_at, lies_within, load_of}
+use Rattle.rb_bytes.specs.Memory.{Memory, IsGood, byte_at, least_multiple, then_byte, read_le, write_le, size_at, lies_within, load_of}
 use Rattle.rb_bytes.specs.Growth.{Grown}
 use Rattle.rb_bytes.specs.declared.fault.Trap.{Trap}
 use Rattle.rb_bytes.specs.declared.fault.Full.{Full}
@@ -18,18 +18,15 @@ use Rattle.rb_layout.specs.declared.layout.FlatWord.{FlatWord}
 use Rattle.rb_layout.specs.Words.{bytes_taken, size_of, begins_at}
 use Rattle.rb_layout.specs.A4.{IsBlockWidth}
 use Rattle.rb_rel.specs.Placing.{Laid, Fits, Over, Request, request_of, block_before, lay}
+use Rattle.rb_rel.specs.Storing.{with_words, with_block, with_blocks}
 
 -- Words one after the other from an address on, each of them a number of its width
 module _ (number : FlatWord → ℕ) where
-  abbrev pub written : List FlatWord → ℕ → List (Option ℕ) → List (Option ℕ)
-  written [] at bytes = bytes
-  written (f ∷ fs) at bytes = written fs (at + f.width / 8) (write_le bytes (f.width / 8) at (number f))
+  pub length-with_words : (fs : List FlatWord) (at : ℕ) (bytes : List (Option ℕ)) → length (with_words number fs at bytes) ≡ length bytes
+  length-with_words [] at bytes = refl
+  length-with_words (f ∷ fs) at bytes = length-with_words fs (at + f.width / 8) (write_le bytes (f.width / 8) at (number f)) ∙ length-write_le bytes (f.width / 8) at (number f)
 
-  pub length-written : (fs : List FlatWord) (at : ℕ) (bytes : List (Option ℕ)) → length (written fs at bytes) ≡ length bytes
-  length-written [] at bytes = refl
-  length-written (f ∷ fs) at bytes = length-written fs (at + f.width / 8) (write_le bytes (f.width / 8) at (number f)) ∙ length-write_le bytes (f.width / 8) at (number f)
-
-  pub written_outside : (fs : List FlatWord) (at : ℕ) (bytes : List (Option ℕ)) (a : ℕ) → (a < at) ⊎ (at + bytes_taken fs ≤ a) → byte_at (written fs at bytes) a ≡ byte_at bytes a
+  pub written_outside : (fs : List FlatWord) (at : ℕ) (bytes : List (Option ℕ)) (a : ℕ) → (a < at) ⊎ (at + bytes_taken fs ≤ a) → byte_at (with_words number fs at bytes) a ≡ byte_at bytes a
   written_outside [] at bytes a out = refl
   written_outside (f ∷ fs) at bytes a out =
       written_outside fs (at + f.width / 8) (write_le bytes (f.width / 8) at (number f)) a (rest out) ∙ byte_at-write_le_outside bytes (f.width / 8) at (number f) a (first out)
@@ -42,27 +39,27 @@ module _ (number : FlatWord → ℕ) where
       first (inl lt) = inl lt
       first (inr le) = inr (omega (arith, le))
 
-  written_small : (fs : List FlatWord) (at : ℕ) (bytes : List (Option ℕ)) → ((a b : ℕ) → byte_at bytes a ≡ Some b → b < 256) → (a b : ℕ) → byte_at (written fs at bytes) a ≡ Some b → b < 256
+  written_small : (fs : List FlatWord) (at : ℕ) (bytes : List (Option ℕ)) → ((a b : ℕ) → byte_at bytes a ≡ Some b → b < 256) → (a b : ℕ) → byte_at (with_words number fs at bytes) a ≡ Some b → b < 256
   written_small [] at bytes small = small
   written_small (f ∷ fs) at bytes small = written_small fs (at + f.width / 8) (write_le bytes (f.width / 8) at (number f)) (write_le_small bytes (f.width / 8) at (number f) small)
 
   -- each word is read again
   written_read : (fs : List FlatWord) (at : ℕ) (bytes : List (Option ℕ)) → at + bytes_taken fs ≤ length bytes → (j : ℕ) (f : FlatWord) → slice_get fs j ≡ Some f
-      → read_le (written fs at bytes) (f.width / 8) (at + begins_at fs j) ≡ Ok (number f % 2 ^ (8 * (f.width / 8)))
+      → read_le (with_words number fs at bytes) (f.width / 8) (at + begins_at fs j) ≡ Ok (number f % 2 ^ (8 * (f.width / 8)))
   written_read [] at bytes le j f is = absurd cc
   written_read (g ∷ fs) at bytes le zero f is =
       let n = g.width / 8 in
       let next = write_le bytes n at (number g) in
       let z : at + 0 ≡ at = omega arith in
-      let same = read_le_same (written fs (at + n) next) next n at (λ a low high. written_outside fs (at + n) next a (inl high)) in
-      subst (λ (x : FlatWord). read_le (written (g ∷ fs) at bytes) (x.width / 8) (at + 0) ≡ Ok (number x % 2 ^ (8 * (x.width / 8)))) (same_Some g f is)
-      (ap (read_le (written (g ∷ fs) at bytes) n) z ∙ same ∙ read_le-write_le bytes n at (number g) (omega (arith, le)))
+      let same = read_le_same (with_words number fs (at + n) next) next n at (λ a low high. written_outside fs (at + n) next a (inl high)) in
+      subst (λ (x : FlatWord). read_le (with_words number (g ∷ fs) at bytes) (x.width / 8) (at + 0) ≡ Ok (number x % 2 ^ (8 * (x.width / 8)))) (same_Some g f is)
+      (ap (read_le (with_words number (g ∷ fs) at bytes) n) z ∙ same ∙ read_le-write_le bytes n at (number g) (omega (arith, le)))
   written_read (g ∷ fs) at bytes le (suc j) f is =
       let n = g.width / 8 in
       let next = write_le bytes n at (number g) in
       let z : at + (n + begins_at fs j) ≡ at + n + begins_at fs j = omega arith in
       let long = length-write_le bytes n at (number g) in
-      ap (read_le (written fs (at + n) next) (f.width / 8)) z ∙ written_read fs (at + n) next (omega (arith, le, long)) j f is
+      ap (read_le (with_words number fs (at + n) next) (f.width / 8)) z ∙ written_read fs (at + n) next (omega (arith, le, long)) j f is
 
   -- what is read was written
   read_written : (bytes : List (Option ℕ)) (n at r : ℕ) → read_le bytes n at ≡ Ok r → (a : ℕ) → at ≤ a → a < at + n → (u : ℕ) × (byte_at bytes a ≡ Some u)
@@ -80,7 +77,7 @@ module _ (number : FlatWord → ℕ) where
       parts (Some u) (Ok v) y h = (u, v, refl, refl)
 
   -- each byte is written
-  written_whole : (fs : List FlatWord) (at : ℕ) (bytes : List (Option ℕ)) → at + bytes_taken fs ≤ length bytes → (a : ℕ) → at ≤ a → a < at + bytes_taken fs → (u : ℕ) × (byte_at (written fs at bytes) a ≡ Some u)
+  written_whole : (fs : List FlatWord) (at : ℕ) (bytes : List (Option ℕ)) → at + bytes_taken fs ≤ length bytes → (a : ℕ) → at ≤ a → a < at + bytes_taken fs → (u : ℕ) × (byte_at (with_words number fs at bytes) a ≡ Some u)
   written_whole [] at bytes le a low high = absurd (omega (arith, low, high))
   written_whole (g ∷ fs) at bytes le a low high =
       let n = g.width / 8 in
@@ -118,19 +115,9 @@ pub record Stored (m m' : Memory) (block : Block) (number : FlatWord → ℕ) (a
   pub sized : size_at m'.blocks a ≡ Some (size_of block)
   pub loads : (j : ℕ) (f : FlatWord) → slice_get block.words j ≡ Some f → load_of m' a (begins_at block.words j) f.width ≡ Ok (number f)
 
--- a memory with a block more, which is filled with words
-abbrev pub with_block : (FlatWord → ℕ) → Memory → Block → Memory
-with_block number m block =
-    let a = aligned m.next block.align in
-    record { limit = m.limit; next = a + size_of block; blocks = m.blocks ++ (a, size_of block) ∷ []; bytes = written number block.words a m.bytes }
-
-abbrev pub with_blocks : (FlatWord → ℕ) → Memory → List Block → Memory
-with_blocks number m [] = m
-with_blocks number m (block ∷ blocks) = with_blocks number (with_block number m block) blocks
-
 module _ (m : Memory) (good : IsGood m) (block : Block) (is : IsBlock block) (number : FlatWord → ℕ) where
   abbrev a : ℕ
-  a = aligned m.next block.align
+  a = least_multiple m.next block.align
 
   abbrev filled : Memory
   filled = with_block number m block
@@ -147,7 +134,7 @@ module _ (m : Memory) (good : IsGood m) (block : Block) (is : IsBlock block) (nu
       blocks = AreBlocks_push m.blocks 64 m.next a (size_of block) good.blocks above is.some;
       next = ((let n = good.next.0 in omega (arith, n, above)), room);
       limit = good.limit;
-      long = length-written number block.words a m.bytes ∙ good.long;
+      long = length-with_words number block.words a m.bytes ∙ good.long;
       small = written_small number block.words a m.bytes good.small;
       fresh = λ x le. written_outside number block.words a m.bytes x (inr le) ∙ good.fresh x (omega (arith, le, above));
     }
@@ -192,17 +179,17 @@ module _ (number : FlatWord → ℕ) where
 
   -- what is laid behind a block
   pub laid_more : (limit next : ℕ) (r : Request) (rs : List Request) (bs : List (ℕ × ℕ)) (p : ℕ) → lay limit next (r ∷ rs) ≡ Fits bs p
-      → (aligned next r.align + r.size ≤ limit) × (cs : List (ℕ × ℕ)) × (lay limit (aligned next r.align + r.size) rs ≡ Fits cs p) × (bs ≡ (aligned next r.align, r.size) ∷ cs)
-  laid_more limit next r rs bs p e = elim (leb_tells (aligned next r.align + r.size) limit) [
-    | inl h ↦ let q = split (lay limit (aligned next r.align + r.size) rs) (sym (ap (λ t. if t then block_before (aligned next r.align, r.size) (lay limit (aligned next r.align + r.size) rs) else Over full) h.0) ∙ e) in (h.1, q.0, q.1, q.2)
-    | inr h ↦ absurd (over (sym (ap (λ t. if t then block_before (aligned next r.align, r.size) (lay limit (aligned next r.align + r.size) rs) else Over full) h.0) ∙ e))
+      → (least_multiple next r.align + r.size ≤ limit) × (cs : List (ℕ × ℕ)) × (lay limit (least_multiple next r.align + r.size) rs ≡ Fits cs p) × (bs ≡ (least_multiple next r.align, r.size) ∷ cs)
+  laid_more limit next r rs bs p e = elim (leb_tells (least_multiple next r.align + r.size) limit) [
+    | inl h ↦ let q = split (lay limit (least_multiple next r.align + r.size) rs) (sym (ap (λ t. if t then block_before (least_multiple next r.align, r.size) (lay limit (least_multiple next r.align + r.size) rs) else Over full) h.0) ∙ e) in (h.1, q.0, q.1, q.2)
+    | inr h ↦ absurd (over (sym (ap (λ t. if t then block_before (least_multiple next r.align, r.size) (lay limit (least_multiple next r.align + r.size) rs) else Over full) h.0) ∙ e))
   ]
     where
       full : Full
       full = record { next = next; size = r.size; align = r.align; limit = limit }
 
-      split : (l : Laid) → block_before (aligned next r.align, r.size) l ≡ Fits bs p → (cs : List (ℕ × ℕ)) × (l ≡ Fits cs p) × (bs ≡ (aligned next r.align, r.size) ∷ cs)
-      split (Fits cs q) h = (cs, (let x : (aligned next r.align, r.size) ∷ cs ≡ bs = cc in let y : q ≡ p = cc in ap (Fits cs) y), (let x : (aligned next r.align, r.size) ∷ cs ≡ bs = cc in sym x))
+      split : (l : Laid) → block_before (least_multiple next r.align, r.size) l ≡ Fits bs p → (cs : List (ℕ × ℕ)) × (l ≡ Fits cs p) × (bs ≡ (least_multiple next r.align, r.size) ∷ cs)
+      split (Fits cs q) h = (cs, (let x : (least_multiple next r.align, r.size) ∷ cs ≡ bs = cc in let y : q ≡ p = cc in ap (Fits cs) y), (let x : (least_multiple next r.align, r.size) ∷ cs ≡ bs = cc in sym x))
       split (Over f) h = absurd cc
 
       over : Over full ≡ Fits bs p → ⊥
@@ -223,7 +210,7 @@ module _ (number : FlatWord → ℕ) where
       let g1 = filled_grown m good b is number l.0 in
       let s1 = filled_stored m good b is number l.0 fits in
       let rest = all_stored blocks (λ k x h. are (suc k) x h) (λ k x h. fit (suc k) x h) m1 g1.good l.1 p l.2 in
-      let g = Grown-trans m m1 rest.memory ((aligned m.next b.align, size_of b) ∷ []) l.1 (aligned m.next b.align + size_of b) p g1 rest.grown in
+      let g = Grown-trans m m1 rest.memory ((least_multiple m.next b.align, size_of b) ∷ []) l.1 (least_multiple m.next b.align + size_of b) p g1 rest.grown in
       record {
         memory = rest.memory;
         is_filled = rest.is_filled;
@@ -231,9 +218,9 @@ module _ (number : FlatWord → ℕ) where
         stored = λ k block h. subst (λ cs. (at : ℕ × ℕ) × (slice_get cs k ≡ Some at) × Stored m rest.memory block number at.0) (sym l.3) (found k block h s1 g1.good rest);
       }
     where
-      found : (k : ℕ) (block : Block) → slice_get (b ∷ blocks) k ≡ Some block → {m1 : Memory} {cs : List (ℕ × ℕ)} → Stored m m1 b number (aligned m.next b.align) → IsGood m1
-          → (rest : AllStored m1 blocks cs p) → (at : ℕ × ℕ) × (slice_get ((aligned m.next b.align, size_of b) ∷ cs) k ≡ Some at) × Stored m rest.memory block number at.0
+      found : (k : ℕ) (block : Block) → slice_get (b ∷ blocks) k ≡ Some block → {m1 : Memory} {cs : List (ℕ × ℕ)} → Stored m m1 b number (least_multiple m.next b.align) → IsGood m1
+          → (rest : AllStored m1 blocks cs p) → (at : ℕ × ℕ) × (slice_get ((least_multiple m.next b.align, size_of b) ∷ cs) k ≡ Some at) × Stored m rest.memory block number at.0
       found zero block h {m1} {cs} s good1 rest =
-          ((aligned m.next b.align, size_of b), refl, subst (λ (x : Block). Stored m rest.memory x number (aligned m.next b.align)) (same_Some b block h) (stored_later m m1 rest.memory b (aligned m.next b.align) cs p good1 rest.grown s))
+          ((least_multiple m.next b.align, size_of b), refl, subst (λ (x : Block). Stored m rest.memory x number (least_multiple m.next b.align)) (same_Some b block h) (stored_later m m1 rest.memory b (least_multiple m.next b.align) cs p good1 rest.grown s))
       found (suc k) block h {m1} {cs} s good1 rest =
           let r = rest.stored k block h in (r.0, r.1, record { sized = r.2.sized; loads = r.2.loads })

@@ -1,5 +1,5 @@
 -- Where the tests on the way to a leaf pass, the splits lead to it.
-use Rattle.std.proofs.Common.{◌≡◌, ℕ, zero, suc, ◌<◌, nat_eq, inl, inr, map, List, [], ◌∷◌, ◌++◌, Bool, true, false, Option, Some, None, refl, sym, subst, ap, ◌∙◌, arith}
+use Rattle.std.proofs.Common.{◌≡◌, ℕ, zero, suc, nat_eq, inl, inr, map, List, [], ◌∷◌, ◌++◌, Bool, true, false, Option, Some, None, refl, sym, subst, ap, ◌∙◌, arith}
 use Rattle.std.specs.Prelude.{slice_get, if◌then◌else◌}
 use Rattle.std.specs.List.{flat_map}
 use Rattle.std.proofs.lemmas.Option.{same_Some}
@@ -9,11 +9,11 @@ use Rattle.rb_bytes.specs.Memory.{Memory}
 use Rattle.rb_layout.specs.declared.layout.FlatTree.{FlatTree, roll-FlatTree, map-FlatTree, ind-FlatTree, fold-roll-FlatTree}
 use Rattle.rb_layout.specs.declared.layout.FlatTree.TheOpen as T
 use Rattle.rb_layout.specs.declared.layout.FlatTree.TheOpen.{FlatTree-F}
-use Rattle.rb_layout.specs.declared.layout.FlatTree.TheFolds.{fold-roll-FlatArm, map-FlatArm}
+use Rattle.rb_layout.specs.declared.layout.FlatTree.TheFolds.{fold-FlatArm, fold-roll-FlatArm, map-FlatArm}
 use Rattle.rb_layout.specs.declared.layout.FlatArm.{FlatArm, FlatArm-F, roll-FlatArm}
 use Rattle.rb_layout.specs.Splits.{Test, Is, IsNone, Route, under_test, Under, arm_routes, else_routes, literals_of, routes_step, routes_arm, routes_of, routes_under, SplitAt, splits_or_none, splits_step, splits_arm, splits_of, splits_under}
 use Rattle.rb_layout.specs.A7.{IsLiteral}
-use Rattle.rb_rel.specs.Reading.{read_loc, Walk, walk_else, walk_arms, walk_at, walk_step, walk_arm, walk, walk_under}
+use Rattle.rb_rel.specs.Reading.{AreDistinct, LiteralsDistinct, read_loc, Walk, walk_else, walk_arms, walk_at, walk_step, walk_arm, walk}
 use Rattle.rb_rel.proofs.Lists.{get-append, get-map, get-left, get-right}
 
 differ : (a b : ℕ) → (a ≡ b → ⊥) → nat_eq a b ≡ false
@@ -22,12 +22,9 @@ differ a b ne = grind (arith, common_steps, ne)
 same : (a : ℕ) → nat_eq a a ≡ true
 same a = grind (arith, common_steps)
 
--- no number stands twice
-abbrev pub AreDistinct : List ℕ → Type 0
-AreDistinct cs = (j k c : ℕ) → j < k → slice_get cs j ≡ Some c → slice_get cs k ≡ Some c → ⊥
-
-abbrev pub LiteralsDistinct : List SplitAt → Type 0
-LiteralsDistinct ss = (k : ℕ) (s : SplitAt) → slice_get ss k ≡ Some s → AreDistinct s.literals
+-- an arm's literal, with the walk through the tree below it
+abbrev pub walk_under : FlatArm → Under Walk
+walk_under = fold-FlatArm Walk (Under Walk) walk_step walk_arm
 
 module _ (ws : List ℕ) (m : Memory) where
   -- a test, done on words

@@ -20,7 +20,8 @@ use Rattle.rb_core.proofs.ValueLaws.{is_of_type-Num}
 use Rattle.rb_bytes.specs.Memory.{Memory}
 use Rattle.rb_layout.specs.declared.layout.Layout.{Layout}
 use Rattle.rb_layout.specs.Positions.{Open, below, opens_below, opens_of, types_or_none}
-use Rattle.rb_rel.proofs.Lawful.{ProvenancesFit, fits_type, is_named}
+use Rattle.rb_rel.proofs.Lawful.{ProvenancesFit}
+use Rattle.rb_rel.specs.Provenances.{fits_type, is_named}
 use Rattle.rb_rel.specs.Relation.{Represents, number, built}
 use Rattle.rb_rel.proofs.Leaves.{leaf_matches}
 use Rattle.rb_rel.proofs.Lists.{both, and_true, get-left, get-right, get-mapped}

@@ -13,9 +13,13 @@ use Rattle.rb_layout.specs.declared.layout.Kind.TheVariants.{Pointer}
 use Rattle.rb_layout.specs.declared.layout.WordRef.{WordRef}
 use Rattle.rb_layout.specs.Words.{words_in, flat_at, begins_at}
 use Rattle.rb_layout.specs.Locations.{Reached, or_else, pointed_by, pointed_in, block_in, pointer_block, word_beginning, ref_in, next_ref, range_in, resolve_from}
-use Rattle.rb_rel.specs.Reading.{LeadsTo, through}
+use Rattle.rb_rel.specs.Reading.{LeadsTo}
 use Rattle.rb_rel.proofs.Parts.{IsTidyLeaf}
 use Rattle.rb_rel.proofs.Reading.{chosen, block_in-is, word_beginning-is}
+
+-- a location that goes on, by one more step, through the pointer at which it ends
+abbrev pub through : Loc → Step → Loc
+through loc s = record loc { steps = loc.steps ++ s ∷ [] }
 
 same_is : (a : ℕ) → (a == a) ≡ true
 same_is a = grind (arith, common_steps)

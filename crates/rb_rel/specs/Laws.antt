@@ -51,7 +51,7 @@ SplitsLead = (p : Program) → IsTyped p → Agrees p → (m : Memory) (clean : 
     → Represents p.types (flat_layouts p) m clean (Named t) v ws
     → (n : ℕ) × (leaf_of layout v ≡ Some n) × (walk layout.tree ws m ≡ Some n)
 
--- two values of one type that the same words represent in the same good memory are equal
+-- in a good memory, words represent one value of a type at most
 abbrev pub WordsAreOneValue : Type 0
 WordsAreOneValue = (p : Program) → IsTyped p → Agrees p → (m : Memory) (clean : Bool) → IsGood m
     → (ty : Ty) (v u : Value) (ws : List ℕ) → Represents p.types (flat_layouts p) m clean ty v ws

@@ -4,3 +4,5 @@ pub mod Placing
 pub mod Answers
 pub mod Switches
 pub mod Reading
+pub mod Provenances
+pub mod Storing

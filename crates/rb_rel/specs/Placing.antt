@@ -5,7 +5,7 @@ use Rattle.std.specs.List.{flat_map}
 use Rattle.rb_core.specs.declared.value.Value.{Value}
 use Rattle.rb_core.specs.declared.outcome.Event.{Event}
 use Rattle.rb_core.specs.declared.outcome.Event.TheVariants.{Built, Matched}
-use Rattle.rb_bytes.specs.Memory.{aligned}
+use Rattle.rb_bytes.specs.Memory.{least_multiple}
 use Rattle.rb_bytes.specs.declared.fault.Full.{Full}
 use Rattle.rb_layout.specs.declared.layout.Block.{Block}
 use Rattle.rb_layout.specs.declared.layout.Leaf.{Leaf}
@@ -70,7 +70,7 @@ block_before block (Over full) = Over full
 abbrev pub lay : ℕ → ℕ → List Request → Laid
 lay limit next [] = Fits [] next
 lay limit next (r ∷ rs) =
-    let a = aligned next r.align in
+    let a = least_multiple next r.align in
     if leb (a + r.size) limit
     then block_before (a, r.size) (lay limit (a + r.size) rs)
     else Over (record { next = next; size = r.size; align = r.align; limit = limit })

@@ -3,7 +3,7 @@
 -- of the block there, and names a range of that. The range [o:l] is the l bits from bit o on. `ws` are the root words
 -- that represent a value, `subs` the words at each open position of its leaf, `ats` the address of each of its
 -- blocks.
-use Rattle.std.specs.Prelude.{◌≡◌, ℕ, ◌+◌, ◌*◌, ◌≤◌, Bool, nat_eq, List, [], ◌∷◌, ◌++◌, Option, Some, None, Result, Ok, Err, slice_get, if◌then◌else◌}
+use Rattle.std.specs.Prelude.{◌≡◌, ℕ, ◌+◌, ◌*◌, ◌<◌, ◌≤◌, Bool, nat_eq, List, [], ◌∷◌, Option, Some, None, Result, Ok, Err, slice_get, if◌then◌else◌}
 use Rattle.rb_core.specs.declared.layout_decl.Loc.{Loc}
 use Rattle.rb_core.specs.declared.layout_decl.Step.{Step}
 use Rattle.rb_bits.specs.Words.{take_of}
@@ -12,8 +12,8 @@ use Rattle.rb_bytes.specs.declared.fault.Trap.{Trap}
 use Rattle.rb_layout.specs.declared.layout.FlatTree.{FlatTree}
 use Rattle.rb_layout.specs.declared.layout.FlatTree.TheOpen as T
 use Rattle.rb_layout.specs.declared.layout.FlatTree.TheOpen.{FlatTree-F}
-use Rattle.rb_layout.specs.declared.layout.FlatTree.TheFolds.{fold-FlatTree, fold-FlatArm}
-use Rattle.rb_layout.specs.declared.layout.FlatArm.{FlatArm, FlatArm-F}
+use Rattle.rb_layout.specs.declared.layout.FlatTree.TheFolds.{fold-FlatTree}
+use Rattle.rb_layout.specs.declared.layout.FlatArm.{FlatArm-F}
 use Rattle.rb_layout.specs.declared.layout.Leaf.{Leaf}
 use Rattle.rb_layout.specs.declared.layout.FlatWord.{FlatWord}
 use Rattle.rb_layout.specs.declared.layout.WordRef.{WordRef}
@@ -21,7 +21,7 @@ use Rattle.rb_layout.specs.declared.layout.Part.{Part}
 use Rattle.rb_layout.specs.declared.layout.Kind.{Kind}
 use Rattle.rb_layout.specs.Locations.{Reached, reached_at}
 use Rattle.rb_layout.specs.Words.{words_in, flat_at}
-use Rattle.rb_layout.specs.Splits.{Under}
+use Rattle.rb_layout.specs.Splits.{SplitAt, Under}
 use Rattle.rb_rel.specs.Relation.{IsFound, WordHolds}
 
 -- what follows a load: it goes on with the word that is loaded, and comes to None where the load traps
@@ -77,10 +77,6 @@ pub record LeadsTo (leaf : Leaf) (loc : Loc) (l : ℕ) (kind : Kind) : Type 0 wh
   pub bits : part.l ≡ l
   pub is_kind : part.kind ≡ kind
 
--- a location that goes on, by one more step, through the pointer at which it ends
-abbrev pub through : Loc → Step → Loc
-through loc s = record loc { steps = loc.steps ++ s ∷ [] }
-
 -- what root words lead to in a memory: the number of a leaf, or None
 abbrev pub Walk : Type 0
 Walk = List ℕ → Memory → Option ℕ
@@ -114,6 +110,10 @@ walk_arm arm = record { literal = arm.literal; of = arm.under }
 abbrev pub walk : FlatTree → Walk
 walk = fold-FlatTree Walk (Under Walk) walk_step walk_arm
 
--- an arm's literal, with the walk through the tree below it
-abbrev pub walk_under : FlatArm → Under Walk
-walk_under = fold-FlatArm Walk (Under Walk) walk_step walk_arm
+-- no number stands twice in a list
+abbrev pub AreDistinct : List ℕ → Type 0
+AreDistinct cs = (j k c : ℕ) → j < k → slice_get cs j ≡ Some c → slice_get cs k ≡ Some c → ⊥
+
+-- no split has two arms of one literal
+abbrev pub LiteralsDistinct : List SplitAt → Type 0
+LiteralsDistinct ss = (k : ℕ) (s : SplitAt) → slice_get ss k ≡ Some s → AreDistinct s.literals

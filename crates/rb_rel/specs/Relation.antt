@@ -103,8 +103,8 @@ pub data Represents (types : List DataDecl) (layouts : List Layout) (m : Memory)
       → Represents types layouts m clean o.ty (b.at o.path) (b.subs o.path))
       → Represents types layouts m clean (Named t) v ws
 
--- the words represent the value, and free bits are 0 everywhere: in the root words, in the blocks reached and in the
--- subvalues' words
+-- the words represent the value, and free bits are 0 everywhere: in the root words, in each block that one comes to,
+-- and in the words of subvalues
 abbrev pub IsCleanlyRepresented : List DataDecl → List Layout → Memory → Ty → Value → List ℕ → Type 0
 IsCleanlyRepresented types layouts m = Represents types layouts m true
 

@@ -29,7 +29,7 @@ pub fn splits_lead_to_the_leaf()
     ensures { SplitsLead }
 {}
 
-/// Two values of one type that the same words represent in the same good memory are equal.
+/// In a good memory, words represent one value of a type at most.
 pub fn words_are_one_value()
     ensures { WordsAreOneValue }
 {}

@@ -16,11 +16,13 @@
 //! word, 1, represents `Nil`. Bits 1 and 2 stand in no part. They may be anything, but in a clean
 //! representation they are 0.
 //!
-//! The relation goes from a value to bits, leaf by leaf, and names no order in which anything is
-//! looked at. `specs/Relation.antt` has it. `specs/Reading.antt` says what is read at a location of
+//! The relation says of a value, leaf by leaf, which bits it has, and names no order in which
+//! anything is looked at. `specs/Relation.antt` has it. `specs/Reading.antt` says what is read at a location of
 //! words and to which leaf splits lead, `specs/Placing.antt` which blocks constructions ask for and
-//! where they are placed, `specs/Answers.antt` what a program's run answers under limits, and
-//! `specs/Switches.antt` how many switches it takes to look at values.
+//! where they are placed, `specs/Storing.antt` which numbers parts have to hold and what a memory is
+//! with more blocks, `specs/Provenances.antt` whether a pattern is of a type, `specs/Answers.antt`
+//! what a program's run answers under limits, and `specs/Switches.antt` how many switches it takes to
+//! look at values.
 //!
 //! The laws stand in [`laws`]. In layouts that agree, words in a good memory represent one value at
 //! most of each type, and the splits read on them lead to its leaf; what they represent at a type

@@ -9,7 +9,8 @@ use rb_target::spell::spell_code;
 use std::alloc::Global;
 use std::test::Fail;
 
-// The byte at which a text stops, or None where it is one.
+// The byte at which these bytes stop being a code text, or None where all of them are one. Bytes that
+// spell code which is not valid give None too.
 fn stop(alloc: Global, text: &[u8]) -> Result<Option<usize>, CodeFault> {
     match read_code(alloc, text) {
         Ok(_) => Ok(None),

@@ -245,7 +245,8 @@ fn the_same_values(rt: HostRuntime) -> Result<(), Surprise> {
     expect_all_same(rt.alloc(), &EXAMPLES)
 }
 
-// A boxed constructor of 32 fields of three words each has 96 words: a block of two pointers, to blocks of 64 and of 32.
+// A boxed constructor of 32 fields of three words each has 96 words: a block of two pointers, to blocks of 64 and of
+// 32.
 #[test]
 fn more_words_than_a_block_has(rt: HostRuntime) -> Result<(), Surprise> {
     let alloc = rt.alloc();

@@ -45,7 +45,8 @@ pub const EASY: Side = Side {
     fails: None,
 };
 
-/// One call fails.
+/// A side on which the call with this number, from 0 on, fails, and no other; each moves at most `step`
+/// bytes.
 pub fn failing(step: usize, call: u64) -> Side {
     Side {
         step,
@@ -54,7 +55,8 @@ pub fn failing(step: usize, call: u64) -> Side {
     }
 }
 
-/// No more than so many bytes are taken.
+/// A side that takes no more than `room` bytes, and on which no call fails; each moves at most `step`
+/// bytes.
 pub fn holding(step: usize, room: usize) -> Side {
     Side {
         step,

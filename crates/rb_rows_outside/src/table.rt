@@ -119,7 +119,9 @@ fn calls_of(bytes: &[u8], step: usize) -> u64 {
     pieces.saturating_add(2)
 }
 
-// Each call of the source fails, and then the one that is not made.
+// Makes the row's call once for each call of its source, which alone fails: a read fault is due, and
+// no step. Then a source's call fails that is never made, and the row's own answer is due. A call of
+// the source gives at most `step` bytes.
 fn each_source_call(alloc: Global, call: &Call, step: usize) -> Result<(), Surprise> {
     let calls = calls_of(call.held.file, step).saturating_add(calls_of(call.held.image, step));
     let unread = Answer {
@@ -135,7 +137,9 @@ fn each_source_call(alloc: Global, call: &Call, step: usize) -> Result<(), Surpr
     Ok(())
 }
 
-// Each write of the text fails, and then the one that is not made.
+// Makes the row's call once for each write of its text, which alone fails: the text before it is
+// taken, and the line of a write fault is due. Then a write fails that is never made, and the row's
+// own answer is due. A write takes at most `step` bytes.
 fn each_write(alloc: Global, call: &Call, step: usize) -> Result<(), Surprise> {
     let mut writes = 0u64;
     let mut taken = 0usize;

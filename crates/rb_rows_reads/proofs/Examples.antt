@@ -153,7 +153,8 @@ pair_read = refl
 
 -- A tree whose nodes have their colour in the provenance -------------------------------------------
 --
--- The image has a node of 7 and two empty trees at 64. The colour is told by the pointer's low bit, and stands in no part.
+-- The image has a node of 7 and two empty trees at 64. The colour is told by the pointer's low bit, and stands in no
+-- part.
 
 abbrev apart_image : Memory
 apart_image = record { limit = 76; next = 76; blocks = (64, 12) ∷ []; bytes = low ++ (byte4 7 ++ (byte4 0 ++ byte4 0)) }

@@ -65,7 +65,8 @@ const RUN: [(&str, &str, &str); 5] = [
     (UNSHOWN, "1 64 0 4", "0 8;"),
 ];
 
-// Looks what `exec` answers to the code of each file.
+// Looks whether `exec`, run on the code of each row's file with the row's words, gives the row's
+// answer; another one is a surprise.
 fn expect_run(alloc: Global, rows: &[(&str, &str, &str)]) -> Result<(), Surprise> {
     for (file, words, wanted) in rows {
         let code = compiled(alloc, file)?;
@@ -91,8 +92,8 @@ const LINES: [Lines; 33] = [
     (RESULTS, "return ", 3, 3),
     (RESULTS, "copy ", 0, 0),
     (RESULTS, "jump ", 0, 0),
-    // the arms of a match in an operand leave theirs in one slot, one as a number and one copied, and go on behind it, where
-    // the last one ends
+    // the arms of a match in an operand leave theirs in one slot, one as a number and one copied, and go on behind it,
+    // where the last one ends
     (OPERAND, "return ", 1, 1),
     (OPERAND, "copy ", 1, 1),
     (OPERAND, "jump ", 1, 1),
@@ -102,8 +103,8 @@ const LINES: [Lines; 33] = [
     (TOLD, "switch ", 3, 3),
     // one switch finds the leaf, which tells an entry and its bit: neither is tested
     (TOLD_INSIDE, "switch ", 1, 1),
-    // one finds the leaf, which tells an entry, and each of the bit and the byte below it has one; they are read from the
-    // pair, so that no entry is put together
+    // one finds the leaf, which tells an entry, and each of the bit and the byte below it has one; they are read from
+    // the pair, so that no entry is put together
     (TOLD_ABOVE, "switch ", 3, 3),
     (TOLD_ABOVE, "put ", 0, 0),
     // one finds the leaf; behind it the bit and the byte have one each, and the number of the other way one
@@ -132,7 +133,8 @@ const LINES: [Lines; 33] = [
     (TESTED, "load ", 2, 2),
     // the address of the block of which both are loaded is made once
     (TESTED, "alu ", 1, 1),
-    // where the file shows what stands in an argument there is none; where it does not, one finds its leaf, which tells its bit
+    // where the file shows what stands in an argument there is none; where it does not, one finds its leaf, which tells
+    // its bit
     (SHOWN_INSIDE, "switch ", 1, 1),
     // a word that is tested in all its bits is tested as it is
     (WHOLE, "take ", 0, 0),
@@ -181,7 +183,8 @@ fn lines_with(code: &[u8], start: &str) -> usize {
     count
 }
 
-// Looks how many lines of each file's code begin so.
+// Looks whether the code of each row's file has at least and at most as many lines that begin with
+// the row's text as the row says; another number is a surprise.
 fn expect_lines(alloc: Global, rows: &[Lines]) -> Result<(), Surprise> {
     for (file, start, least, most) in rows {
         let code = compiled(alloc, file)?;

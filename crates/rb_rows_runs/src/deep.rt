@@ -88,8 +88,8 @@ fn counts_over_them(rt: HostRuntime) -> Result<(), Surprise> {
 const PAIRED: &str =
     "type C = R | G | B; layout C <2> = split 0[0:2] { 0 => R : { word 2 { [0:2] = 0 } } 1 => G : { word 2 { [0:2] = 1 } } 2 => B : { word 2 { [0:2] = 2 } } }; type P = P(C, C); layout P <4> = split 0[0:1] { 0 => P(R, _) : { word 4 { [0:1] = 0, [2:2] .1 } } 1 => split 0[1:1] { 0 => P(G, _) : { word 4 { [0:2] = 1, [2:2] .1 } } 1 => P(B, _) : { word 4 { [0:2] = 3, [2:2] .1 } } } }; fun main(p: P): u8 = match p { P(R, R) => 1, P(R, _) => 2, _ => 3 };";
 
-// Two leaves go the same way, and nothing of them is saved: the split between them is left out. Behind the third the second
-// field is looked at.
+// Two leaves go the same way, and nothing of them is saved: the split between them is left out. Behind the third the
+// second field is looked at.
 const SAME_WAY: [CountRow; 4] = [
     (
         PAIRED,

@@ -1,5 +1,6 @@
 //! Matches by the code that chooses a clause: four bits whose tests stand once, parts that a leaf has taken apart,
-//! with another test between, and each clause of matches through pointers and slices. Worked out by hand from the files.
+//! with another test between, and each clause of matches through pointers and slices. Worked out by hand from the
+//! files.
 
 use crate::counts::FOUR;
 use rb_rows_calls::counts::expect_counts;

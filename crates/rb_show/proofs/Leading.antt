@@ -16,7 +16,8 @@ use Rattle.rb_layout.proofs.FlatForms as F
 use Rattle.rb_show.specs.Lines.{condition_line, route_lines}
 use Rattle.rb_show.specs.inner.Ways.{literals_in, way, way_behind, way_lines, ways_behind}
 use Rattle.rb_show.specs.declared.ways.Way.{Way}
-use Rattle.rb_show.proofs.Texts.{appended, flat_next}
+use Rattle.rb_core.proofs.TextLemmas.{appended}
+use Rattle.rb_show.proofs.Texts.{flat_next}
 
 pub routes-arm : (a : FlatArm) → routes_under a ≡ record { literal = a.literal; of = routes_of a.under }
 routes-arm a = fold_out-FlatArm (List Route) (Under (List Route)) routes_step routes_arm a

@@ -6,6 +6,7 @@ use Rattle.std.specs.Prelude.{ℕ, ◌+◌, List, [], ◌∷◌, ◌++◌, codes
 use Rattle.std.specs.Fmt.{decimal}
 use Rattle.std.specs.List.{flat_map}
 use Rattle.rb_core.specs.declared.types.DataDecl.{DataDecl}
+use Rattle.rb_core.specs.Texts.{pattern_text, type_name}
 use Rattle.rb_layout.specs.declared.layout.Layout.{Layout}
 use Rattle.rb_layout.specs.declared.layout.Leaf.{Leaf}
 use Rattle.rb_layout.specs.declared.layout.Block.{Block}
@@ -15,7 +16,6 @@ use Rattle.rb_layout.specs.declared.layout.Kind.TheVariants.{Const, Bits, Word, 
 use Rattle.rb_layout.specs.Splits.{Test, Is, IsNone, Route, routes_of}
 use Rattle.rb_layout.specs.Words.{begins_at, size_of}
 use Rattle.rb_show.specs.Locations.{range_text, loc_text}
-use Rattle.rb_show.specs.Patterns.{pattern_text}
 use Rattle.rb_show.specs.Pieces.{WordPiece, Held, Free, pieces_of}
 
 -- a text with the end of its line behind it
@@ -110,11 +110,6 @@ abbrev pub route_lines : List DataDecl → List Leaf → Route → List ℕ
 route_lines types leaves route = found_lines types (flat_map condition_line route.tests) (slice_get leaves route.leaf)
 
 -- Layouts -----------------------------------------------------------------------------------
-
--- the name of a type that was looked up; empty where none was found
-abbrev pub type_name : Option DataDecl → List ℕ
-type_name None = []
-type_name (Some d) = d.name
 
 -- the first line of a layout: the name of its type, which has the number t
 abbrev pub type_line : List DataDecl → ℕ → List ℕ

@@ -10,6 +10,7 @@ use Rattle.rb_core.specs.declared.pattern.Pat.{Pat}
 use Rattle.rb_core.specs.declared.types.DataDecl.{DataDecl}
 use Rattle.rb_core.specs.declared.types.Ty.{Ty}
 use Rattle.rb_core.specs.declared.types.Ty.TheVariants.{Int, Named}
+use Rattle.rb_core.specs.Texts.{pattern_text, type_name}
 use Rattle.rb_layout.specs.declared.evidence.Refused.{Refused}
 use Rattle.rb_layout.specs.declared.evidence.Why.{Why}
 use Rattle.rb_layout.specs.declared.evidence.Why.TheVariants.{NoLayout, ShapeWidth, WordCount, WordWidth, Outside, Overlap, ConstWide, Misfit, BlockWord, BlockWords, Blocks, Align, ShortPointer, Common, NoLeaf, NotHeld, HeldTwice, NotOpen, Unresolved, NotKnown, NotExcluded, LiteralWide, LiteralTwice, NoArm, HasPointer, FlatCycle, HoldCycle}
@@ -18,9 +19,8 @@ use Rattle.rb_layout.specs.declared.layout.Leaf.{Leaf}
 use Rattle.rb_layout.specs.A8.{length_of}
 use Rattle.rb_layout.specs.Flattening.{type_at}
 use Rattle.rb_layout.specs.Positions.{open_positions, leaves_of_layout}
-use Rattle.rb_show.specs.Lines.{path_text, type_name}
+use Rattle.rb_show.specs.Lines.{path_text}
 use Rattle.rb_show.specs.Locations.{bits_text, loc_text}
-use Rattle.rb_show.specs.Patterns.{pattern_text}
 
 -- Names -------------------------------------------------------------------------------------
 

@@ -11,8 +11,8 @@ ghost use Rattle.rb_show.specs.Lines.{condition_line, none_text, other_literal};
 ghost use Rattle.rb_show.specs.inner.Ways.{literals_in};
 
 use crate::location::push_loc;
-use crate::text::{push, push_number};
 use rb_core::layout_decl::Loc;
+use rb_core::text::{push, push_number};
 use rb_layout::layout::FlatArm;
 use std::alloc::AllocError;
 

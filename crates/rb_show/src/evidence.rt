@@ -13,12 +13,11 @@ ghost use Rattle.rb_layout.specs.A8 as a8;
 ghost use Rattle.rb_show.specs.Refusals.{common_text, counts_text, evidence_text, field_text, flattening_text, holding_text, item_text, later_name, leaf_text, literal_at, literal_text, missing_text, names_text, pointer_text, split_text, unit_in, unit_of_field, unit_text, unresolved_text, width_text};
 
 use crate::location::{push_bits, push_loc};
-use crate::pattern::push_pattern;
 use crate::piece::push_path;
-use crate::show::push_name;
-use crate::text::{push, push_number};
 use rb_core::layout_decl::Loc;
 use rb_core::pattern::Pat;
+use rb_core::pattern_text::push_pattern;
+use rb_core::text::{push, push_name, push_number};
 use rb_core::types::{DataDecl, Ty};
 use rb_layout::evidence::Why;
 use rb_layout::layout::Leaf;

@@ -8,11 +8,11 @@ ghost use Rattle.rb_show.specs.Lines.{leaf_lines};
 ghost use Rattle.rb_show.specs.Short.{HaveShortBlocks, HaveShortWords};
 ghost use Rattle.rb_show.specs.inner.Ways.{way_lines};
 
-use crate::pattern::push_pattern;
-use crate::text::push;
 use crate::ways::Way;
 use crate::word::{push_blocks, push_root};
+use rb_core::pattern_text::push_pattern;
 use rb_core::seq::Seq;
+use rb_core::text::push;
 use rb_core::types::DataDecl;
 use rb_layout::layout::Leaf;
 use std::alloc::AllocError;

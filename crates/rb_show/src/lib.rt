@@ -33,11 +33,9 @@ mod free;
 pub mod laws;
 mod leaf;
 pub mod location;
-pub mod pattern;
 mod piece;
 pub mod refusal;
 pub mod show;
-pub mod text;
 mod ways;
 mod word;
 

@@ -5,11 +5,21 @@
 
 ghost use Rattle.std.specs.Prelude.{◌≡◌, ◌++◌, OnErr, OnOk};
 ghost use Rattle.std.specs.List.{flat_map};
-ghost use Rattle.rb_show.specs.Locations.{bits_text, loc_text, step_text};
+ghost use Rattle.rb_show.specs.Locations.{bits_text, loc_text, range_text, step_text};
 
-use crate::text::{push, push_number, push_range};
 use rb_core::layout_decl::{Loc, Step};
+use rb_core::text::{push, push_number};
 use std::alloc::AllocError;
+
+/// Adds so many bits from that bit on, as `o:l`.
+pub(crate) fn push_range(text: &mut Vec<u8>, o: u64, l: u64) -> Result<(), AllocError>
+    ensures { OnOk result (text.new.items ≡ text.old.items ++ range_text o l) }
+{
+    push_number(text, o)?;
+    push(text, b":")?;
+    push_number(text, l)?;
+    Ok(())
+}
 
 /// Adds so many bits from that bit on, as `[o:l]`.
 pub(crate) fn push_bits(text: &mut Vec<u8>, o: u64, l: u64) -> Result<(), AllocError>

@@ -12,7 +12,8 @@ ghost use Rattle.rb_show.specs.Lines.{kind_text, path_text, piece_line, piece_li
 ghost use Rattle.rb_show.specs.Pieces.{Held, Free, held_at, pieces_at};
 
 use crate::free::{begins_free, free_bits};
-use crate::text::{push, push_number, push_range};
+use crate::location::push_range;
+use rb_core::text::{push, push_number};
 use rb_layout::layout::{FlatWord, Kind, Part};
 use std::alloc::AllocError;
 

@@ -10,8 +10,7 @@ ghost use Rattle.rb_layout.specs.Positions.{leaves_of_layout};
 ghost use Rattle.rb_show.specs.Refusals.{at_leaf, is_of_one_leaf, number_of_leaf, refusal_text};
 
 use crate::evidence::{push_evidence, push_leaf};
-use crate::show::push_name;
-use crate::text::{push, push_number};
+use rb_core::text::{push, push_name, push_number};
 use rb_core::types::DataDecl;
 use rb_layout::evidence::Refused;
 use rb_layout::layout::{Layout, Leaf};

@@ -4,38 +4,23 @@
 //! through the splits: it has the leaf's number and the lines of their conditions. `types` are the
 //! types of the program. Every error is want of memory.
 
-ghost use Rattle.std.specs.Prelude.{◌≡◌, ◌++◌, IfOk, OnErr, OnOk, slice_get};
+ghost use Rattle.std.specs.Prelude.{◌≡◌, ◌++◌, IfOk, OnErr, OnOk};
 ghost use Rattle.std.specs.List.{flat_map};
-ghost use Rattle.rb_show.specs.Lines.{layout_lines, layouts_text, type_line, type_name};
+ghost use Rattle.rb_show.specs.Lines.{layout_lines, layouts_text, type_line};
 ghost use Rattle.rb_show.specs.Short.{HaveShortBlocks};
 ghost use Rattle.rb_show.specs.inner.Ways.{way_lines};
 
 use crate::leaf::push_way;
-use crate::text::push;
 use crate::ways::{Way, ways};
 use rb_core::seq::Seq;
+use rb_core::text::{push, push_name};
 use rb_core::types::DataDecl;
 use rb_layout::agreed::Agreed;
 use rb_layout::layout::{Layout, Leaf};
 use std::alloc::{AllocError, Global};
 
-/// Adds a type's name to a text; nothing where there is no such type.
-///
-/// # Errors
-///
-/// Want of memory. Then the text is as it was.
-pub fn push_name(text: &mut Vec<u8>, types: &[DataDecl], ty: u32) -> Result<(), AllocError>
-    ensures ok { OnOk result (text.new.items ≡ text.old.items ++ type_name (slice_get types.now ty)) }
-    ensures err { OnErr result (text.new.items ≡ text.old.items) }
-{
-    match types.get(ty as usize) {
-        None => Ok(()),
-        Some(decl) => push(text, decl.name.as_slice()),
-    }
-}
-
 // Adds the first line of a layout: the name of its type.
-fn push_type(text: &mut Vec<u8>, types: &[DataDecl], ty: u32) -> Result<(), AllocError>
+fn push_type_line(text: &mut Vec<u8>, types: &[DataDecl], ty: u32) -> Result<(), AllocError>
     ensures { OnOk result (text.new.items ≡ text.old.items ++ type_line types.now ty) }
 {
     push(text, b"type ")?;
@@ -71,7 +56,7 @@ fn push_lines(
     requires { HaveShortBlocks layout.now.leaves }
     ensures { OnOk result (text.new.items ≡ text.old.items ++ layout_lines types.now layout.now) }
 {
-    push_type(text, types, layout.ty)?;
+    push_type_line(text, types, layout.ty)?;
     let ways = ways(alloc, &layout.tree)?;
     push_leaves(text, types, &layout.leaves, ways.as_slice())?;
     Ok(())

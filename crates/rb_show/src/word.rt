@@ -10,7 +10,7 @@ ghost use Rattle.rb_show.specs.Short.{HaveShortWords};
 ghost use Rattle.rb_show.specs.Lines.{numbered_texts, block_line, block_lines, block_word_lines, root_word_lines, size_line, width_lines, word_lines_at};
 
 use crate::piece::push_pieces;
-use crate::text::{push, push_number};
+use rb_core::text::{push, push_number};
 use rb_layout::block_size;
 use rb_layout::layout::{Block, FlatWord};
 use std::alloc::AllocError;

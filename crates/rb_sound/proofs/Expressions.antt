@@ -33,7 +33,7 @@ use Rattle.rb_core.specs.Matching.{matches_of, bindings, chosen_clause, next_cla
 use Rattle.rb_core.specs.Typing.{as_wanted, type_holds, number, integer, variable_type, distinct_binders, field_types, pattern_params, pattern_binders, each_argument, arguments, param_types, result_type, operand_wanted, operator_type, integer_operand, operands, clauses, clause_rule, rule_of, type_of}
 use Rattle.rb_core.specs.Inference.{width_of, with_binder, binders, operands_type, match_type, inferred_type, clause_inferred}
 use Rattle.rb_core.specs.Coverage.{SitedBranch, part_sites, branch_sites, sites, AreExhaustive}
-use Rattle.rb_core.specs.Meaning.{Meaning, Calls, op_value, done, spent, after, at_end, then_do, PartsOutcome, at_part, parts_after, all_of, at_parts_end, then_with, built, first_of, meaning_of, clause_meaning, with_value}
+use Rattle.rb_core.specs.Meaning.{Meaning, Calls, op_value, value_outcome, spent, after, at_end, then_do, PartsOutcome, at_part, parts_after, all_of, at_parts_end, then_with, construction_outcome, first_of, meaning_of, clause_meaning, with_value}
 use Rattle.rb_core.proofs.ValueLaws.{is_of_type-Num, is_of_type-Con}
 use Rattle.rb_core.proofs.ExpressionLaws.{Each, EachBody, induction}
 use Rattle.rb_core.proofs.TypingLemmas.{type-Num, type-Var, type-Call, type-Build, type-Binary, type-To, type-Let, type-Match, type-Clause}
@@ -99,7 +99,7 @@ module _ (types : List DataDecl) where
   no_events : Events []
   no_events = All-nil (IsBuiltTyped types)
 
-  pub done_runs : (t : Ty) (v : Value) (left : ℕ) → IsOf types v t → RunsAs types t (done v left)
+  pub done_runs : (t : Ty) (v : Value) (left : ℕ) → IsOf types v t → RunsAs types t (value_outcome v left)
   done_runs t v left h = record { ends = h; builds = no_events }
 
   pub spent_runs : (t : Ty) → RunsAs types t spent
@@ -110,8 +110,8 @@ module _ (types : List DataDecl) where
   event_runs t event o h k = record { ends = k.ends; builds = All-cons (IsBuiltTyped types) event o.log h k.builds }
 
   -- a construction, whose value is of the construction's type
-  built_runs : (c : ConRef) (vs : List Value) (left : ℕ) → IsOf types (Con c.con vs) (Named c.ty) → RunsAs types (Named c.ty) (built c vs left)
-  built_runs c vs left h = event_runs (Named c.ty) (Built c.ty (Con c.con vs)) (done (Con c.con vs) left) h (done_runs (Named c.ty) (Con c.con vs) left h)
+  built_runs : (c : ConRef) (vs : List Value) (left : ℕ) → IsOf types (Con c.con vs) (Named c.ty) → RunsAs types (Named c.ty) (construction_outcome c vs left)
+  built_runs c vs left h = event_runs (Named c.ty) (Built c.ty (Con c.con vs)) (value_outcome (Con c.con vs) left) h (done_runs (Named c.ty) (Con c.con vs) left h)
 
   after_runs : (t : Ty) (log : List Event) (o : Outcome) → Events log → RunsAs types t o → RunsAs types t (after log o)
   after_runs t log o h k = record { ends = k.ends; builds = All-append (IsBuiltTyped types) log o.log h k.builds }
@@ -310,8 +310,8 @@ module _ (p : Program) (calls : Calls) (sound : (g n : ℕ) (vs : List Value) �
       let cs = exhaustive-append p.types (sites p.types p.funs a scope) _ (subst (AreExhaustive p.types) (sites-Binary p.types p.funs at op a b scope) covered) in
       let int : operands_type op wanted (inferred_type p.types p.funs a None scope) ≡ Int parts.0 = parts.2 ∙ parts.1 in
       same t (operator_type op h.from) _ _ (meaning-Binary p calls f wanted scope left env at op a b) (fits_found at wanted (operator_type op h.from) t h.then_is)
-      (subst (λ u. RunsAs p.types (operator_type op h.from) (then_do (ev a (operand_wanted op wanted) scope left env) (λ v rest. then_do (ev b (Some u) scope rest env) (Rattle.rb_core.specs.Meaning.combined op (width_of u) v)))) (sym parts.2)
-      (subst (λ u. RunsAs p.types (operator_type op u) (then_do (ev a (operand_wanted op wanted) scope left env) (λ v rest. then_do (ev b (Some u) scope rest env) (Rattle.rb_core.specs.Meaning.combined op (width_of u) v)))) (sym parts.1)
+      (subst (λ u. RunsAs p.types (operator_type op h.from) (then_do (ev a (operand_wanted op wanted) scope left env) (λ v rest. then_do (ev b (Some u) scope rest env) (Rattle.rb_core.specs.Meaning.operation_outcome op (width_of u) v)))) (sym parts.2)
+      (subst (λ u. RunsAs p.types (operator_type op u) (then_do (ev a (operand_wanted op wanted) scope left env) (λ v rest. then_do (ev b (Some u) scope rest env) (Rattle.rb_core.specs.Meaning.operation_outcome op (width_of u) v)))) (sym parts.1)
       (runs_do p.types h.from (operator_type op (Int parts.0)) _ _ (ha _ scope left env h.from parts.3 ws.0 cs.0 agree)
       (λ v rest k. runs_do p.types (Int parts.0) (operator_type op (Int parts.0)) _ _
       (hb (Some (Int parts.0)) scope rest env (Int parts.0) (subst (λ u. type_of p.types p.funs b (Some u) scope ≡ Ok u) parts.1 parts.4) ws.1 cs.1 agree)

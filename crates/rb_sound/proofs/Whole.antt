@@ -18,7 +18,7 @@ use Rattle.rb_core.specs.declared.expression.Expr.TheFolds.{fold-Expr, fold-roll
 use Rattle.rb_core.specs.Values.{fields_of}
 use Rattle.rb_core.specs.WellNumbered.{Within, is_lower, is_type, param_is_numbered, expression_step, numbered_clause_step, expression_is_numbered, function_is_numbered, vars_of, IsWellNumbered}
 use Rattle.rb_core.proofs.ExpressionLaws.{Each, EachBody, induction}
-use Rattle.rb_core.proofs.NumberedForms.{both}
+use Rattle.rb_core.proofs.NumberedForms.{both, numbered_at}
 use Rattle.rb_sound.specs.Words.{all_true, words_step, words_clause, has_words, body_has_words, HasWords}
 use Rattle.rb_sound.specs.inner.Words.{clause_has_words}
 use Rattle.rb_sound.proofs.Forms.{and_true}
@@ -166,11 +166,6 @@ module _ (types : List DataDecl) (funs : List Fun) where
         whole-Match types at e cs ∙ and_true _ _ (he xs parts.0 ws.0) (clauses_whole cs hcs xs last.1 ws.1);
   })
 
-  all_at : (fs : List Fun) (g : ℕ) (f : Fun) → list_all (function_is_numbered types funs) fs ≡ true → slice_get fs g ≡ Some f → function_is_numbered types funs f ≡ true
-  all_at [] g f n e = cc
-  all_at (h ∷ fs) zero f n e = let here : h ≡ f = cc in ap (function_is_numbered types funs) (sym here) ∙ (both (function_is_numbered types funs h) _ n).0
-  all_at (h ∷ fs) (suc g) f n e = all_at fs g f (both (function_is_numbered types funs h) _ n).1 e
-
 words_at : (fs : List Fun) (g : ℕ) (f : Fun) → all_true (map body_has_words fs) ≡ true → slice_get fs g ≡ Some f → has_words f.body ≡ true
 words_at [] g f all e = cc
 words_at (h ∷ fs) zero f all e = let here : h ≡ f = cc in ap body_has_words (sym here) ∙ (both (body_has_words h) _ all).0
@@ -178,7 +173,7 @@ words_at (h ∷ fs) (suc g) f all e = words_at fs g f (both (body_has_words h) _
 
 pub whole_bodies : (p : Program) → IsWellNumbered p → HasWords p → (g : ℕ) (f : Fun) → slice_get p.funs g ≡ Some f → is_whole p.types f.body ≡ true
 whole_bodies p n words g f e =
-    let named = both (is_lower f.name) _ (all_at p.types p.funs p.funs g f n.functions e) in
+    let named = both (is_lower f.name) _ (numbered_at (function_is_numbered p.types p.funs) p.funs g f n.functions e) in
     let counted = both (nat_le (length f.params) 32) _ named.1 in
     let params = both (list_all (param_is_numbered p.types) f.params) _ counted.1 in
     let body = both (is_type p.types f.result) _ params.1 in

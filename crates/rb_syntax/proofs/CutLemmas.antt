@@ -18,7 +18,7 @@ use Rattle.rb_syntax.specs.declared.lex.LexFault.TheVariants.{BadByte, NumberToo
 use Rattle.rb_syntax.specs.Bytes.{is_blank, numeral_len}
 use Rattle.rb_syntax.specs.Words.{symbol_at}
 use Rattle.rb_syntax.specs.Pieces.{name_token, number_or_fault, number_piece, underscore_piece, run_piece, symbol_piece, first_piece, piece_at}
-use Rattle.rb_syntax.specs.Lexing.{Lexed, before, with_piece, lexed_from, lexed}
+use Rattle.rb_syntax.specs.Lexing.{Lexed, before, with_piece, lexing_from, lexing_of}
 use Rattle.rb_syntax.specs.Cutting.{IsGap, IsLongest, IsNumeral, IsWritten, IsTokenRun, IsBadBehind, IsWideNumber, Cut, LexesTo, no_piece, wrong_run}
 use Rattle.rb_syntax.specs.Cutting as cut
 use Rattle.rb_syntax.proofs.PieceLemmas.{run-cons, comment-within, numeral_len-le}
@@ -164,21 +164,21 @@ with-right at bytes (piece.Token t n) behind f go = right-token at n t bytes (be
 with-right at bytes (piece.Bad k) behind f go = ([], cut.stop at bytes (k, refl, f))
 with-right at bytes piece.Wide behind f go = ([], cut.stop at bytes (refl, f))
 
-lexed_from-right : (n at : ℕ) (bytes : List ℕ) → length bytes ≤ n → IsRightFrom at bytes (lexed_from n at bytes)
-unfolding lexed_from
-lexed_from-right zero at bytes h = cut.stop at bytes (none-empty bytes (omega arith))
-lexed_from-right (suc n) at bytes h =
+lexing_from-right : (n at : ℕ) (bytes : List ℕ) → length bytes ≤ n → IsRightFrom at bytes (lexing_from n at bytes)
+unfolding lexing_from
+lexing_from-right zero at bytes h = cut.stop at bytes (none-empty bytes (omega arith))
+lexing_from-right (suc n) at bytes h =
     elim (length bytes == 0) as (λ (b : Bool). (length bytes == 0) ≡ b
-    → IsRightFrom at bytes (if b then Ok [] else with_piece at (piece_at bytes) (λ len. lexed_from n (at + len) (drop len bytes)))) [
+    → IsRightFrom at bytes (if b then Ok [] else with_piece at (piece_at bytes) (λ len. lexing_from n (at + len) (drop len bytes)))) [
       | true ↦ λ e. cut.stop at bytes (none-empty bytes (eqb-true _ _ e))
-      | false ↦ λ e. with-right at bytes (piece_at bytes) (λ len. lexed_from n (at + len) (drop len bytes))
+      | false ↦ λ e. with-right at bytes (piece_at bytes) (λ len. lexing_from n (at + len) (drop len bytes))
           (piece_at-front bytes (below 0 (length bytes) (omega arith) (λ z. eqb-false _ _ e (sym z))))
-          (λ len some. lexed_from-right n (at + len) (drop len bytes) (omega (arith, length-drop len bytes)))
+          (λ len some. lexing_from-right n (at + len) (drop len bytes) (omega (arith, length-drop len bytes)))
     ] refl
 
--- the law of `lexed`
-pub lexed-right : (bytes : List ℕ) → LexesTo bytes (lexed bytes)
-lexed-right bytes = right-from bytes (lexed bytes) (lexed_from-right (length bytes) 0 bytes (omega arith))
+-- the law of `lexing_of`
+pub lexed-right : (bytes : List ℕ) → LexesTo bytes (lexing_of bytes)
+lexed-right bytes = right-from bytes (lexing_of bytes) (lexing_from-right (length bytes) 0 bytes (omega arith))
   where
     right-from : (xs : List ℕ) (r : Lexed) → IsRightFrom 0 xs r → LexesTo xs r
     right-from xs (Ok ts) h = h

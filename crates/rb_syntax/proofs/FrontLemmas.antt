@@ -8,7 +8,7 @@ use Rattle.rb_syntax.specs.declared.piece.Piece.{Piece}
 use Rattle.rb_syntax.specs.declared.piece.Piece.TheVariants as piece
 use Rattle.rb_syntax.specs.declared.lex.LexFault.TheVariants.{BadByte, NumberTooWide, Memory}
 use Rattle.rb_syntax.specs.Pieces.{piece_at}
-use Rattle.rb_syntax.specs.Lexing.{Lexed, before, with_piece, lexed_from}
+use Rattle.rb_syntax.specs.Lexing.{Lexed, before, with_piece, lexing_from}
 use Rattle.rb_syntax.specs.Cutting.{Cut}
 use Rattle.rb_syntax.specs.Cutting as cut
 use Rattle.rb_syntax.specs.Fronts.{Front, ends, front_with, with_front, front_from, front_at, front, AgreesWith, StopsText, IsFrontOf}
@@ -34,8 +34,8 @@ one-more : (n at : ℕ) (bytes : List ℕ) → 0 < length bytes → front_from (
 unfolding front_from
 one-more n at bytes h = let e : (length bytes == 0) ≡ false = grind (arith, common_steps) in rw e refl
 
-lexed-more : (n at : ℕ) (bytes : List ℕ) → 0 < length bytes → lexed_from (suc n) at bytes ≡ with_piece at (piece_at bytes) (λ len. lexed_from n (at + len) (drop len bytes))
-unfolding lexed_from
+lexed-more : (n at : ℕ) (bytes : List ℕ) → 0 < length bytes → lexing_from (suc n) at bytes ≡ with_piece at (piece_at bytes) (λ len. lexing_from n (at + len) (drop len bytes))
+unfolding lexing_from
 lexed-more n at bytes h = let e : (length bytes == 0) ≡ false = grind (arith, common_steps) in rw e refl
 
 turns : (n m at : ℕ) (bytes : List ℕ) → length bytes ≤ n → length bytes ≤ m → front_from n at bytes ≡ front_from m at bytes
@@ -95,14 +95,14 @@ agrees-piece at (piece.Token t n) r f h = agrees-before (record { token = t; at 
 agrees-piece at (piece.Bad k) r f h = refl
 agrees-piece at piece.Wide r f h = refl
 
-agrees-from : (n at : ℕ) (bytes : List ℕ) → AgreesWith (lexed_from n at bytes) (front_from n at bytes)
-unfolding lexed_from front_from
+agrees-from : (n at : ℕ) (bytes : List ℕ) → AgreesWith (lexing_from n at bytes) (front_from n at bytes)
+unfolding lexing_from front_from
 agrees-from zero at bytes = refl
 agrees-from (suc n) at [] = refl
 agrees-from (suc n) at (b ∷ bs) =
     let some : 0 < length (b ∷ bs) = omega arith in
     rw (lexed-more n at (b ∷ bs) some, one-more n at (b ∷ bs) some)
-    (agrees-piece at (piece_at (b ∷ bs)) (λ len. lexed_from n (at + len) (drop len (b ∷ bs))) (λ len. front_from n (at + len) (drop len (b ∷ bs)))
+    (agrees-piece at (piece_at (b ∷ bs)) (λ len. lexing_from n (at + len) (drop len (b ∷ bs))) (λ len. front_from n (at + len) (drop len (b ∷ bs)))
     (λ len. agrees-from n (at + len) (drop len (b ∷ bs))))
 
 cut-piece : (at : ℕ) (bytes : List ℕ) (p : Piece) (rest : ℕ → Front) → IsFront bytes p

@@ -55,7 +55,7 @@ pub record IsUintWord (bits : ℕ) (text : List ℕ) : Type 0 where
   pub some : 1 ≤ bits
   pub most : bits ≤ 64
 
--- the name is no reserved word: none of `Word`, and none of u1 to u64
+-- the name is no reserved word: none of `ReservedWord`, and none of u1 to u64
 abbrev pub IsNotReserved : List ℕ → Type 0
 IsNotReserved name = ((w : ReservedWord) → name ≢ word_text w) × ((bits : ℕ) → IsUintWord bits name → ⊥)
 

@@ -7,7 +7,7 @@ use Rattle.rb_syntax.specs.declared.front.Next.{Next}
 use Rattle.rb_syntax.specs.declared.front.Next.TheVariants as next
 use Rattle.rb_syntax.specs.declared.lex.LexFault.TheVariants.{BadByte, NumberTooWide, Memory}
 use Rattle.rb_syntax.specs.Pieces.{piece_at}
-use Rattle.rb_syntax.specs.Lexing.{Lexed, lexed}
+use Rattle.rb_syntax.specs.Lexing.{Lexed, lexing_of}
 use Rattle.rb_syntax.specs.Cutting.{Cut, IsBadBehind, IsWideNumber}
 
 -- the tokens before the first fault, and the byte of that fault, if there is one
@@ -63,7 +63,7 @@ AgreesWith (Err (NumberTooWide p)) f = f.fault ≡ Some p
 AgreesWith (Err Memory) f = ⊥
 
 -- what is left from byte `at` on stops a text: without a fault it is nothing; fault p is a bad byte behind so many
--- good ones there, or the first byte of a number of 2^64 or more
+-- good ones there, or where a number of over 64 bits begins
 abbrev pub StopsText : Option ℕ → ℕ → List ℕ → Type 0
 StopsText None at rest = rest ≡ []
 StopsText (Some p) at rest = ((k : ℕ) × (p ≡ at + k) × IsBadBehind k rest) ⊎ ((p ≡ at) × IsWideNumber rest)
@@ -72,7 +72,7 @@ StopsText (Some p) at rest = ((k : ℕ) × (p ≡ at + k) × IsBadBehind k rest)
 -- end, are cut into their longest pieces, its tokens are those among them, and it agrees with `lex`
 pub record IsFrontOf (text : List ℕ) (f : Front) : Type 0 where
   pub cut : Cut (StopsText f.fault) 0 text f.tokens
-  pub agrees : AgreesWith (lexed text) f
+  pub agrees : AgreesWith (lexing_of text) f
 
 -- of each text the front has the tokens among its longest pieces before the first fault, and that fault
 abbrev pub FrontsAreRight : Type 0

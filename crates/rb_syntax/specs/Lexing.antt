@@ -26,15 +26,15 @@ with_piece at (piece.Bad offset) behind = Err (BadByte (at + offset))
 with_piece at piece.Wide behind = Err (NumberTooWide at)
 
 -- the tokens, or the first fault, of bytes of which the first is byte `at` of a text, in at most so many pieces
-unfoldable pub lexed_from : ℕ → ℕ → List ℕ → Lexed
-lexed_from zero at bytes = Ok []
-lexed_from (suc n) at bytes =
+unfoldable pub lexing_from : ℕ → ℕ → List ℕ → Lexed
+lexing_from zero at bytes = Ok []
+lexing_from (suc n) at bytes =
     if length bytes == 0 then Ok [] else with_piece at (piece_at bytes)
-    (λ len. lexed_from n (at + len) (drop len bytes))
+    (λ len. lexing_from n (at + len) (drop len bytes))
 
 -- the tokens of a text, or its first fault; each piece has a byte, so a text has no more pieces than bytes
-abbrev pub lexed : List ℕ → Lexed
-lexed bytes = lexed_from (length bytes) 0 bytes
+abbrev pub lexing_of : List ℕ → Lexed
+lexing_of bytes = lexing_from (length bytes) 0 bytes
 
 -- the answer is what is read of a text: its tokens, or its first fault; or want of memory, which says nothing of it
 abbrev pub IsAnswer : Lexed → Result (Vec Placed Global) LexFault → Type 0

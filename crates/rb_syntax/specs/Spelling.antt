@@ -54,8 +54,8 @@ abbrev pub num : ℕ → Written
 num n = token (tok.Num n)
 
 -- the token of a reserved word
-abbrev pub reserved : ReservedWord → Written
-reserved w = token (tok.Reserved w)
+abbrev pub word_token : ReservedWord → Written
+word_token w = token (tok.Reserved w)
 
 -- whether there is a type of integers of so many bits: 1 to 64
 abbrev pub is_uint_width : ℕ → Bool
@@ -142,16 +142,16 @@ expr_step (expr.Call at name es) l rest =
 expr_step (expr.Build at name es) l rest =
     node l ∷ number at ∷ upper_written name (fields_written (at_level (suc l) es) rest)
 expr_step (expr.Binary at op a b) l rest =
-    node l ∷ number at ∷ reserved (op_word op) ∷ sym symbol.OpenParen
+    node l ∷ number at ∷ word_token (op_word op) ∷ sym symbol.OpenParen
     ∷ a (suc l) (token comma ∷ b (suc l) (sym symbol.CloseParen ∷ rest))
 expr_step (expr.To at bits a) l rest =
-    node l ∷ number at ∷ reserved word.To
+    node l ∷ number at ∷ word_token word.To
     ∷ uint_written bits (sym symbol.OpenParen ∷ a (suc l) (sym symbol.CloseParen ∷ rest))
 expr_step (expr.Let at name t a b) l rest =
-    node l ∷ number at ∷ reserved word.Let ∷ lower_written name (sym symbol.Colon ∷ ty_written t (sym symbol.Equals
-    ∷ a (suc l) (reserved word.In ∷ b (suc l) rest)))
+    node l ∷ number at ∷ word_token word.Let ∷ lower_written name (sym symbol.Colon ∷ ty_written t (sym symbol.Equals
+    ∷ a (suc l) (word_token word.In ∷ b (suc l) rest)))
 expr_step (expr.Match at e cs) l rest =
-    node l ∷ number at ∷ reserved word.Match ∷ e (suc l) (sym symbol.OpenBrace
+    node l ∷ number at ∷ word_token word.Match ∷ e (suc l) (sym symbol.OpenBrace
     ∷ some_with comma (at_level (suc l) cs) (sym symbol.CloseBrace ∷ rest))
 
 -- a clause of a match, given how its body is written; its pattern and its body are both at level l
@@ -198,7 +198,7 @@ abbrev pub kind_step : PartKind-F Deep Deep Deep → Deep
 kind_step (item.Const c) l rest = sym symbol.Equals ∷ num c ∷ rest
 kind_step (item.Whole path) l rest = path_written path rest
 kind_step (item.Slice path first bits) l rest = path_written path (range_written first bits rest)
-kind_step (item.PartKind::Word path j) l rest = path_written path (reserved word.Word ∷ num j ∷ rest)
+kind_step (item.PartKind::Word path j) l rest = path_written path (word_token word.Word ∷ num j ∷ rest)
 kind_step (item.Pointer align items) l rest =
     node l ∷ sym symbol.Arrow ∷ num align ∷ sym symbol.OpenBrace
     ∷ any_with comma (at_level (suc l) items) (sym symbol.CloseBrace ∷ rest)
@@ -211,9 +211,9 @@ part_step p l rest = range_written p.o p.l (p.kind l rest)
 -- field
 abbrev pub lay_item_step : LayItem-F Deep Deep Deep → Deep
 lay_item_step (item.LayItem::Word bits parts) l rest =
-    reserved word.Word ∷ num bits ∷ sym symbol.OpenBrace
+    word_token word.Word ∷ num bits ∷ sym symbol.OpenBrace
     ∷ any_with comma (at_level l parts) (sym symbol.CloseBrace ∷ rest)
-lay_item_step (item.Inline path) l rest = reserved word.Inline ∷ path_written path rest
+lay_item_step (item.Inline path) l rest = word_token word.Inline ∷ path_written path rest
 
 -- an item of a leaf or a block: a word, or the words of a field; the pointer parts in it are at this level
 abbrev pub lay_item_written : LayItem → Deep
@@ -254,13 +254,13 @@ prov_written p l rest = root_checked (out-PatTree p) (below_written p l rest)
 -- the `else` of a split, given how what stands under it is written; nothing where there is none
 abbrev pub else_written : Option Deep → Deep
 else_written None l rest = rest
-else_written (Some w) l rest = reserved word.Else ∷ sym symbol.FatArrow ∷ w l rest
+else_written (Some w) l rest = word_token word.Else ∷ sym symbol.FatArrow ∷ w l rest
 
 -- a layout's tree at level l, given how the arms and `else` of a split are written. They are one level deeper, and so
 -- are the provenance and the pointer parts of a leaf
 abbrev pub split_step : SplitTree-F Deep Deep → Deep
 split_step (split.Split loc arms other) l rest =
-    node l ∷ reserved word.Split ∷ loc_written loc (sym symbol.OpenBrace
+    node l ∷ word_token word.Split ∷ loc_written loc (sym symbol.OpenBrace
     ∷ each (at_level (suc l) arms) (else_written other (suc l) (sym symbol.CloseBrace ∷ rest)))
 split_step (split.Leaf at prov items) l rest =
     node l ∷ number at ∷ prov_written prov (suc l) (sym symbol.Colon ∷ sym symbol.OpenBrace
@@ -287,7 +287,7 @@ con_written c rest = upper_written c.name (fields_written (map ty_written c.fiel
 -- a type's declaration, as `type T = A | B(u8);`; a flaw where it has no constructor
 abbrev pub type_written : TypeTree → Writing
 type_written t rest =
-    reserved word.Type ∷ upper_written t.name
+    word_token word.Type ∷ upper_written t.name
     (sym symbol.Equals ∷ some_with bar (map con_written t.cons) (sym symbol.Semicolon ∷ rest))
 
 -- the width in bits of one word in a layout's shape
@@ -297,7 +297,7 @@ width_written bits rest = num bits ∷ rest
 -- a layout, as `layout T <64> = ..;`, with the number of the word `layout`; a flaw where its shape is empty
 abbrev pub layout_written : LayoutTree → Writing
 layout_written t rest =
-    number t.at ∷ reserved word.Layout ∷ upper_written t.ty
+    number t.at ∷ word_token word.Layout ∷ upper_written t.ty
     (sym symbol.Less ∷ some_with comma (map width_written t.shape)
     (sym symbol.Greater ∷ sym symbol.Equals ∷ split_written t.tree 1 (sym symbol.Semicolon ∷ rest)))
 
@@ -308,7 +308,7 @@ param_written p rest = number p.at ∷ lower_written p.var (sym symbol.Colon ∷
 -- a function's declaration, as `fun f(x: T): U = e;`, with its body at level 1
 abbrev pub fun_written : FunTree → Writing
 fun_written f rest =
-    reserved word.Fun ∷ lower_written f.name (sym symbol.OpenParen ∷ any_with comma (map param_written f.params)
+    word_token word.Fun ∷ lower_written f.name (sym symbol.OpenParen ∷ any_with comma (map param_written f.params)
     (sym symbol.CloseParen ∷ sym symbol.Colon ∷ ty_written f.result (sym symbol.Equals
     ∷ expr_written f.body 1 (sym symbol.Semicolon ∷ rest))))
 
@@ -323,7 +323,8 @@ item_written (top.Types t) rest = type_written t rest
 item_written (top.Layouts t) rest = layout_written t rest
 item_written (top.Funs f) rest = fun_written f rest
 item_written (top.Derived name a) rest =
-    reserved word.Layout ∷ upper_written name (sym symbol.Equals ∷ reserved (auto_word a) ∷ sym symbol.Semicolon ∷ rest)
+    word_token word.Layout
+    ∷ upper_written name (sym symbol.Equals ∷ word_token (auto_word a) ∷ sym symbol.Semicolon ∷ rest)
 
 -- all that a file is written as: its items one after the other
 abbrev pub file_written : FileTree → List Written

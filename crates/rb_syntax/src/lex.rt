@@ -3,7 +3,7 @@
 ghost use Rattle.std.specs.Prelude.{◌≡◌};
 ghost use Rattle.rb_syntax.specs.declared.lex.LexFault.TheVariants.{Memory};
 ghost use Rattle.rb_syntax.specs.Cutting.{LexesTo};
-ghost use Rattle.rb_syntax.specs.Lexing.{lexed, IsAnswer};
+ghost use Rattle.rb_syntax.specs.Lexing.{lexing_of, IsAnswer};
 
 use crate::piece::{Piece, next_piece};
 use crate::token::Placed;
@@ -16,7 +16,7 @@ pub enum LexFault {
     /// The first byte at which no token, blank or comment begins or goes on.
     #[error("bad byte at byte {0}")]
     BadByte(usize),
-    /// The first byte of a number of 2^64 or more.
+    /// Where a number begins that 64 bits don't hold.
     #[error("number over 64 bits at byte {0}")]
     NumberTooWide(usize),
     /// Want of memory.
@@ -44,13 +44,13 @@ impl<T: Drop> From<AllocFailed<T>> for LexFault {
 ///
 /// # Errors
 ///
-/// `BadByte` at the first byte at which no token, blank or comment begins or goes on, or `NumberTooWide` at
-/// the first byte of a number of 2^64 or more, whichever stands first. `Memory` for want of memory,
+/// `BadByte` at the first byte at which no token, blank or comment begins or goes on, or `NumberTooWide` where
+/// a number that 64 bits don't hold begins, whichever stands first. `Memory` for want of memory,
 /// which says nothing of the text.
 pub fn lex(alloc: Global, bytes: &[u8]) -> Result<Vec<Placed>, LexFault>
-    ensures answer { IsAnswer (lexed bytes.now) result }
+    ensures answer { IsAnswer (lexing_of bytes.now) result }
     // the pieces are the text, and none could be longer
-    ensures right { LexesTo bytes.now (lexed bytes.now) }
+    ensures right { LexesTo bytes.now (lexing_of bytes.now) }
 {
     tokens_of(alloc, bytes)
 }
@@ -58,7 +58,7 @@ pub fn lex(alloc: Global, bytes: &[u8]) -> Result<Vec<Placed>, LexFault>
 // The tokens of a text, each with the byte at which it begins, or the first fault. Each turn
 // reads one piece, and a piece has a byte, so as many turns as there are bytes are enough.
 fn tokens_of(alloc: Global, bytes: &[u8]) -> Result<Vec<Placed>, LexFault>
-    ensures { IsAnswer (lexed bytes.now) result }
+    ensures { IsAnswer (lexing_of bytes.now) result }
 {
     let mut tokens = Vec::new(alloc);
     let mut at = 0usize;

@@ -2,11 +2,11 @@
 use Rattle.std.proofs.Common.{◌≡◌, ℕ, ◌<◌, ◌^◌, List, [], ◌∷◌, ◌++◌, length, take, nat_eq, nat_lt, Bool, true, false, ◌&&◌, ◌==◌, ◌⊎◌, inl, inr, if◌then◌else◌, codes, Option, Some, None, refl, sym, ◌∙◌, ap, subst, arith, append_assoc, append-nil, eqb-true}
 use Rattle.std.specs.Fmt.{decimal}
 use Rattle.std.specs.Cmp.Lexicographic.{pointwise, same_text}
-use Rattle.rb_target.proofs.Texts.{spaced-push, body_text-push}
+use Rattle.rb_target.proofs.Texts.{spaced_text-push, body_text-push}
 use Rattle.rb_target.proofs.FieldLemmas.{number_told, key_told, word_told_in, both-left, both-right}
 use Rattle.rb_target.proofs.LineLemmas.{IsSpelledBy, spelled_fit, IsGoodLine, first_good, word_follows, line_spells}
 use Rattle.rb_target.proofs.RunLemmas.{pushed, counts}
-use Rattle.rb_target.specs.Text.{line_word_text, key_text, key_of, spaced, instr_text, head_text, body_text, fun_text}
+use Rattle.rb_target.specs.Text.{line_word_text, key_text, key_of, spaced_text, instr_text, head_text, body_text, fun_text}
 use Rattle.rb_target.specs.Validity.{IsLower}
 use Rattle.rb_target.proofs.SpelledForms.{IsFit, AreFit, IsFitFun}
 use Rattle.rb_target.specs.inner.Fields.{number_of_word, is_open, word_in, key_of_word, next_field, may_end, first_line, after_word, instruction_of}
@@ -32,7 +32,7 @@ opened f = head_text f ++ body_text f.body
 
 -- up to the byte behind a word of an instruction's line
 abbrev pub line_front : CodeFun → Line → List ℕ
-line_front f l = opened f ++ (key_text l.key ++ spaced l.words)
+line_front f l = opened f ++ (key_text l.key ++ spaced_text l.words)
 
 -- how many counts stand before a turn's
 abbrev counts_before : Turn → ℕ
@@ -42,7 +42,7 @@ counts_before Third = 2
 
 -- up to the byte behind a word of a function's first line
 abbrev pub head_front : CodeFun → Turn → List ℕ
-head_front f t = codes "fun " ++ (f.name ++ spaced (take (counts_before t) (counts f)))
+head_front f t = codes "fun " ++ (f.name ++ spaced_text (take (counts_before t) (counts f)))
 
 abbrev pub spot_text : Spot → List ℕ
 spot_text Outside = []
@@ -93,9 +93,9 @@ opened_more f i = ap (λ t. head_text f ++ t) (body_text-push f.body i) ∙ sym 
 -- a whole line with its instruction
 line_whole : (f : CodeFun) (l : Line) (s : IsSpelledBy l.key l.words) → opened (pushed f s.instr) ≡ line_front f l ++ 10 ∷ []
 line_whole f l s =
-    opened_more f s.instr ∙ ap (λ ws. opened f ++ ((key_text (key_of s.instr) ++ spaced ws) ++ 10 ∷ [])) s.words
-    ∙ ap (λ k. opened f ++ ((key_text k ++ spaced l.words) ++ 10 ∷ [])) s.key
-    ∙ sym (append_assoc (opened f) (key_text l.key ++ spaced l.words) (10 ∷ []))
+    opened_more f s.instr ∙ ap (λ ws. opened f ++ ((key_text (key_of s.instr) ++ spaced_text ws) ++ 10 ∷ [])) s.words
+    ∙ ap (λ k. opened f ++ ((key_text k ++ spaced_text l.words) ++ 10 ∷ [])) s.key
+    ∙ sym (append_assoc (opened f) (key_text l.key ++ spaced_text l.words) (10 ∷ []))
 
 -- what the end of a line leaves
 line_closed : (f : CodeFun) (l : Line) (g : ℕ) → IsFitFun f → IsGoodLine l → 10 ≡ g → may_end l.rest ≡ true → Leaves (line_front f l ++ g ∷ []) (To (Starting (pushed f (instruction_of l.key l.words))))
@@ -147,9 +147,9 @@ first_leaves f w g h =
 -- one word more of a line
 pub word_front_more : (f : CodeFun) (l : Line) (x : LineWord) → line_front f (after_word l x) ≡ (line_front f l ++ 32 ∷ []) ++ line_word_text x
 word_front_more f l x =
-    ap (λ t. opened f ++ (key_text l.key ++ t)) (spaced-push l.words x)
-    ∙ ap (λ t. opened f ++ t) (sym (append_assoc (key_text l.key) (spaced l.words) (32 ∷ line_word_text x)))
-    ∙ sym (append_assoc (opened f) (key_text l.key ++ spaced l.words) (32 ∷ line_word_text x))
+    ap (λ t. opened f ++ (key_text l.key ++ t)) (spaced_text-push l.words x)
+    ∙ ap (λ t. opened f ++ t) (sym (append_assoc (key_text l.key) (spaced_text l.words) (32 ∷ line_word_text x)))
+    ∙ sym (append_assoc (opened f) (key_text l.key ++ spaced_text l.words) (32 ∷ line_word_text x))
     ∙ sym (append_assoc (line_front f l) (32 ∷ []) (line_word_text x))
 
 within_leaves : (f : CodeFun) (l : Line) (w : List ℕ) (g : ℕ) (o : Option LineWord) → word_in (next_field l.rest) w ≡ o → IsGoodWithin f l
@@ -162,21 +162,21 @@ within_leaves f l w g (Some x) e h =
 
 -- one count more
 count_front : (f : CodeFun) (us : List LineWord) (n g : ℕ)
-    → (codes "fun " ++ (f.name ++ spaced (us ++ Number n ∷ []))) ++ g ∷ [] ≡ ((codes "fun " ++ (f.name ++ spaced us)) ++ 32 ∷ []) ++ (decimal n ++ g ∷ [])
+    → (codes "fun " ++ (f.name ++ spaced_text (us ++ Number n ∷ []))) ++ g ∷ [] ≡ ((codes "fun " ++ (f.name ++ spaced_text us)) ++ 32 ∷ []) ++ (decimal n ++ g ∷ [])
 count_front f us n g =
-    let front : List ℕ = codes "fun " ++ (f.name ++ spaced us) in
+    let front : List ℕ = codes "fun " ++ (f.name ++ spaced_text us) in
     ap (λ t. t ++ g ∷ []) (
-    ap (λ t. codes "fun " ++ (f.name ++ t)) (spaced-push us (Number n))
-    ∙ ap (λ t. codes "fun " ++ t) (sym (append_assoc f.name (spaced us) (32 ∷ decimal n)))
-    ∙ sym (append_assoc (codes "fun ") (f.name ++ spaced us) (32 ∷ decimal n))
+    ap (λ t. codes "fun " ++ (f.name ++ t)) (spaced_text-push us (Number n))
+    ∙ ap (λ t. codes "fun " ++ t) (sym (append_assoc f.name (spaced_text us) (32 ∷ decimal n)))
+    ∙ sym (append_assoc (codes "fun ") (f.name ++ spaced_text us) (32 ∷ decimal n))
     ∙ sym (append_assoc front (32 ∷ []) (decimal n)))
     ∙ append_assoc (front ++ 32 ∷ []) (decimal n) (g ∷ [])
 
 -- the first line whole
-pub head_whole : (f : CodeFun) → f.body ≡ [] → opened f ≡ (codes "fun " ++ (f.name ++ spaced (counts f))) ++ 10 ∷ []
+pub head_whole : (f : CodeFun) → f.body ≡ [] → opened f ≡ (codes "fun " ++ (f.name ++ spaced_text (counts f))) ++ 10 ∷ []
 head_whole f none =
     ap (λ b. head_text f ++ body_text b) none ∙ append-nil (head_text f)
-    ∙ sym (append_assoc (codes "fun ") (f.name ++ spaced (counts f)) (10 ∷ []))
+    ∙ sym (append_assoc (codes "fun ") (f.name ++ spaced_text (counts f)) (10 ∷ []))
 
 heading_leaves : (f : CodeFun) (t : Turn) (w : List ℕ) (g : ℕ) (o : Option ℕ) → number_of_word w ≡ o → IsGoodHead f t
     → Leaves ((head_front f t ++ 32 ∷ []) ++ (w ++ g ∷ [])) (headed f t g o)
@@ -184,14 +184,14 @@ heading_leaves f t w g None e h = tt
 heading_leaves f First w g (Some n) e h =
     let told = number_told w n e in
     if_leaves ((head_front f First ++ 32 ∷ []) ++ (w ++ g ∷ [])) (g == 32) (To (Heading (record f { params = n }) Second)) Refused (λ k. (
-      ap (λ b. (codes "fun " ++ (f.name ++ spaced (Number n ∷ []))) ++ b ∷ []) (sym (eqb-true g 32 k)) ∙ count_front f [] n g
+      ap (λ b. (codes "fun " ++ (f.name ++ spaced_text (Number n ∷ []))) ++ b ∷ []) (sym (eqb-true g 32 k)) ∙ count_front f [] n g
           ∙ ap (λ v. (head_front f First ++ 32 ∷ []) ++ (v ++ g ∷ [])) (sym told.0),
       record { fun = record { named = h.fun.named; counts = (told.1, h.fun.counts.1, h.fun.counts.2); body = h.fun.body }; empty = h.empty },
     )) tt
 heading_leaves f Second w g (Some n) e h =
     let told = number_told w n e in
     if_leaves ((head_front f Second ++ 32 ∷ []) ++ (w ++ g ∷ [])) (g == 32) (To (Heading (record f { results = n }) Third)) Refused (λ k. (
-      ap (λ b. (codes "fun " ++ (f.name ++ spaced (Number f.params ∷ Number n ∷ []))) ++ b ∷ []) (sym (eqb-true g 32 k)) ∙ count_front f (Number f.params ∷ []) n g
+      ap (λ b. (codes "fun " ++ (f.name ++ spaced_text (Number f.params ∷ Number n ∷ []))) ++ b ∷ []) (sym (eqb-true g 32 k)) ∙ count_front f (Number f.params ∷ []) n g
           ∙ ap (λ v. (head_front f Second ++ 32 ∷ []) ++ (v ++ g ∷ [])) (sym told.0),
       record { fun = record { named = h.fun.named; counts = (h.fun.counts.0, told.1, h.fun.counts.2); body = h.fun.body }; empty = h.empty },
     )) tt
@@ -200,7 +200,7 @@ heading_leaves f Third w g (Some n) e h =
     let all : CodeFun = record f { slots = n } in
     if_leaves ((head_front f Third ++ 32 ∷ []) ++ (w ++ g ∷ [])) (g == 10) (To (Starting (record f { slots = n }))) Refused (λ k. (
       head_whole all h.empty
-          ∙ ap (λ b. (codes "fun " ++ (f.name ++ spaced (Number f.params ∷ Number f.results ∷ Number n ∷ []))) ++ b ∷ []) (sym (eqb-true g 10 k))
+          ∙ ap (λ b. (codes "fun " ++ (f.name ++ spaced_text (Number f.params ∷ Number f.results ∷ Number n ∷ []))) ++ b ∷ []) (sym (eqb-true g 10 k))
           ∙ count_front f (Number f.params ∷ Number f.results ∷ []) n g
           ∙ ap (λ v. (head_front f Third ++ 32 ∷ []) ++ (v ++ g ∷ [])) (sym told.0),
       record { named = h.fun.named; counts = (h.fun.counts.0, h.fun.counts.1, told.1); body = h.fun.body },

@@ -7,7 +7,7 @@ use Rattle.rb_core.specs.WellNumbered.{is_small, is_word_byte}
 use Rattle.rb_target.proofs.FieldLemmas.{in_open, number_decimal, word_in_text, Steps, decimal_steps, word_steps}
 use Rattle.rb_target.proofs.LineLemmas.{whole, whole_next, Reads, reads}
 use Rattle.rb_target.proofs.Names.{from_between, from_name_byte}
-use Rattle.rb_target.specs.Text.{line_word_text, key_text, key_of, line_words, spaced, line, instr_text, head_text, body_text, fun_text, code_text}
+use Rattle.rb_target.specs.Text.{line_word_text, key_text, key_of, line_words, spaced_text, line, instr_text, head_text, body_text, fun_text, code_text}
 use Rattle.rb_target.specs.Validity.{IsSmall, IsNameByte, IsLower}
 use Rattle.rb_target.proofs.SpelledForms.{AreShort, IsFit, AreFit, IsFitFun, AreFitFuns}
 use Rattle.rb_target.specs.inner.Fields.{number_of_word, is_open, next_field, may_end, first_line, after_word, instruction_of}
@@ -60,11 +60,11 @@ gap_before (w ∷ ws) = 32
 
 abbrev behind_gap : List LineWord → List ℕ → List ℕ
 behind_gap [] rest = rest
-behind_gap (w ∷ ws) rest = line_word_text w ++ (spaced ws ++ 10 ∷ rest)
+behind_gap (w ∷ ws) rest = line_word_text w ++ (spaced_text ws ++ 10 ∷ rest)
 
-gap_split : (ws : List LineWord) (rest : List ℕ) → spaced ws ++ 10 ∷ rest ≡ gap_before ws ∷ behind_gap ws rest
+gap_split : (ws : List LineWord) (rest : List ℕ) → spaced_text ws ++ 10 ∷ rest ≡ gap_before ws ∷ behind_gap ws rest
 gap_split [] rest = refl
-gap_split (w ∷ ws) rest = ap (λ t. 32 ∷ t) (append_assoc (line_word_text w) (spaced ws) (10 ∷ rest))
+gap_split (w ∷ ws) rest = ap (λ t. 32 ∷ t) (append_assoc (line_word_text w) (spaced_text ws) (10 ∷ rest))
 
 gap_is : (ws : List LineWord) → is_gap (gap_before ws) ≡ true
 gap_is [] = refl
@@ -98,7 +98,7 @@ line_run funs f l (w ∷ ws) j rest h is short =
 -- a line's words and end, with what follows, from its first word on
 line_split : (first : List ℕ) (ws : List LineWord) (rest : List ℕ) → line first ws ++ rest ≡ first ++ (gap_before ws ∷ behind_gap ws rest)
 line_split first ws rest =
-    append_assoc (first ++ spaced ws) (10 ∷ []) rest ∙ append_assoc first (spaced ws) (10 ∷ rest) ∙ ap (λ t. first ++ t) (gap_split ws rest)
+    append_assoc (first ++ spaced_text ws) (10 ∷ []) rest ∙ append_assoc first (spaced_text ws) (10 ∷ rest) ∙ ap (λ t. first ++ t) (gap_split ws rest)
 
 abbrev Runs : List CodeFun → CodeFun → Instr → List ℕ → Type 0
 Runs funs f j rest = run (Some (at_spot funs (Starting f) [])) (instr_text j ++ rest) ≡ run (Some (at_spot funs (Starting (pushed f j)) [])) rest

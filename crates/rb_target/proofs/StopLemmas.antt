@@ -13,7 +13,7 @@ use Rattle.rb_target.proofs.FieldLemmas.{word_in_text, any_told, IsWordFront, wo
 use Rattle.rb_target.proofs.LineLemmas.{short-append, IsSpelledBy, spelled_fit, IsGoodLine, word_follows, ones_to_come, Completes, completes, IsNext, next_word, closed_ends}
 use Rattle.rb_target.proofs.RunLemmas.{at_spot, pushed, counts, run_none, run_append, reads_code, lower_some}
 use Rattle.rb_target.proofs.FrontLemmas.{opened, line_front, head_front, spot_text, IsGoodHead, IsGoodWithin, IsGood, Leaves, pushed_spelled, opened_more, word_front_more, head_whole, IsNamed, step_leaves, zero_small}
-use Rattle.rb_target.specs.Text.{line_word_text, key_text, key_of, spaced, line, fun_text, code_text}
+use Rattle.rb_target.specs.Text.{line_word_text, key_text, key_of, spaced_text, line, fun_text, code_text}
 use Rattle.rb_target.specs.Validity.{IsNameByte, IsLower}
 use Rattle.rb_target.specs.Spelled.{AreSpelled}
 use Rattle.rb_target.specs.Stopping.{IsCode, StopsAt, IsTextOf}
@@ -45,9 +45,9 @@ record Goes (t : List ℕ) : Type 0 where
 abbrev ender : List ℕ
 ender = line (codes "end") []
 
-spaced-append : (us vs : List LineWord) → spaced (us ++ vs) ≡ spaced us ++ spaced vs
-spaced-append [] vs = refl
-spaced-append (u ∷ us) vs = ap (λ t. 32 ∷ line_word_text u ++ t) (spaced-append us vs) ∙ sym (append_assoc (32 ∷ line_word_text u) (spaced us) (spaced vs))
+spaced_text-append : (us vs : List LineWord) → spaced_text (us ++ vs) ≡ spaced_text us ++ spaced_text vs
+spaced_text-append [] vs = refl
+spaced_text-append (u ∷ us) vs = ap (λ t. 32 ∷ line_word_text u ++ t) (spaced_text-append us vs) ∙ sym (append_assoc (32 ∷ line_word_text u) (spaced_text us) (spaced_text vs))
 
 -- a line's words and end, apart
 line_parts : (a k s m e : List ℕ) → a ++ ((k ++ (s ++ m)) ++ e) ≡ (a ++ (k ++ s)) ++ (m ++ e)
@@ -58,16 +58,16 @@ line_goes : (f : CodeFun) (l : Line) → IsFitFun f → IsGoodLine l → Goes (l
 line_goes f l h good =
     let c : Completes l = completes l good in
     let s : IsSpelledBy l.key (l.words ++ c.more) = c.spelled in
-    let whole : opened (pushed f s.instr) ≡ line_front f l ++ (spaced c.more ++ 10 ∷ []) =
-    opened_more f s.instr ∙ ap (λ ws. opened f ++ ((key_text (key_of s.instr) ++ spaced ws) ++ 10 ∷ [])) s.words
-    ∙ ap (λ t. opened f ++ ((key_text (key_of s.instr) ++ t) ++ 10 ∷ [])) (spaced-append l.words c.more)
-    ∙ ap (λ k. opened f ++ ((key_text k ++ (spaced l.words ++ spaced c.more)) ++ 10 ∷ [])) s.key
-    ∙ line_parts (opened f) (key_text l.key) (spaced l.words) (spaced c.more) (10 ∷ []) in
+    let whole : opened (pushed f s.instr) ≡ line_front f l ++ (spaced_text c.more ++ 10 ∷ []) =
+    opened_more f s.instr ∙ ap (λ ws. opened f ++ ((key_text (key_of s.instr) ++ spaced_text ws) ++ 10 ∷ [])) s.words
+    ∙ ap (λ t. opened f ++ ((key_text (key_of s.instr) ++ t) ++ 10 ∷ [])) (spaced_text-append l.words c.more)
+    ∙ ap (λ k. opened f ++ ((key_text k ++ (spaced_text l.words ++ spaced_text c.more)) ++ 10 ∷ [])) s.key
+    ∙ line_parts (opened f) (key_text l.key) (spaced_text l.words) (spaced_text c.more) (10 ∷ []) in
     record {
       fun = pushed f s.instr;
-      more = (spaced c.more ++ 10 ∷ []) ++ ender;
+      more = (spaced_text c.more ++ 10 ∷ []) ++ ender;
       spelled = pushed_spelled f s.instr h (spelled_fit l.key (l.words ++ c.more) s (short-append l.words c.more good.short c.short));
-      is = sym (append_assoc (line_front f l) (spaced c.more ++ 10 ∷ []) ender) ∙ ap (λ t. t ++ ender) (sym whole);
+      is = sym (append_assoc (line_front f l) (spaced_text c.more ++ 10 ∷ []) ender) ∙ ap (λ t. t ++ ender) (sym whole);
     }
 
 -- what a longer text goes on with
@@ -86,13 +86,13 @@ head_parts a b u r e =
     ∙ append_assoc (a ++ (b ++ u)) (32 ∷ r) e ∙ sym (append_assoc (a ++ (b ++ u)) (32 ∷ []) (r ++ e))
 
 head_goes : (f : CodeFun) (us : List LineWord) (v : LineWord) (vs : List LineWord) → IsFitFun f → f.body ≡ [] → us ++ v ∷ vs ≡ counts f
-    → Goes ((codes "fun " ++ (f.name ++ spaced us)) ++ 32 ∷ [])
+    → Goes ((codes "fun " ++ (f.name ++ spaced_text us)) ++ 32 ∷ [])
 head_goes f us v vs h none e =
-    let front : List ℕ = (codes "fun " ++ (f.name ++ spaced us)) ++ 32 ∷ [] in
-    let rest : List ℕ = line_word_text v ++ spaced vs in
+    let front : List ℕ = (codes "fun " ++ (f.name ++ spaced_text us)) ++ 32 ∷ [] in
+    let rest : List ℕ = line_word_text v ++ spaced_text vs in
     let all : opened f ≡ front ++ (rest ++ 10 ∷ []) =
-    head_whole f none ∙ ap (λ t. (codes "fun " ++ (f.name ++ t)) ++ 10 ∷ []) (ap spaced (sym e) ∙ spaced-append us (v ∷ vs))
-    ∙ head_parts (codes "fun ") f.name (spaced us) rest (10 ∷ []) in
+    head_whole f none ∙ ap (λ t. (codes "fun " ++ (f.name ++ t)) ++ 10 ∷ []) (ap spaced_text (sym e) ∙ spaced_text-append us (v ∷ vs))
+    ∙ head_parts (codes "fun ") f.name (spaced_text us) rest (10 ∷ []) in
     record { fun = f; more = (rest ++ 10 ∷ []) ++ ender; spelled = h; is = sym (append_assoc front (rest ++ 10 ∷ []) ender) ∙ ap (λ t. t ++ ender) (sym all) }
 
 heading_goes : (f : CodeFun) (t : Turn) → IsGoodHead f t → Goes (head_front f t ++ 32 ∷ [])

@@ -1,7 +1,7 @@
 -- Texts grow at their end.
 use Rattle.std.proofs.Common.{◌≡◌, ℕ, ◌+◌, ◌<◌, List, [], ◌∷◌, ◌++◌, length, take, get_or, refl, sym, ap, ◌∙◌, append_assoc, append-nil}
 use Rattle.std.proofs.lemmas.List.{take_more}
-use Rattle.rb_target.specs.Text.{line_word_text, pairs, spaced, instr_text, body_text, fun_text, code_text}
+use Rattle.rb_target.specs.Text.{line_word_text, pairs, spaced_text, instr_text, body_text, fun_text, code_text}
 use Rattle.rb_target.specs.declared.instr.SwitchArm.{SwitchArm}
 use Rattle.rb_target.specs.declared.instr.Instr.{Instr}
 use Rattle.rb_target.specs.declared.word.LineWord.{LineWord}
@@ -13,12 +13,12 @@ pub appended : {X : Type 0} (first done all : List X) (x : List X) (before after
 appended first done all x before after e0 e1 e2 =
     e1 ∙ ap (λ t. t ++ x) e0 ∙ append_assoc first done x ∙ ap (λ t. first ++ t) (sym e2)
 
-pub spaced-push : (ws : List LineWord) (w : LineWord) → spaced (ws ++ w ∷ []) ≡ spaced ws ++ 32 ∷ line_word_text w
-spaced-push [] w = ap (λ t. 32 ∷ t) (append-nil (line_word_text w))
-spaced-push (x ∷ ws) w = ap (λ t. 32 ∷ line_word_text x ++ t) (spaced-push ws w) ∙ sym (append_assoc (32 ∷ line_word_text x) (spaced ws) (32 ∷ line_word_text w))
+pub spaced_text-push : (ws : List LineWord) (w : LineWord) → spaced_text (ws ++ w ∷ []) ≡ spaced_text ws ++ 32 ∷ line_word_text w
+spaced_text-push [] w = ap (λ t. 32 ∷ t) (append-nil (line_word_text w))
+spaced_text-push (x ∷ ws) w = ap (λ t. 32 ∷ line_word_text x ++ t) (spaced_text-push ws w) ∙ sym (append_assoc (32 ∷ line_word_text x) (spaced_text ws) (32 ∷ line_word_text w))
 
-pub spaced_more : (ws : List LineWord) (k : ℕ) (d : LineWord) → k < length ws → spaced (take (k + 1) ws) ≡ spaced (take k ws) ++ 32 ∷ line_word_text (get_or ws k d)
-spaced_more ws k d lt = ap spaced (take_more ws k d lt) ∙ spaced-push (take k ws) (get_or ws k d)
+pub spaced_text_more : (ws : List LineWord) (k : ℕ) (d : LineWord) → k < length ws → spaced_text (take (k + 1) ws) ≡ spaced_text (take k ws) ++ 32 ∷ line_word_text (get_or ws k d)
+spaced_text_more ws k d lt = ap spaced_text (take_more ws k d lt) ∙ spaced_text-push (take k ws) (get_or ws k d)
 
 pub pairs-push : (arms : List SwitchArm) (arm : SwitchArm) → pairs (arms ++ arm ∷ []) ≡ pairs arms ++ Number arm.number ∷ Number arm.target ∷ []
 pairs-push [] arm = refl

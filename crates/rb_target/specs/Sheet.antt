@@ -2,7 +2,8 @@
 -- one, and in which targets are set later. A hole is the place of a target that is to be set: the number of an
 -- instruction, and the number of an arm of a switch, or no arm for the target of a jump or the other target of a
 -- switch; its `leaf` says nothing here.
-use Rattle.std.specs.Prelude.{◌≡◌, ℕ, zero, suc, ◌+◌, ◌^◌, ◌<◌, ◌≤◌, List, [], ◌∷◌, ◌++◌, length, Option, Some, None, slice_get, slice_set, Contains}
+use Rattle.std.specs.Prelude.{◌≡◌, ℕ, zero, suc, ◌+◌, ◌*◌, ◌^◌, ◌<◌, ◌≤◌, List, [], ◌∷◌, ◌++◌, length, Option, Some, None, slice_get, slice_set, Contains}
+use Rattle.rb_core.specs.Limits.{most_parameters, most_words}
 use Rattle.rb_target.specs.Validity.{dests}
 use Rattle.rb_target.specs.declared.instr.SwitchArm.{SwitchArm}
 use Rattle.rb_target.specs.declared.instr.Instr.{Instr}
@@ -14,6 +15,11 @@ use Rattle.rb_target.specs.declared.code.CodeFun.{CodeFun}
 abbrev pub most_instrs : ℕ
 most_instrs = 2 ^ 24
 
+-- the most parameters that a body may have: a word each of the most words for the most parameters of a program's
+-- function
+abbrev pub most_param_words : ℕ
+most_param_words = most_parameters * most_words
+
 -- a body that grows: its instructions so far, the number of its parameters, and the number of its slots, the first of
 -- which are the parameters'
 pub record Sheet : Type 0 where
@@ -21,10 +27,10 @@ pub record Sheet : Type 0 where
   pub params : ℕ
   pub slots : ℕ
 
--- what holds of every sheet: at most 256 parameters, slots that a word of 64 bits can count, and no more instructions
--- than a body may have
+-- what holds of every sheet: no more parameters than a body may have, slots that a word of 64 bits can count, and no
+-- more instructions than a body may have
 pub record SheetIsKept (params slots : ℕ) (code : List Instr) : Type 0 where
-  pub few : params ≤ 256
+  pub few : params ≤ most_param_words
   pub small : slots < 2 ^ 64
   pub short : length code ≤ most_instrs
 

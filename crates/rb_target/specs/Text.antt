@@ -96,13 +96,13 @@ line_words (Call f ds froms) = Number f ∷ numbers ds ++ Of ∷ numbers froms
 line_words (Return froms) = numbers froms
 
 -- the bytes of some words, each after a blank; none for no words
-abbrev pub spaced : List LineWord → List ℕ
-spaced [] = []
-spaced (w ∷ ws) = 32 ∷ line_word_text w ++ spaced ws
+abbrev pub spaced_text : List LineWord → List ℕ
+spaced_text [] = []
+spaced_text (w ∷ ws) = 32 ∷ line_word_text w ++ spaced_text ws
 
 -- a line, from its first word's bytes and its other words
 abbrev pub line : List ℕ → List LineWord → List ℕ
-line first ws = first ++ spaced ws ++ 10 ∷ []
+line first ws = first ++ spaced_text ws ++ 10 ∷ []
 
 -- an instruction's line
 abbrev pub instr_text : Instr → List ℕ

@@ -5,23 +5,27 @@
 -- Offsets, sizes and alignments are bytes, and widths are bits.
 use Rattle.std.specs.Prelude.{◌≡◌, ℕ, ◌+◌, ◌-◌, ◌^◌, ◌<◌, ◌≤◌, ◌⊎◌, List, [], ◌∷◌, length, sum_by, Option, Some, None, slice_get, All, IfSome}
 use Rattle.rb_bits.specs.Words.{IsRange}
-use Rattle.rb_bytes.specs.Memory.{IsWidth, IsSize, IsAlign}
+use Rattle.rb_bytes.specs.Memory.{IsWidth, IsSize, IsAlign, most_block}
 use Rattle.rb_target.specs.declared.instr.SwitchArm.{SwitchArm}
 use Rattle.rb_target.specs.declared.instr.Instr.{Instr}
 use Rattle.rb_target.specs.declared.instr.Instr.TheVariants.{Const, Copy, Alu, Take, Put, Load, Store, Place, Jump, Switch, Call, Return}
 use Rattle.rb_target.specs.declared.code.CodeFun.{CodeFun}
 
+-- the greatest offset of a load or a store: the last byte of a block of the greatest size
+abbrev pub most_offset : ℕ
+most_offset = most_block - 1
+
 -- The numbers of an instruction that are no slots, no targets and no function's are within their bounds: what a
 -- machine word can say for a constant and an arm's number, 1 to 64 bits for an operation, a range of at least one bit
--- within 64 bits, an offset of at most 511, and the widths, sizes and alignments that memory takes.
+-- within 64 bits, an offset of at most `most_offset`, and the widths, sizes and alignments that memory takes.
 abbrev pub IsBounded : Instr → Type 0
 IsBounded (Const d c) = c < 2 ^ 64
 IsBounded (Copy d a) = Unit {0}
 IsBounded (Alu op n d a b) = (1 ≤ n) × (n ≤ 64)
 IsBounded (Take d a o l) = IsRange o l
 IsBounded (Put d a o l) = IsRange o l
-IsBounded (Load d a offset width) = (offset ≤ 511) × IsWidth width
-IsBounded (Store a offset width v) = (offset ≤ 511) × IsWidth width
+IsBounded (Load d a offset width) = (offset ≤ most_offset) × IsWidth width
+IsBounded (Store a offset width v) = (offset ≤ most_offset) × IsWidth width
 IsBounded (Place d size align) = IsSize size × IsAlign align
 IsBounded (Jump t) = Unit {0}
 IsBounded (Switch a other arms) = All (λ (arm : SwitchArm). arm.number < 2 ^ 64) arms

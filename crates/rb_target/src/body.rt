@@ -2,7 +2,7 @@
 //! target is the number of an instruction.
 
 ghost use Rattle.std.specs.Prelude.{◌≡◌, ℕ, ◌+◌, ◌<◌, ◌≤◌, ◌^◌, ◌∷◌, ◌++◌, [], IfOk, OnOk, OnErr, length, Some, Option};
-ghost use Rattle.rb_target.specs.Sheet.{Sheet, most_instrs, pushed, with_slot, patched, finished, retargeted, retargeted_arm, IsHole, IsHoleIn, AreWritten};
+ghost use Rattle.rb_target.specs.Sheet.{Sheet, most_instrs, most_param_words, pushed, with_slot, patched, finished, retargeted, retargeted_arm, IsHole, IsHoleIn, AreWritten};
 ghost use Rattle.rb_target.specs.Validity.{dest_count};
 
 use crate::code::CodeFun;
@@ -51,9 +51,10 @@ impl Model for Body {
 }
 
 impl Body {
-    /// No instruction yet, and a slot for each of at most 256 parameters.
+    /// No instruction yet, and a slot for each parameter, of which `most_param_words` of
+    /// `specs/Sheet.antt` are the most.
     pub fn new(alloc: Global, params: usize) -> Body
-        requires { params ≤ 256 }
+        requires { params ≤ most_param_words }
         ensures { result ≡ record { code = []; params = params; slots = params } }
     {
         Body {

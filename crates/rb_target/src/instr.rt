@@ -2,7 +2,12 @@
 //! the number of an instruction in its body, also from 0. Words have 64 bits. Of a range of bits an
 //! instruction names the first bit, counted from 0, the lowest, and the length.
 
+use rb_bytes::memory::MOST_BLOCK;
 use rb_core::seq::Seq;
+
+/// The greatest offset of a load or a store, the last byte of a block of the greatest size; clauses
+/// cite it as `most_offset` of `specs/Validity.antt`.
+pub(crate) const MOST_OFFSET: u64 = MOST_BLOCK - 1;
 
 /// An operation on two words, the left and the right. All but `Eq` and `Lt` are modulo two to the
 /// power of a number of bits, which the instruction names.

@@ -5,7 +5,7 @@
 
 ghost use Rattle.std.specs.Prelude.{◌≡◌, ◌++◌, ◌∷◌, [], IfOk, List};
 ghost use Rattle.rb_target.specs.Validity.{IsValid};
-ghost use Rattle.rb_target.specs.Text.{line_words, spaced, line_word_text, line, body_text, fun_text, code_text, numbers, pairs};
+ghost use Rattle.rb_target.specs.Text.{line_words, spaced_text, line_word_text, line, body_text, fun_text, code_text, numbers, pairs};
 
 use crate::code::{Code, CodeFun};
 use crate::instr::{Instr, SwitchArm};
@@ -154,7 +154,7 @@ fn push_line(text: &mut Vec<u8>, first: &[u8], words: &[LineWord]) -> Result<(),
 
 // Adds words to a text, each after a blank.
 fn push_words(text: &mut Vec<u8>, words: &[LineWord]) -> Result<(), AllocError>
-    ensures { IfOk result (λ _. text.new.items ≡ text.old.items ++ spaced words.now) }
+    ensures { IfOk result (λ _. text.new.items ≡ text.old.items ++ spaced_text words.now) }
 {
     for word in words {
         push_word(text, *word)?;
@@ -188,8 +188,8 @@ fn push_fun(alloc: Global, text: &mut Vec<u8>, fun: &CodeFun) -> Result<(), Allo
     Ok(())
 }
 
-/// The code text: for each function the line `fun NAME PARAMS RESULTS SLOTS`, its instructions, one
-/// a line, and the line `end`. No other code has the same text.
+/// The text of code. A function begins with the line `fun NAME PARAMS RESULTS SLOTS`; a line for
+/// each instruction follows, and `end` closes it. No other code has the same text.
 ///
 /// # Errors
 ///

@@ -9,7 +9,7 @@ ghost use Rattle.rb_target.specs.declared.instr.SwitchArm.{SwitchArm as SwitchAr
 ghost use Rattle.rb_trim.specs.inner.Moving.{IsFolded, IsReached, moved_arm, end};
 
 use crate::hints::Hints;
-use crate::moving::{Stop, arms_of, end_at, is_reached, known_at, name, other_landing, place_at};
+use crate::moving::{Stop, arms_of, end_at, is_reached, known_at, name, other_landing};
 use rb_core::seq::Seq;
 use rb_target::instr::{Instr, SwitchArm};
 use std::alloc::Global;

@@ -95,7 +95,8 @@ fn trim_funs(alloc: Global, funs: &[CodeFun]) -> Result<Seq<CodeFun>, Stop>
 }
 
 /// Code that does the same with fewer instructions: what is known is not made again, and what is
-/// not read is left out. Where the test of some function fails, all code stays as it is.
+/// not read is left out. A function of which the test fails keeps each of its instructions and is
+/// tested so; where that fails, too, all code stays as it is.
 ///
 /// # Errors
 ///

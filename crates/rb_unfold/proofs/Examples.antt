@@ -87,7 +87,8 @@ swapped_differ e = cc
 moved_differ : unfolded (two_pointers 0 1 (block (number 1 ∷ []) ∷ block (number 2 ∷ number 3 ∷ []) ∷ [])) ≡ unfolded two → ⊥
 moved_differ e = cc
 
--- word 64 { [0:61] -> 8 { word 64 { [0:61] -> 8 { word 64 { [0:64] = 1 } }, [61:3] = 5 } } }: the inner block is numbered first
+-- word 64 { [0:61] -> 8 { word 64 { [0:61] -> 8 { word 64 { [0:64] = 1 } }, [61:3] = 5 } } }:
+-- the inner block is numbered first
 inner_is : unfolded (leaf (word (part 0 61 (Pointer 8 1) ∷ []) ∷ [])
     (block (number 1 ∷ []) ∷ block (word (part 0 61 (Pointer 8 0) ∷ part 61 3 (Const 5) ∷ []) ∷ []) ∷ []))
     ≡ Begins 64 ∷ has 0 61 (Address 8) ∷ Opens ∷ Begins 64 ∷ has 0 61 (Address 8) ∷ Opens ∷ Begins 64 ∷ has 0 64 (Number 1) ∷ Closes ∷ has 61 3 (Number 5) ∷ Closes ∷ []

@@ -20,7 +20,7 @@ use Rattle.rb_layout.specs.declared.layout.Kind.{Kind}
 use Rattle.rb_layout.specs.declared.layout.Kind.TheVariants.{Bits, Word, Pointer}
 use Rattle.rb_layout.specs.Positions.{Open, open_positions}
 use Rattle.rb_layout.specs.Words.{words_of_block}
-use Rattle.rb_layout.specs.Flattening.{WithBlocks, Laying, in_turn, item_laid, kind_laid, part_laid, items_laid, parts_of, whole_kind, kind_if_open, type_at, shape_of, inlined, inline_words, flat_leaf}
+use Rattle.rb_layout.specs.Flattening.{WithBlocks, Laying, in_turn, item_laid, kind_laid, part_laid, items_laid, parts_of, whole_kind, kind_if_open, type_at, shape_of, words_inlined, inline_words, flat_leaf}
 use Rattle.rb_layout.specs.Items.{Content, Slice, WordOf, Address}
 use Rattle.rb_layout.specs.Placing.{whole_placed, if_open}
 use Rattle.rb_layout.proofs.FlatForms.{Each}
@@ -117,7 +117,7 @@ module _ (block : ℕ → List Seen) where
   shape_seen path j (w ∷ widths) =
       ap (λ (s : List Seen). Begins w ∷ Has (record { width = w; o = 0; l = w; holds = WordOf path j }) ∷ s) (shape_seen path (j + 1) widths)
 
-  field_seen : (decls : List LayoutDecl) (ty : Option Ty) (path : List ℕ) → words_seen block (inlined decls ty path) ≡ flat_map seen_word (inlined decls ty path)
+  field_seen : (decls : List LayoutDecl) (ty : Option Ty) (path : List ℕ) → words_seen block (words_inlined decls ty path) ≡ flat_map seen_word (words_inlined decls ty path)
   field_seen decls None path = refl
   field_seen decls (Some (Int bits)) path = refl
   field_seen decls (Some (Named s)) path = shape_seen path 0 (shape_of decls s)

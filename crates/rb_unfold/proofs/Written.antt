@@ -9,7 +9,7 @@ use Rattle.rb_core.specs.declared.layout_decl.PartKind as K
 use Rattle.rb_core.specs.declared.layout_decl.PartDecl.{PartDecl}
 use Rattle.rb_core.specs.declared.layout_decl.LayoutDecl.{LayoutDecl}
 use Rattle.rb_layout.specs.Positions.{Open}
-use Rattle.rb_layout.specs.Flattening.{type_at, inlined}
+use Rattle.rb_layout.specs.Flattening.{type_at, words_inlined}
 use Rattle.rb_layout.specs.Items.{Content, Number, Whole, Slice, WordOf, Address}
 use Rattle.rb_layout.specs.Placing.{part_placed}
 use Rattle.rb_layout.proofs.WrittenForms as W
@@ -34,7 +34,7 @@ module _ (decls : List LayoutDecl) (opens : List Open) where
       → item_written decls opens (I.Word width parts) ≡ Begins width ∷ flat_map (λ (part : ℕ → List Seen). part width) (map part_written parts)
   word_written width parts = W.fold-Word (List Seen) (Nested Content) (ℕ → List Seen) (item_step decls opens) kind_step (part_step opens) width parts
 
-  pub inline_written : (path : List ℕ) → item_written decls opens (I.Inline path) ≡ flat_map seen_word (inlined decls (type_at opens path) path)
+  pub inline_written : (path : List ℕ) → item_written decls opens (I.Inline path) ≡ flat_map seen_word (words_inlined decls (type_at opens path) path)
   inline_written path = W.fold-Inline (List Seen) (Nested Content) (ℕ → List Seen) (item_step decls opens) kind_step (part_step opens) path
 
   pub const_written : (c : ℕ) → kind_written (K.Const c) ≡ alone (Number c)

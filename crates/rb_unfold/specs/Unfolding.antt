@@ -15,9 +15,9 @@ use Rattle.rb_layout.specs.declared.layout.Kind.{Kind}
 use Rattle.rb_layout.specs.declared.layout.Kind.TheVariants.{Const, Bits, Word, Pointer}
 use Rattle.rb_layout.specs.Positions.{Open, open_positions}
 use Rattle.rb_layout.specs.Words.{words_in}
-use Rattle.rb_layout.specs.Flattening.{type_at, inlined, flat_leaf}
+use Rattle.rb_layout.specs.Flattening.{type_at, words_inlined, flat_leaf}
 use Rattle.rb_layout.specs.Items.{Content, Number, Whole, Slice, WordOf, Address}
-use Rattle.rb_layout.specs.Placing.{Standing, standing_of, standing, part_placed}
+use Rattle.rb_layout.specs.Placing.{Standing, standing_of, parts_in_place, part_placed}
 
 -- what is seen of a leaf, one after the other, as in its text
 pub data Seen : Type 0 where
@@ -88,12 +88,12 @@ part_step opens p width =
 
 -- a word of an inlined field: it has no pointers
 abbrev pub seen_word : FlatWord → List Seen
-seen_word f = Begins f.width ∷ map Has (standing f)
+seen_word f = Begins f.width ∷ map Has (parts_in_place f)
 
 -- what is written of an item: a word with its parts, or the words of the field at a path
 abbrev pub item_step : List LayoutDecl → List Open → LayItem-F (List Seen) (Nested Content) (ℕ → List Seen) → List Seen
 item_step decls opens (I.LayItem::Word width parts) = Begins width ∷ flat_map (λ part. part width) parts
-item_step decls opens (I.Inline path) = flat_map seen_word (inlined decls (type_at opens path) path)
+item_step decls opens (I.Inline path) = flat_map seen_word (words_inlined decls (type_at opens path) path)
 
 -- what is written of an item of a leaf, where `opens` are the leaf's open positions
 abbrev pub item_written : List LayoutDecl → List Open → LayItem → List Seen

@@ -15,7 +15,8 @@ use Rattle.rb_core.specs.declared.types.Con.{Con}
 use Rattle.rb_core.specs.declared.types.ConRef.{ConRef}
 use Rattle.rb_core.specs.declared.types.DataDecl.{DataDecl}
 use Rattle.rb_core.specs.Typing.{type_holds}
-use Rattle.rb_core.specs.Values.{fields_of_con, fields_in, all_of_types, are_of, is_of_type, node_count}
+use Rattle.rb_core.specs.Texts.{con_name, con_text}
+use Rattle.rb_core.specs.Values.{con_in as core_con_in, con_of, fields_of_con, fields_in, all_of_types, are_of, is_of_type, node_count}
 use Rattle.rb_core.specs.WellNumbered.{is_distinct, is_upper, is_between, is_type, con_names, con_is_numbered, type_is_numbered}
 use Rattle.rb_core.proofs.ValueLaws.{Each, induction, is_of_type-Num, is_of_type-Con, fold-Num, fold-Con}
 use Rattle.rb_syntax.specs.Fronts.{Front, front}
@@ -23,7 +24,7 @@ use Rattle.rb_values.specs.declared.sign.Sign.{Sign}
 use Rattle.rb_values.specs.declared.sign.Sign.TheVariants as sign
 use Rattle.rb_values.specs.Terms.{Term, Terms, number, build, none, also, term_count, term_nodes, spelled, in_parens, others, signs}
 use Rattle.rb_values.specs.Fitting.{con_index, con_in, con_named, con_fields, misfits_of, misfits, misfits_each, con_number, or_none, value_of, values_of}
-use Rattle.rb_values.specs.Texts.{type_index, con_numbered as text_con_in, con_of, name_in, name_of, type_of_field, field_of, before, after_last, fields_text, text_step, text_of}
+use Rattle.rb_values.specs.Texts.{con_ref, type_of_field, field_of, before, after_last, fields_text, text_step, text_of}
 use Rattle.rb_values.specs.Reading.{ValueIsRead}
 use Rattle.rb_values.specs.Laws.{AreDeclared, IsReadAs}
 use Rattle.rb_values.proofs.FittingLemmas.{as-many}
@@ -97,7 +98,7 @@ text-Num : (types : List DataDecl) (n : ℕ) (ty : Ty) → text_of types (Num n)
 text-Num types n ty = ap (λ (f : Ty → List ℕ). f ty) (fold-Num (Ty → List ℕ) (text_step types) n)
 
 text-Con : (types : List DataDecl) (k : ℕ) (vs : List Value) (ty : Ty) →
-    text_of types (val.Con k vs) ty ≡ name_of types (type_index ty) k ++ fields_text (field_of types (type_index ty) k) 0 (map (text_of types) vs)
+    text_of types (val.Con k vs) ty ≡ con_text types (con_ref ty k) ++ fields_text (field_of types (con_ref ty k)) 0 (map (text_of types) vs)
 text-Con types k vs ty = ap (λ (f : Ty → List ℕ). f ty) (fold-Con (Ty → List ℕ) (text_step types) k vs)
 
 -- fields have these types from one on
@@ -289,17 +290,19 @@ module _ (types : List DataDecl) where
       field-types = (and_parts (nat_le (length b.con.fields) 32) (list_all (is_type types) b.con.fields)
           (and_parts (is_upper b.con.name) (nat_le (length b.con.fields) 32 && list_all (is_type types) b.con.fields) con-numbered).1).1
 
-      con-is : con_of types t k ≡ Some b.con
-      con-is = ap (λ (d : Option DataDecl). text_con_in d k) b.is_type ∙ b.is_con
+      abbrev its-ref : ConRef
+      its-ref = con_ref (Named t) k
 
-      name-is : name_of types t k ≡ b.con.name
-      unfolding name_of
-      name-is = ap name_in con-is
+      con-is : con_of types its-ref ≡ Some b.con
+      con-is = ap (λ (d : Option DataDecl). core_con_in d k) b.is_type ∙ b.is_con
 
-      are-fields : AreFrom (field_of types t k) 0 b.con.fields
+      name-is : con_text types its-ref ≡ b.con.name
+      name-is = ap con_name con-is
+
+      are-fields : AreFrom (field_of types its-ref) 0 b.con.fields
       unfolding field_of
       are-fields i u e = let same : 0 + i ≡ i = omega arith in
-          ap (λ (j : ℕ). type_of_field (con_of types t k) j) same ∙ ap (λ (c : Option Con). type_of_field c i) con-is ∙ get_or_from_slice_get b.con.fields i u (Int 1) e
+          ap (λ (j : ℕ). type_of_field (con_of types its-ref) j) same ∙ ap (λ (c : Option Con). type_of_field c i) con-is ∙ get_or_from_slice_get b.con.fields i u (Int 1) e
 
       con-named : con_named types (Named t) b.con.name ≡ Some (record { ty = t; con = k })
       con-named = ap (con_in t b.con.name) b.is_type
@@ -310,11 +313,11 @@ module _ (types : List DataDecl) where
 
       construction-spelled : Each Claim vs → (at : ℕ) → IsSpelled (Named t) at (val.Con k vs)
       construction-spelled es at =
-          let r : AreSpelled b.con.fields (at + length b.con.name) vs (fields_text (field_of types t k) 0 (map (text_of types) vs)) in_parens =
-          parens vs es b.con.fields (field_of types t k) (at + length b.con.name) are-fields field-types b.fields in
+          let r : AreSpelled b.con.fields (at + length b.con.name) vs (fields_text (field_of types its-ref) 0 (map (text_of types) vs)) in_parens =
+          parens vs es b.con.fields (field_of types its-ref) (at + length b.con.name) are-fields field-types b.fields in
           let same : (term_count r.terms == length b.con.fields) ≡ true = eq-eqb (term_count r.terms) (length b.con.fields) r.count in
-          let text : text_of types (val.Con k vs) (Named t) ≡ b.con.name ++ fields_text (field_of types t k) 0 (map (text_of types) vs) =
-          text-Con types k vs (Named t) ∙ ap (λ (name : List ℕ). name ++ fields_text (field_of types t k) 0 (map (text_of types) vs)) name-is in
+          let text : text_of types (val.Con k vs) (Named t) ≡ b.con.name ++ fields_text (field_of types its-ref) 0 (map (text_of types) vs) =
+          text-Con types k vs (Named t) ∙ ap (λ (name : List ℕ). name ++ fields_text (field_of types its-ref) 0 (map (text_of types) vs)) name-is in
           record {
             term = build at b.con.name r.terms;
             fits = ap (misfits_of at (term_count r.terms) (misfits_each types r.terms)) its-fields ∙ rw same r.fits;
@@ -322,7 +325,7 @@ module _ (types : List DataDecl) where
                 ∙ ap (λ (o : Option ConRef). val.Con (con_number o) (values_of types r.terms b.con.fields)) con-named
                 ∙ ap (λ (vs : List Value). val.Con k vs) r.values;
             says = subst (λ (text : List ℕ). Says at text (spelled (build at b.con.name r.terms))) (sym text)
-                (says-both at b.con.name (fields_text (field_of types t k) 0 (map (text_of types) vs)) (λ ss. sign.Name at b.con.name ∷ ss) (in_parens r.terms) r.ahead
+                (says-both at b.con.name (fields_text (field_of types its-ref) 0 (map (text_of types) vs)) (λ ss. sign.Name at b.con.name ∷ ss) (in_parens r.terms) r.ahead
                 (λ from rest ss stops e shown. shows-name at from b.con.name rest ss named stops e shown) r.says);
           }
 

@@ -12,16 +12,16 @@ use Rattle.rb_values.specs.declared.fault.ValueFault.TheVariants.{ValueSyntax, V
 use Rattle.rb_values.specs.Terms.{Term, build, none, term_nodes, sign_of, signs}
 use Rattle.rb_values.specs.Fitting.{first}
 use Rattle.rb_values.specs.Reading.{StopsAt, token, refused, ended, ValueIsRead}
-use Rattle.rb_values.specs.inner.States.{Wait, State, expecting, named, complete, step, end_of, term_of, IsStateOf, outline_of, outlined, mode_whole}
+use Rattle.rb_values.specs.inner.States.{Wait, State, expecting, named, complete, step, end_of, term_of, IsStateOf, outline_of, outline_or_none, mode_whole}
 use Rattle.rb_values.specs.inner.Typing.{settled}
 use Rattle.rb_values.specs.inner.Finishing.{IsSettled, IsFinished}
 use Rattle.rb_values.proofs.SpellingLemmas.{begins, reached_first, reached_next, stops, is_part, is_whole, whole_same, nodes_whole}
 
-pub no-step : (o : Option State) → outlined o ≡ None → o ≡ None
+pub no-step : (o : Option State) → outline_or_none o ≡ None → o ≡ None
 no-step None e = refl
 no-step (Some s) e = cc
 
-pub some-step : (o : Option State) (out : Outline) → outlined o ≡ Some out → (next : State) × (o ≡ Some next) × (out ≡ outline_of next)
+pub some-step : (o : Option State) (out : Outline) → outline_or_none o ≡ Some out → (next : State) × (o ≡ Some next) × (out ≡ outline_of next)
 some-step None out e = cc
 some-step (Some s) out e = (s, refl, cc)
 

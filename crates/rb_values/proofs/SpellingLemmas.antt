@@ -9,7 +9,7 @@ use Rattle.rb_values.specs.declared.outline.Mode.TheVariants as mode
 use Rattle.rb_values.specs.declared.outline.Outline.{Outline}
 use Rattle.rb_values.specs.Terms.{Term, Terms, number, build, none, also, spelled, in_parens, others, term_nodes, terms_nodes}
 use Rattle.rb_values.specs.Reading.{IsSignFront}
-use Rattle.rb_values.specs.inner.States.{Wait, snoc, waits, longer, whole, State, expecting, named, complete, then_on, step, end_of, term_of, on, answer, each, shown_waits, shown, IsStateOf, waits_nodes, outline_of, outlined, outline_behind, outline_on, outline_step, mode_whole}
+use Rattle.rb_values.specs.inner.States.{Wait, snoc, waits, longer, whole, State, expecting, named, complete, then_on, step, end_of, term_of, on, answer, each, signs_of_waits, signs_of_state, IsStateOf, waits_nodes, outline_of, outline_or_none, outline_behind, outline_on, outline_step, mode_whole}
 
 -- what follows a value opens nothing
 abbrev Closes : List Sign → Type 0
@@ -83,12 +83,12 @@ each_end (also u us) v rest = ap (λ (l : List Sign). spelled u (sign.Comma ∷ 
 
 abbrev Shows : State → Sign → List Sign → Option State → Type 0
 Shows s t ts None = Unit {0}
-Shows s t ts (Some next) = shown s (t ∷ ts) ≡ shown next ts
+Shows s t ts (Some next) = signs_of_state s (t ∷ ts) ≡ signs_of_state next ts
 
 show_then : (v : Term) (os : List Wait) (t : Sign) (ts : List Sign) → Shows (complete v os) t ts (then_on v os t)
 show_then v [] t ts = tt
-show_then v (o ∷ os) sign.Comma ts = ap (λ (l : List Sign). shown_waits os (sign.Name o.at o.name ∷ sign.Open ∷ l)) (sym (each_end o.fields v ts))
-show_then v (o ∷ os) sign.Close ts = ap (λ (l : List Sign). shown_waits os (sign.Name o.at o.name ∷ l)) (sym (parens_end o.fields v ts))
+show_then v (o ∷ os) sign.Comma ts = ap (λ (l : List Sign). signs_of_waits os (sign.Name o.at o.name ∷ sign.Open ∷ l)) (sym (each_end o.fields v ts))
+show_then v (o ∷ os) sign.Close ts = ap (λ (l : List Sign). signs_of_waits os (sign.Name o.at o.name ∷ l)) (sym (parens_end o.fields v ts))
 show_then v (o ∷ os) sign.Open ts = tt
 show_then v (o ∷ os) (sign.Number b n) ts = tt
 show_then v (o ∷ os) (sign.Name b x) ts = tt
@@ -123,14 +123,14 @@ abbrev wrapped : Term → List Wait → Term
 wrapped v [] = v
 wrapped v (o ∷ os) = wrapped (whole (longer o v)) os
 
-closing : (v : Term) (os : List Wait) → shown (complete v os) (closes os) ≡ spelled (wrapped v os) []
+closing : (v : Term) (os : List Wait) → signs_of_state (complete v os) (closes os) ≡ spelled (wrapped v os) []
 closing v [] = refl
 closing v (o ∷ os) = show_then v (o ∷ os) sign.Close (closes os) ∙ closing (whole (longer o v)) os
 
 pub record Ends (s : State) : Type 0 where
   pub tree : Term
   pub more : List Sign
-  pub spells : shown s more ≡ spelled tree []
+  pub spells : signs_of_state s more ≡ spelled tree []
 
 ends : (s : State) → Ends s
 ends (expecting os) = record { more = sign.Number 0 0 ∷ closes os; tree = wrapped (number 0 0) os; spells = closing (number 0 0) os }
@@ -141,11 +141,11 @@ ends (complete v os) = record { more = closes os; tree = wrapped v os; spells = 
 pub begins : (ss : List Sign) (s : State) → IsStateOf ss s → IsSignFront ss
 begins ss s r = let e = ends s in (e.tree, e.more, sym (r.said e.more) ∙ e.spells)
 
-shown_end : (v w : Term) (os : List Wait) → end_of v os ≡ Some w → shown (complete v os) [] ≡ spelled w []
+shown_end : (v w : Term) (os : List Wait) → end_of v os ≡ Some w → signs_of_state (complete v os) [] ≡ spelled w []
 shown_end v w [] e = let s : v ≡ w = cc in ap (λ (t : Term). spelled t []) s
 shown_end v w (o ∷ os) e = cc
 
-shown_whole : (s : State) (v : Term) → term_of s ≡ Some v → shown s [] ≡ spelled v []
+shown_whole : (s : State) (v : Term) → term_of s ≡ Some v → signs_of_state s [] ≡ spelled v []
 shown_whole (expecting os) v e = cc
 shown_whole (named at x os) v e = shown_end (build at x none) v os e
 shown_whole (complete w os) v e = shown_end w v os e
@@ -199,13 +199,13 @@ same_outline : (m : Mode) (d n k : ℕ) → n ≡ k → ◌≡◌ {A = Option Ou
 same_outline m d n k e = ap {A = ℕ} {B = Option Outline} (λ n. Some (record { mode = m; depth = d; nodes = n })) e
 
 outline_then : (m : Mode) (t : Term) (os : List Wait) (s : Sign) (n : ℕ) → n ≡ waits_nodes os + term_nodes t →
-    outline_on (record { mode = m; depth = length os; nodes = n }) s ≡ outlined (then_on t os s)
+    outline_on (record { mode = m; depth = length os; nodes = n }) s ≡ outline_or_none (then_on t os s)
 outline_then m t [] s n e = refl
 outline_then m t (o ∷ os) s n e = rw (some_names o os) (behind s) where
   some_names : (o : Wait) (os : List Wait) → (length (o ∷ os) == 0) ≡ false
   some_names o os = grind (arith, common_steps)
 
-  behind : (s : Sign) → outline_behind (record { mode = m; depth = length (o ∷ os); nodes = n }) s ≡ outlined (then_on t (o ∷ os) s)
+  behind : (s : Sign) → outline_behind (record { mode = m; depth = length (o ∷ os); nodes = n }) s ≡ outline_or_none (then_on t (o ∷ os) s)
   behind sign.Comma = let h = nodes_snoc o.fields t in same_outline _ _ _ _ (omega (arith, e, h))
   behind sign.Close = let h = nodes_snoc o.fields t in let d : length (o ∷ os) - 1 ≡ length os = omega arith in rw d (same_outline _ _ _ _ (omega (arith, e, h)))
   behind sign.Open = refl
@@ -217,7 +217,7 @@ same_open : (d e n k : ℕ) → d + 1 ≡ e → n ≡ k → ◌≡◌ {A = Optio
 same_open d e n k h g = rw (h, g) refl
 
 -- the outline is that of the state
-pub outline_same : (s : State) (t : Sign) → outline_step (outline_of s) t ≡ outlined (step s t)
+pub outline_same : (s : State) (t : Sign) → outline_step (outline_of s) t ≡ outline_or_none (step s t)
 outline_same (expecting os) (sign.Number b n) = refl
 outline_same (expecting os) (sign.Name b x) = refl
 outline_same (expecting os) sign.Open = refl

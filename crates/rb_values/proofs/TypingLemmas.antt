@@ -14,7 +14,7 @@ use Rattle.rb_values.specs.declared.sign.Sign.TheVariants as sign
 use Rattle.rb_values.specs.Terms.{Term, Terms, number, build, none, also, term_count}
 use Rattle.rb_values.specs.Fitting.{con_named, con_fields, con_number, misfits, misfits_each, first, or_none, value_of, values_of}
 use Rattle.rb_values.specs.inner.States.{Wait, snoc, waits, longer, whole, State, expecting, named, complete, then_on, step}
-use Rattle.rb_values.specs.inner.Typing.{con_at, field_at, tried, value_at, fields_misfits, wait_misfits, wait_values, is_clean, expected, faults, built, frame_of, frames_of, state_faults, state_values, state_name, IsTypedAs, IsClosing, settled}
+use Rattle.rb_values.specs.inner.Typing.{con_at, field_at, misfits_at, value_at, fields_misfits, wait_misfits, wait_values, is_clean, next_type, faults, values_of_waits, frame_of, frames_of, state_faults, state_values, state_name, IsTypedAs, IsClosing, settled}
 
 -- Lists ------------------------------------------------------------------------------------------
 
@@ -86,13 +86,13 @@ module _ (types : List DataDecl) where
   values-nil none = refl
   values-nil (also t ts) = refl
 
-  misfits-snoc : (us : Terms) (t : Term) (tys : List Ty) → misfits_each types (snoc us t) tys ≡ misfits_each types us tys ++ tried types (slice_get tys (term_count us)) t
+  misfits-snoc : (us : Terms) (t : Term) (tys : List Ty) → misfits_each types (snoc us t) tys ≡ misfits_each types us tys ++ misfits_at types (slice_get tys (term_count us)) t
   misfits-snoc none t [] = refl
   misfits-snoc none t (ty ∷ tys) = append-nil (misfits types t ty)
   misfits-snoc (also u us) t [] = refl
   misfits-snoc (also u us) t (ty ∷ tys) =
       ap (λ (l : List ℕ). misfits types u ty ++ l) (misfits-snoc us t tys)
-      ∙ sym (append_assoc (misfits types u ty) (misfits_each types us tys) (tried types (slice_get tys (term_count us)) t))
+      ∙ sym (append_assoc (misfits types u ty) (misfits_each types us tys) (misfits_at types (slice_get tys (term_count us)) t))
 
   values-snoc : (us : Terms) (t : Term) (tys : List Ty) → values_of types (snoc us t) tys ≡ values_of types us tys ++ value_at types (slice_get tys (term_count us)) t
   values-snoc none t [] = refl
@@ -108,12 +108,12 @@ module _ (types : List DataDecl) where
 
   -- one more field of a name
   fields-snoc : (e : Option (List Ty)) (at : ℕ) (us : Terms) (t : Term) →
-      fields_misfits at (misfits_each types (snoc us t)) e ≡ fields_misfits at (misfits_each types us) e ++ tried types (field_at e (term_count us)) t
+      fields_misfits at (misfits_each types (snoc us t)) e ≡ fields_misfits at (misfits_each types us) e ++ misfits_at types (field_at e (term_count us)) t
   fields-snoc None at us t = refl
   fields-snoc (Some tys) at us t = misfits-snoc us t tys
 
   wait-snoc : (e : Option Ty) (o : Wait) (t : Term) →
-      wait_misfits types e (longer o t) ≡ wait_misfits types e o ++ tried types (field_at (con_fields types (con_at types e o.name)) (term_count o.fields)) t
+      wait_misfits types e (longer o t) ≡ wait_misfits types e o ++ misfits_at types (field_at (con_fields types (con_at types e o.name)) (term_count o.fields)) t
   wait-snoc None o t = refl
   wait-snoc (Some ty) o t = fields-snoc (con_fields types (con_named types ty o.name)) o.at o.fields t
 
@@ -122,7 +122,7 @@ module _ (types : List DataDecl) where
   built-snoc (Some tys) us t = values-snoc us t tys
 
   -- a name whose fields are all there: its type has no such constructor; or one with so many fields; or one with others
-  none-misfits : (e : Option Ty) (o : Wait) → None ≡ con_fields types (con_at types e o.name) → wait_misfits types e o ≡ tried types e (whole o)
+  none-misfits : (e : Option Ty) (o : Wait) → None ≡ con_fields types (con_at types e o.name) → wait_misfits types e o ≡ misfits_at types e (whole o)
   none-misfits None o h = refl
   none-misfits (Some ty) o h = rw (← h) refl
 
@@ -132,7 +132,7 @@ module _ (types : List DataDecl) where
   none-values (Some ty) o fs h z = absurd (not-one fs o.at (rw (← h) at z))
 
   right-misfits : (e : Option Ty) (o : Wait) (tys : List Ty) → Some tys ≡ con_fields types (con_at types e o.name) → length tys ≡ term_count o.fields
-      → wait_misfits types e o ≡ tried types e (whole o)
+      → wait_misfits types e o ≡ misfits_at types e (whole o)
   right-misfits None o tys h l = cc
   right-misfits (Some ty) o tys h l =
       let t : (term_count o.fields == length tys) ≡ true = rw l (same (term_count o.fields)) in rw (← h, t) refl
@@ -150,7 +150,7 @@ module _ (types : List DataDecl) where
   right-count e o tys h l = rw (← h) (values-length o.fields tys l)
 
   wrong-misfits : (e : Option Ty) (o : Wait) (tys : List Ty) → Some tys ≡ con_fields types (con_at types e o.name) → length tys ≢ term_count o.fields
-      → tried types e (whole o) ≡ o.at ∷ []
+      → misfits_at types e (whole o) ≡ o.at ∷ []
   wrong-misfits None o tys h l = cc
   wrong-misfits (Some ty) o tys h l =
       let t : (term_count o.fields == length tys) ≡ false = grind (arith, nat_tests, l) in rw (← h, t) refl
@@ -158,12 +158,12 @@ module _ (types : List DataDecl) where
 module _ (types : List DataDecl) (root : Ty) where
   -- The next type ----------------------------------------------------------------------------
 
-  pub expected-none : (os : List Wait) (fs : List Frame) → fs ≡ frames_of types root os → length fs ≡ 0 → Some root ≡ expected types root os
+  pub expected-none : (os : List Wait) (fs : List Frame) → fs ≡ frames_of types root os → length fs ≡ 0 → Some root ≡ next_type types root os
   expected-none [] fs e h = refl
   expected-none (o ∷ os) fs e h = absurd (some-length (frames_of types root os) (frame_of types root o os) (rw e at h))
 
   pub expected-last : (os : List Wait) (fs : List Frame) (d : Frame) (i : ℕ) → fs ≡ frames_of types root os → i + 1 ≡ length fs → d ≡ get_or fs i d
-      → field_at (con_fields types d.con) d.next ≡ expected types root os
+      → field_at (con_fields types d.con) d.next ≡ next_type types root os
   expected-last [] fs d i e h g = let z : length fs ≡ 0 = ap length e in absurd (omega (arith, z, h))
   expected-last (o ∷ os) fs d i e h g =
       let l : d ≡ frame_of types root o os = g ∙ rw e (last-get (frames_of types root os) (frame_of types root o os) d i (rw e at h)) in
@@ -172,23 +172,23 @@ module _ (types : List DataDecl) (root : Ty) where
   -- A number ---------------------------------------------------------------------------------
 
   module _ (os : List Wait) (fs : List Frame) (nm : Option Frame) (f : Option ℕ) (vs : List Value) (h : IsTypedAs types root (expecting os) fs nm f vs) where
-    pub untried : (t : Term) → None ≡ expected types root os → IsTypedAs types root (complete t os) fs nm f vs
+    pub untried : (t : Term) → None ≡ next_type types root os → IsTypedAs types root (complete t os) fs nm f vs
     untried t e = record {
       frames_are = h.frames_are;
       name_is = h.name_is;
       fault_is = h.fault_is ∙ ap first (sym (append-nil (faults types root os)) ∙ rw (← e) refl);
-      values_are = λ z. h.values_are z ∙ sym (append-nil (built types root os)) ∙ rw (← e) refl;
+      values_are = λ z. h.values_are z ∙ sym (append-nil (values_of_waits types root os)) ∙ rw (← e) refl;
     }
 
     pub frozen : (t : Term) (p : ℕ) → f ≡ Some p → IsTypedAs types root (complete t os) fs nm f vs
     frozen t p e = record {
       frames_are = h.frames_are;
       name_is = h.name_is;
-      fault_is = e ∙ sym (first-some (faults types root os) (tried types (expected types root os) t) p (sym h.fault_is ∙ e));
+      fault_is = e ∙ sym (first-some (faults types root os) (misfits_at types (next_type types root os) t) p (sym h.fault_is ∙ e));
       values_are = λ z. absurd (some-none p (sym e ∙ z));
     }
 
-    pub misfit : (at n : ℕ) (ty : Ty) → f ≡ None → Some ty ≡ expected types root os → type_holds ty n ≡ false → IsTypedAs types root (complete (number at n) os) fs nm (Some at) vs
+    pub misfit : (at n : ℕ) (ty : Ty) → f ≡ None → Some ty ≡ next_type types root os → type_holds ty n ≡ false → IsTypedAs types root (complete (number at n) os) fs nm (Some at) vs
     misfit at n ty e t b = record {
       frames_are = h.frames_are;
       name_is = h.name_is;
@@ -196,7 +196,7 @@ module _ (types : List DataDecl) (root : Ty) where
       values_are = λ z. absurd (some-none at z);
     }
 
-    pub fit : (at n : ℕ) (ty : Ty) (new : List Value) → f ≡ None → Some ty ≡ expected types root os → type_holds ty n ≡ true → new ≡ vs ++ Num n ∷ []
+    pub fit : (at n : ℕ) (ty : Ty) (new : List Value) → f ≡ None → Some ty ≡ next_type types root os → type_holds ty n ≡ true → new ≡ vs ++ Num n ∷ []
         → IsTypedAs types root (complete (number at n) os) fs nm f new
     fit at n ty new e t b g = record {
       frames_are = h.frames_are;
@@ -207,23 +207,23 @@ module _ (types : List DataDecl) (root : Ty) where
 
     -- A name ---------------------------------------------------------------------------------
 
-    named-frame : (at : ℕ) (x : List ℕ) (c : Option ConRef) → c ≡ con_at types (expected types root os) x
+    named-frame : (at : ℕ) (x : List ℕ) (c : Option ConRef) → c ≡ con_at types (next_type types root os) x
         → Some (record { at = at; con = c; next = 0; clean = is_clean f }) ≡ state_name types root (named at x os)
     named-frame at x c e = rw (e, h.fault_is) refl
 
     named-values : (at : ℕ) (x : List ℕ) → f ≡ None → vs ≡ state_values types root (named at x os)
-    named-values at x e = h.values_are e ∙ sym (append-nil (built types root os))
+    named-values at x e = h.values_are e ∙ sym (append-nil (values_of_waits types root os))
 
-    pub name-frozen : (at : ℕ) (x : List ℕ) (c : Option ConRef) (p : ℕ) → c ≡ con_at types (expected types root os) x → f ≡ Some p
+    pub name-frozen : (at : ℕ) (x : List ℕ) (c : Option ConRef) (p : ℕ) → c ≡ con_at types (next_type types root os) x → f ≡ Some p
         → IsTypedAs types root (named at x os) fs (Some (record { at = at; con = c; next = 0; clean = is_clean f })) f vs
     name-frozen at x c p e g = record {
       frames_are = h.frames_are;
       name_is = named-frame at x c e;
-      fault_is = g ∙ sym (first-some (faults types root os) (wait_misfits types (expected types root os) (waits at x)) p (sym h.fault_is ∙ g));
+      fault_is = g ∙ sym (first-some (faults types root os) (wait_misfits types (next_type types root os) (waits at x)) p (sym h.fault_is ∙ g));
       values_are = λ z. absurd (some-none p (sym g ∙ z));
     }
 
-    pub name-untried : (at : ℕ) (x : List ℕ) (c : Option ConRef) → c ≡ con_at types (expected types root os) x → None ≡ expected types root os
+    pub name-untried : (at : ℕ) (x : List ℕ) (c : Option ConRef) → c ≡ con_at types (next_type types root os) x → None ≡ next_type types root os
         → IsTypedAs types root (named at x os) fs (Some (record { at = at; con = c; next = 0; clean = is_clean f })) f vs
     name-untried at x c e t = record {
       frames_are = h.frames_are;
@@ -232,7 +232,7 @@ module _ (types : List DataDecl) (root : Ty) where
       values_are = named-values at x;
     }
 
-    pub name-known : (at : ℕ) (x : List ℕ) (c : Option ConRef) (ty : Ty) (tys : List Ty) → c ≡ con_at types (expected types root os) x → Some ty ≡ expected types root os
+    pub name-known : (at : ℕ) (x : List ℕ) (c : Option ConRef) (ty : Ty) (tys : List Ty) → c ≡ con_at types (next_type types root os) x → Some ty ≡ next_type types root os
         → Some tys ≡ con_fields types c → IsTypedAs types root (named at x os) fs (Some (record { at = at; con = c; next = 0; clean = is_clean f })) f vs
     name-known at x c ty tys e t k = record {
       frames_are = h.frames_are;
@@ -242,7 +242,7 @@ module _ (types : List DataDecl) (root : Ty) where
       values_are = named-values at x;
     }
 
-    pub name-unknown : (at : ℕ) (x : List ℕ) (c : Option ConRef) (ty : Ty) → f ≡ None → c ≡ con_at types (expected types root os) x → Some ty ≡ expected types root os
+    pub name-unknown : (at : ℕ) (x : List ℕ) (c : Option ConRef) (ty : Ty) → f ≡ None → c ≡ con_at types (next_type types root os) x → Some ty ≡ next_type types root os
         → None ≡ con_fields types c → IsTypedAs types root (named at x os) fs (Some (record { at = at; con = c; next = 0; clean = is_clean f })) (Some at) vs
     name-unknown at x c ty g e t k = record {
       frames_are = h.frames_are;
@@ -256,7 +256,7 @@ module _ (types : List DataDecl) (root : Ty) where
 
   module _ (o : Wait) (os : List Wait) (frame : Frame) (is : frame ≡ frame_of types root o os) (fs : List Frame) (nm : Option Frame) (f : Option ℕ) (vs : List Value)
       (h : IsClosing types root o os fs nm f vs) where
-    con-is : frame.con ≡ con_at types (expected types root os) o.name
+    con-is : frame.con ≡ con_at types (next_type types root os) o.name
     con-is = ap (λ (g : Frame). g.con) is
 
     next-is : frame.next ≡ term_count o.fields
@@ -270,20 +270,20 @@ module _ (types : List DataDecl) (root : Ty) where
 
     pub closed-none : None ≡ con_fields types frame.con → IsTypedAs types root (complete (whole o) os) fs nm f vs
     closed-none e =
-        let q : None ≡ con_fields types (con_at types (expected types root os) o.name) = rw con-is at e in
+        let q : None ≡ con_fields types (con_at types (next_type types root os) o.name) = rw con-is at e in
         record {
           frames_are = h.frames_are;
           name_is = h.name_is;
-          fault_is = h.fault_is ∙ ap (λ (l : List ℕ). first (faults types root os ++ l)) (none-misfits types (expected types root os) o q);
-          values_are = λ z. h.values_are z ∙ ap (λ (l : List Value). built types root os ++ l) (none-values types (expected types root os) o (faults types root os) q (sym h.fault_is ∙ z));
+          fault_is = h.fault_is ∙ ap (λ (l : List ℕ). first (faults types root os ++ l)) (none-misfits types (next_type types root os) o q);
+          values_are = λ z. h.values_are z ∙ ap (λ (l : List Value). values_of_waits types root os ++ l) (none-values types (next_type types root os) o (faults types root os) q (sym h.fault_is ∙ z));
         }
 
     pub closed-wrong_first : (tys : List Ty) → Some tys ≡ con_fields types frame.con → length tys ≢ frame.next → frame.clean ≡ true
         → IsTypedAs types root (complete (whole o) os) fs nm (Some frame.at) vs
     closed-wrong_first tys e l c =
-        let q : Some tys ≡ con_fields types (con_at types (expected types root os) o.name) = rw con-is at e in
+        let q : Some tys ≡ con_fields types (con_at types (next_type types root os) o.name) = rw con-is at e in
         let z : first (faults types root os) ≡ None = clean-none _ (sym clean-is ∙ c) in
-        let w = wrong-misfits types (expected types root os) o tys q (rw next-is at l) in
+        let w = wrong-misfits types (next_type types root os) o tys q (rw next-is at l) in
         record {
           frames_are = h.frames_are;
           name_is = h.name_is;
@@ -295,40 +295,40 @@ module _ (types : List DataDecl) (root : Ty) where
         → IsTypedAs types root (complete (whole o) os) fs nm f vs
     closed-wrong_later tys e l c =
         let s = clean-some (first (faults types root os)) (sym clean-is ∙ c) in
-        let g : f ≡ Some s.0 = h.fault_is ∙ first-some (faults types root os) (wait_misfits types (expected types root os) o) s.0 s.1 in
+        let g : f ≡ Some s.0 = h.fault_is ∙ first-some (faults types root os) (wait_misfits types (next_type types root os) o) s.0 s.1 in
         record {
           frames_are = h.frames_are;
           name_is = h.name_is;
-          fault_is = g ∙ sym (first-some (faults types root os) (tried types (expected types root os) (whole o)) s.0 s.1);
+          fault_is = g ∙ sym (first-some (faults types root os) (misfits_at types (next_type types root os) (whole o)) s.0 s.1);
           values_are = λ z. absurd (some-none s.0 (sym g ∙ z));
         }
 
     module _ (tys : List Ty) (e : Some tys ≡ con_fields types frame.con) (l : length tys ≡ frame.next) where
-      known : Some tys ≡ con_fields types (con_at types (expected types root os) o.name)
+      known : Some tys ≡ con_fields types (con_at types (next_type types root os) o.name)
       known = rw con-is at e
 
       same-fault : f ≡ first (state_faults types root (complete (whole o) os))
-      same-fault = h.fault_is ∙ ap (λ (l : List ℕ). first (faults types root os ++ l)) (right-misfits types (expected types root os) o tys known (l ∙ next-is))
+      same-fault = h.fault_is ∙ ap (λ (l : List ℕ). first (faults types root os ++ l)) (right-misfits types (next_type types root os) o tys known (l ∙ next-is))
 
       pub closed-frozen : (p : ℕ) → f ≡ Some p → IsTypedAs types root (complete (whole o) os) fs nm f vs
       closed-frozen p g = record { frames_are = h.frames_are; name_is = h.name_is; fault_is = same-fault; values_are = λ z. absurd (some-none p (sym g ∙ z)) }
 
       enough : f ≡ None → frame.next ≤ length vs
       enough g =
-          let c = right-count types (expected types root os) o tys known (l ∙ next-is) in
-          let v = ap length (h.values_are g) ∙ length-append (built types root os) (wait_values types (expected types root os) o) in
+          let c = right-count types (next_type types root os) o tys known (l ∙ next-is) in
+          let v = ap length (h.values_are g) ∙ length-append (values_of_waits types root os) (wait_values types (next_type types root os) o) in
           omega (arith, c, v, next-is)
 
       pub closed-built : (k n : ℕ) (new : List Value) → f ≡ None → k ≡ con_number frame.con → (frame.next ≤ length vs → n ≡ frame.next)
           → new ≡ take (length vs - n) vs ++ val.Con k (drop (length vs - n) vs) ∷ [] → IsTypedAs types root (complete (whole o) os) fs nm f new
       closed-built k n new g k-is n-is w =
-          let c = right-count types (expected types root os) o tys known (l ∙ next-is) in
-          let n-count : length (wait_values types (expected types root os) o) ≡ n = c ∙ sym next-is ∙ sym (n-is (enough g)) in
-          let b : List Value = built types root os in
-          let ws : List Value = wait_values types (expected types root os) o in
+          let c = right-count types (next_type types root os) o tys known (l ∙ next-is) in
+          let n-count : length (wait_values types (next_type types root os) o) ≡ n = c ∙ sym next-is ∙ sym (n-is (enough g)) in
+          let b : List Value = values_of_waits types root os in
+          let ws : List Value = wait_values types (next_type types root os) o in
           let t : take (length vs - n) vs ≡ b = rw (h.values_are g) (front-of b ws n n-count) in
           let d : drop (length vs - n) vs ≡ ws = rw (h.values_are g) (behind-of b ws n n-count) in
-          let v = right-value types (expected types root os) o tys known in
+          let v = right-value types (next_type types root os) o tys known in
           record {
             frames_are = h.frames_are;
             name_is = h.name_is;
@@ -346,15 +346,15 @@ module _ (types : List DataDecl) (root : Ty) where
     pub longer-is : (n : ℕ) → n ≡ frame.next + 1 → record { at = frame.at; con = frame.con; next = n; clean = frame.clean } ≡ frame_of types root (longer o t) os
     longer-is n e = let c : n ≡ term_count (snoc o.fields t) = omega (arith, e, ap (λ (g : Frame). g.next) popped-is.1, count-snoc o.fields t) in rw (c, popped-is.1) refl
 
-    longer-faults : faults types root (o ∷ os) ++ tried types (expected types root (o ∷ os)) t ≡ faults types root (longer o t ∷ os)
+    longer-faults : faults types root (o ∷ os) ++ misfits_at types (next_type types root (o ∷ os)) t ≡ faults types root (longer o t ∷ os)
     longer-faults =
-        append_assoc (faults types root os) (wait_misfits types (expected types root os) o) (tried types (expected types root (o ∷ os)) t)
-        ∙ ap (λ (l : List ℕ). faults types root os ++ l) (sym (wait-snoc types (expected types root os) o t))
+        append_assoc (faults types root os) (wait_misfits types (next_type types root os) o) (misfits_at types (next_type types root (o ∷ os)) t)
+        ∙ ap (λ (l : List ℕ). faults types root os ++ l) (sym (wait-snoc types (next_type types root os) o t))
 
-    longer-built : built types root (o ∷ os) ++ value_at types (expected types root (o ∷ os)) t ≡ built types root (longer o t ∷ os)
+    longer-built : values_of_waits types root (o ∷ os) ++ value_at types (next_type types root (o ∷ os)) t ≡ values_of_waits types root (longer o t ∷ os)
     longer-built =
-        append_assoc (built types root os) (wait_values types (expected types root os) o) (value_at types (expected types root (o ∷ os)) t)
-        ∙ ap (λ (l : List Value). built types root os ++ l) (sym (built-snoc types (con_fields types (con_at types (expected types root os) o.name)) o.fields t))
+        append_assoc (values_of_waits types root os) (wait_values types (next_type types root os) o) (value_at types (next_type types root (o ∷ os)) t)
+        ∙ ap (λ (l : List Value). values_of_waits types root os ++ l) (sym (built-snoc types (con_fields types (con_at types (next_type types root os) o.name)) o.fields t))
 
     pub closing : IsClosing types root (longer o t) os front nm f vs
     closing = record {

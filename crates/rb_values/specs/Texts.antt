@@ -1,5 +1,5 @@
 -- The text of a value: a number in decimal, or its constructor's name and its fields with ', ' between.
-use Rattle.std.specs.Prelude.{ℕ, zero, suc, ◌+◌, List, [], ◌∷◌, ◌++◌, codes, Option, Some, None, slice_get, slice_index_or}
+use Rattle.std.specs.Prelude.{ℕ, zero, suc, ◌+◌, List, [], ◌∷◌, ◌++◌, codes, Option, Some, None, slice_index_or}
 use Rattle.std.specs.Fmt.{decimal}
 use Rattle.rb_core.specs.declared.value.Value.{Value}
 use Rattle.rb_core.specs.declared.value.Value.TheOpen as Layer
@@ -8,41 +8,26 @@ use Rattle.rb_core.specs.declared.value.Value.TheFolds.{fold-Value}
 use Rattle.rb_core.specs.declared.types.Ty.{Ty}
 use Rattle.rb_core.specs.declared.types.Ty.TheVariants.{Int, Named}
 use Rattle.rb_core.specs.declared.types.Con.{Con}
+use Rattle.rb_core.specs.declared.types.ConRef.{ConRef}
 use Rattle.rb_core.specs.declared.types.DataDecl.{DataDecl}
+use Rattle.rb_core.specs.Texts.{con_text}
+use Rattle.rb_core.specs.Values.{con_of}
 
--- Constructors. What a value of its type never asks for is filled in: type 0, no name, a field of u1.
+-- Constructors. What a value of its type never asks for is filled in: type 0, a field of u1.
 
--- the number of a data type; 0 for an integer type
-abbrev pub type_index : Ty → ℕ
-type_index (Int bits) = 0
-type_index (Named t) = t
-
--- constructor k of a data type; none where there is no such type or constructor
-abbrev pub con_numbered : Option DataDecl → ℕ → Option Con
-con_numbered None k = None
-con_numbered (Some d) k = slice_get d.cons k
-
--- constructor k of type t; none where there is no such type or constructor
-abbrev pub con_of : List DataDecl → ℕ → ℕ → Option Con
-con_of types t k = con_numbered (slice_get types t) k
-
--- the name of a constructor; empty where there is no constructor
-abbrev pub name_in : Option Con → List ℕ
-name_in None = []
-name_in (Some c) = c.name
-
--- the name of constructor k of type t; empty where there is no such constructor
-unfoldable pub name_of : List DataDecl → ℕ → ℕ → List ℕ
-name_of types t k = name_in (con_of types t k)
+-- constructor k of a type; of data type 0 for an integer type, which has none
+abbrev pub con_ref : Ty → ℕ → ConRef
+con_ref (Int bits) k = record { ty = 0; con = k }
+con_ref (Named t) k = record { ty = t; con = k }
 
 -- the type of field j of a constructor; u1 where there is no such constructor or field
 abbrev pub type_of_field : Option Con → ℕ → Ty
 type_of_field None j = Int 1
 type_of_field (Some c) j = slice_index_or c.fields j (Int 1)
 
--- the type of field j of constructor k of type t; u1 where there is no such field
-unfoldable pub field_of : List DataDecl → ℕ → ℕ → ℕ → Ty
-field_of types t k j = type_of_field (con_of types t k) j
+-- the type of field j of a constructor of the program; u1 where there is no such field
+unfoldable pub field_of : List DataDecl → ConRef → ℕ → Ty
+field_of types c j = type_of_field (con_of types c) j
 
 -- Texts.
 
@@ -66,7 +51,7 @@ fields_text tys j (f ∷ fs) = before j ++ (f (tys j) ++ fields_text tys (j + 1)
 abbrev pub text_step : List DataDecl → Value-F (Ty → List ℕ) → Ty → List ℕ
 text_step types (Layer.Num n) ty = decimal n
 text_step types (Layer.Con k fs) ty =
-    name_of types (type_index ty) k ++ fields_text (field_of types (type_index ty) k) 0 fs
+    con_text types (con_ref ty k) ++ fields_text (field_of types (con_ref ty k)) 0 fs
 
 -- the text of a value at a type
 abbrev pub text_of : List DataDecl → Value → Ty → List ℕ

@@ -19,7 +19,7 @@ pub enum ValueFault {
     /// The value has more nodes than the limit.
     #[error("over the limit of nodes")]
     ValueTooLarge,
-    /// The first node, outer before inner and left to right, that does not fit its type.
+    /// A node that does not fit its type, of several the one that begins first in the text.
     #[error("no value of the type at byte {0}")]
     ValueType(usize),
     /// Want of memory.

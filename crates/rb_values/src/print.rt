@@ -7,78 +7,47 @@
 //! want of memory.
 
 ghost use Rattle.std.specs.Prelude.{◌≡◌, ◌<◌, ◌++◌, length, IfOk, OnOk};
-ghost use Rattle.std.specs.Fmt.{decimal};
-ghost use Rattle.std.specs.Option.{option_copied};
-ghost use Rattle.rb_values.specs.Texts.{type_index, con_of, name_of, field_of, before, after_last, text_of};
+ghost use Rattle.rb_values.specs.Texts.{con_ref, field_of, before, after_last, text_of};
 ghost use Rattle.rb_values.specs.Nodes.{at};
 ghost use Rattle.rb_values.specs.inner.Printing.{IsFrame, AreFrames, Opened, Turned};
 
 use crate::forest::Forest;
 use crate::nodes::{Layer, Nodes};
-use rb_core::decimal::digits;
-use rb_core::types::{Con, DataDecl, Ty};
+use rb_core::constructors::con_of;
+use rb_core::text::{push_con, push_number};
+use rb_core::types::{ConRef, DataDecl, Ty};
 use std::alloc::{AllocError, Global};
 
-/// A construction whose fields from `next` on are still to be written: its node, its constructor's
-/// and its type's number.
+/// A construction whose fields from `next` on are still to be written: its node and its constructor.
 #[derive(Clone, Copy)]
 pub struct Frame {
     pub node: usize,
-    pub con: u32,
-    pub ty: u32,
+    pub con: ConRef,
     pub next: usize,
 }
 
-// The number of a data type; 0 stands for one of integers, which have no constructors.
-fn type_index(ty: Ty) -> u32
-    ensures { result ≡ type_index ty }
+// Constructor `k` of a type; of data type 0 for one of integers, which have no constructors.
+fn con_ref(ty: Ty, k: u32) -> ConRef
+    ensures { result ≡ con_ref ty k }
 {
     match ty {
-        Ty::Int(_) => 0,
-        Ty::Named(t) => t,
+        Ty::Int(_) => ConRef { ty: 0, con: k },
+        Ty::Named(t) => ConRef { ty: t, con: k },
     }
 }
 
-// Constructor `k` of data type `t`; none where there is no such type or constructor.
-fn con_of(types: &[DataDecl], t: u32, k: u32) -> Option<&Con>
-    ensures { option_copied result ≡ con_of types.now t k }
-{
-    match types.get(t as usize) {
-        None => None,
-        Some(data) => data.cons.get(k as usize),
-    }
-}
-
-// The type of field `j` of constructor `k` of type `t`; `u1` where there is none.
+// The type of field `j` of a constructor; `u1` where there is none.
 #[tactic(auto, unfolding(crate::specs::Texts::field_of))]
-fn field_of(types: &[DataDecl], t: u32, k: u32, j: usize) -> Ty
-    ensures { result ≡ field_of types.now t k j }
+fn field_of(types: &[DataDecl], con: ConRef, j: usize) -> Ty
+    ensures { result ≡ field_of types.now con j }
 {
-    match con_of(types, t, k) {
+    match con_of(types, con) {
         None => Ty::Int(1),
         Some(con) => match con.fields.get(j) {
             None => Ty::Int(1),
             Some(ty) => *ty,
         },
     }
-}
-
-// Writes the name of constructor `k` of type `t`; nothing where there is none.
-#[tactic(auto, unfolding(crate::specs::Texts::name_of))]
-fn write_name(types: &[DataDecl], t: u32, k: u32, out: &mut Vec<u8>) -> Result<(), AllocError>
-    ensures { OnOk result (out.new.items ≡ out.old.items ++ name_of types.now t k) }
-{
-    match con_of(types, t, k) {
-        None => Ok(()),
-        Some(con) => out.extend_from_slice(con.name.as_slice()),
-    }
-}
-
-// Writes a number in decimal digits.
-fn write_number(n: u64, out: &mut Vec<u8>) -> Result<(), AllocError>
-    ensures { OnOk result (out.new.items ≡ out.old.items ++ decimal n) }
-{
-    out.extend_from_slice(digits(n).as_slice())
 }
 
 // Writes what stands before field `j`: a parenthesis before the first, else a comma and a blank.
@@ -113,18 +82,13 @@ fn open_value(
 {
     match nodes.layer(node) {
         Layer::Num(n) => {
-            write_number(n, out)?;
+            push_number(out, n)?;
             Ok(())
         }
-        Layer::Con(con, _) => {
-            let ty = type_index(ty);
-            write_name(types, ty, con, out)?;
-            stack.push(Frame {
-                node,
-                con,
-                ty,
-                next: 0,
-            })?;
+        Layer::Con(k, _) => {
+            let con = con_ref(ty, k);
+            push_con(out, types, con)?;
+            stack.push(Frame { node, con, next: 0 })?;
             Ok(())
         }
     }
@@ -151,11 +115,10 @@ fn turn(
     }
     write_before(frame.next, out)?;
     let child = nodes.child(frame.node, frame.next);
-    let ty = field_of(types, frame.ty, frame.con, frame.next);
+    let ty = field_of(types, frame.con, frame.next);
     stack.push(Frame {
         node: frame.node,
         con: frame.con,
-        ty: frame.ty,
         next: frame.next + 1,
     })?;
     open_value(types, nodes, child, ty, out, stack)?;

@@ -22,6 +22,7 @@ use crate::builder::Builder;
 use crate::fault::ValueFault;
 use crate::forest::Forest;
 use crate::sign::Sign;
+use rb_core::constructors::con_of;
 use rb_core::types::{Con, ConRef, DataDecl, Ty};
 use std::alloc::{AllocError, Global};
 
@@ -97,20 +98,10 @@ fn con_at(types: &[DataDecl], ty: Option<Ty>, name: &[u8]) -> Result<Option<ConR
 fn con_fields(types: &[DataDecl], con: Option<ConRef>) -> Option<&[Ty]>
     ensures { option_copied result ≡ fit.con_fields types.now con }
 {
-    let con = match con {
-        None => return None,
-        Some(con) => con,
-    };
-    let ty = con.ty as usize;
-    if ty >= types.len() {
-        return None;
+    match con {
+        None => None,
+        Some(con) => con_of(types, con).map(|con| con.fields.as_slice()),
     }
-    let cons = types[ty].cons.as_slice();
-    let number = con.con as usize;
-    if number >= cons.len() {
-        return None;
-    }
-    Some(cons[number].fields.as_slice())
 }
 
 // The type of field `i` of a constructor; none where there is no such constructor or field.
@@ -169,7 +160,7 @@ impl Typing {
     // field.
     fn expected(&self, types: &[DataDecl], root: Ty) -> Option<Ty>
         ensures { (os : List Wait) → self.now.frames.items ≡ keep.frames_of types.now root os
-            → result ≡ keep.expected types.now root os }
+            → result ≡ keep.next_type types.now root os }
     {
         let count = self.frames.len();
         if count == 0 {
@@ -358,8 +349,8 @@ impl Typing {
     ///
     /// # Errors
     ///
-    /// `ValueType` at the first node, outer before inner and left to right, that does not fit its
-    /// type; or want of memory.
+    /// `ValueType` at a node that does not fit its type, of several at the one that begins first in
+    /// the text; or want of memory.
     pub fn finish(self) -> Result<Forest, ValueFault>
         ensures { (types : List Decl) (root : Type_) (t : Term) → keep.IsTyped types root (complete t []) self
             → IsSettled types root t result }

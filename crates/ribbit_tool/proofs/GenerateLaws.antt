@@ -3,7 +3,7 @@ use Rattle.std.proofs.Common.{◌≡◌, ℕ, zero, suc, ◌+◌, ◌*◌, ◌%�
 use Rattle.std.specs.Fmt.{decimal}
 use Rattle.std.proofs.lemmas.Fmt.{length-decimal-le}
 use Rattle.rb_core.specs.Limits.{most_file_bytes}
-use Rattle.ribbit_tool.specs.Generate.{list_type, list_layout, up_line, main_line, sum_line, sum_lines, generated}
+use Rattle.ribbit_tool.specs.Generate.{list_type, list_layout, up_line, main_line, sum_line, sum_lines, generated_file}
 
 pub sums_next : (functions i n : ℕ) → sum_lines functions i (n + 1) ≡ sum_lines functions i n ++ sum_line (i + n) ((i + n + 1) % functions)
 sums_next functions i n = let z : suc n ≡ n + 1 = omega arith in ap (sum_lines functions i) (sym z) ∙ more i n
@@ -47,7 +47,7 @@ sums_short functions i (suc n) some few le =
     let e = length-append (sum_line i ((i + 1) % functions)) (sum_lines functions (i + 1) n) in
     omega (arith, here, rest, e)
 
-pub generated_short : (functions : ℕ) → 1 ≤ functions → functions ≤ 2000 → length (generated functions) ≤ most_file_bytes
+pub generated_short : (functions : ℕ) → 1 ≤ functions → functions ≤ 2000 → length (generated_file functions) ≤ most_file_bytes
 generated_short functions some few =
     let sums = sums_short functions 0 functions some few (omega (arith, few)) in
     let head = list_type ++ list_layout ++ up_line in

@@ -29,11 +29,11 @@ use Rattle.rb_target.specs.declared.outcome.End.{End}
 use Rattle.ribbit_tool.specs.Answers.{AnswersCommand}
 use Rattle.ribbit_tool.specs.Count.{Counts, IsMainTally, count_text}
 use Rattle.ribbit_tool.specs.Exec.{end_due}
-use Rattle.ribbit_tool.specs.Generate.{generated}
+use Rattle.ribbit_tool.specs.Generate.{generated_file}
 use Rattle.ribbit_tool.specs.Headlines.{SaysImage, ImageHeadline, SaysCount, CountHeadline, GenerateHeadline}
 use Rattle.ribbit_tool.specs.Image.{Images, IsImageOf, ShowWhole}
 use Rattle.ribbit_tool.specs.Promise.{Counting, GivesDue, IsPromised}
-use Rattle.ribbit_tool.specs.Run.{answer_due, laid_all, source_answer, unbounded, whole_answer}
+use Rattle.ribbit_tool.specs.Run.{answer_due, laid_all, source_answer, answer_of_any_size, whole_answer}
 use Rattle.ribbit_tool.proofs.HeadlineLaws.{Ready, ready_as, of_calls, says}
 
 -- Images ------------------------------------------------------------------------------------
@@ -53,7 +53,7 @@ module _ (agreed : LaidOut) (args : List Value) (limits : Limits) (end : End) (m
     pub due : due_to end ≡ answer_due (λ v. image_text (memory_image words m)) limits.calls a taken
 
   at_end : (l : Laid) (e : SourceEnd) → laid_all p agreed.layouts limits args ≡ l
-      → EndsAs (plan_of agreed) true (result_type p.funs p.main) (empty_memory limits.region) l e (end_over end m) → ShowsEnd (unbounded l e)
+      → EndsAs (plan_of agreed) true (result_type p.funs p.main) (empty_memory limits.region) l e (end_over end m) → ShowsEnd (answer_of_any_size l e)
   at_end (Over full) e laid h = record { words = []; show = λ v is. absurd (cc is); due = ap due_to h }
   at_end (Fits blocks next) Spent laid h = record { words = []; show = λ v is. absurd (cc is); due = ap due_to h }
   at_end (Fits blocks next) (Done v left) laid (words, is, grown, represents) =
@@ -125,11 +125,11 @@ generate_headlined words source out err steps status r = record {
   text = λ functions written calm.
       let parsed : r.parsed ≡ Ok (gen functions) = one_meaning words r.parsed (Ok (gen functions)) r.meant written in
       let given = r.complete calm in
-      let is : given.0 ≡ printed (generated functions) 0 = subst (λ (x : Parsed). AnswersCommand x (handed_out source) given.0) parsed given.1 in
+      let is : given.0 ≡ printed (generated_file functions) 0 = subst (λ (x : Parsed). AnswersCommand x (handed_out source) given.0) parsed given.1 in
       let g = subst (λ (d : Due). GivesDue d out err steps status) is given.2 in (g.status_is, g.shown.0, g.shown.1);
   counts = λ functions limits written p a args spelled calm.
       let parsed : r.parsed ≡ Ok (genrun functions limits) = one_meaning words r.parsed (Ok (genrun functions limits)) r.meant written in
       let given = r.complete calm in
       let owed : AnswersCommand (Ok (genrun functions limits)) (handed_out source) given.0 = subst (λ (x : Parsed). AnswersCommand x (handed_out source) given.0) parsed given.1 in
-      count_says p args limits given.0 (ready_as (Counted limits) [] (generated functions) p a args spelled given.0 owed) out err steps status given.2;
+      count_says p args limits given.0 (ready_as (Counted limits) [] (generated_file functions) p a args spelled given.0 owed) out err steps status given.2;
 }

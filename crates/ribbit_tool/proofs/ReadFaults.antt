@@ -17,7 +17,7 @@ use Rattle.ribbit_tool.specs.Check.{ChecksFile}
 use Rattle.ribbit_tool.specs.Compiling.{CompilesFile}
 use Rattle.ribbit_tool.specs.Count.{CountsFile}
 use Rattle.ribbit_tool.specs.Exec.{Executes}
-use Rattle.ribbit_tool.specs.Generate.{generated}
+use Rattle.ribbit_tool.specs.Generate.{generated_file}
 use Rattle.ribbit_tool.specs.Image.{ImagesFile}
 use Rattle.ribbit_tool.specs.Layout.{LaysOutFile}
 use Rattle.ribbit_tool.specs.Peek.{Peeks}
@@ -119,7 +119,7 @@ module _ (source : Source) where
   fault_of (Ok (image file limits values)) due turn h seven = one_missing file file_limit (λ bs d. ImagesFile limits values bs d) due turn (λ bs k. images_other bs due limits values k) h seven
   fault_of (Ok (count file limits values)) due turn h seven = one_missing file file_limit (λ bs d. CountsFile limits values bs d) due turn (λ bs k. counts_other bs due limits values k) h seven
   fault_of (Ok (gen functions)) due turn h seven = let zero = ap (λ (d : Due). status_of d) h in absurd (omega (arith, seven, zero))
-  fault_of (Ok (genrun functions limits)) due turn h seven = absurd (counts_other (generated functions) due limits [] h seven)
+  fault_of (Ok (genrun functions limits)) due turn h seven = absurd (counts_other (generated_file functions) due limits [] h seven)
   fault_of (Ok (exec code function limits words)) due turn h seven =
       one_missing code code_limit (λ bs d. Executes function limits words bs d) due turn (λ bs k. executes_other bs due function limits words k) h seven
   fault_of (Ok (value file second)) due turn h seven =

@@ -39,13 +39,13 @@ sum_lines functions i zero = []
 sum_lines functions i (suc count) = sum_line i ((i + 1) % functions) ++ sum_lines functions (i + 1) count
 
 -- the file with so many functions: the type, its layout, `up`, the functions, and `main`
-abbrev pub generated : ℕ → List ℕ
-generated functions = list_type ++ list_layout ++ up_line ++ sum_lines functions 0 functions ++ main_line
+abbrev pub generated_file : ℕ → List ℕ
+generated_file functions = list_type ++ list_layout ++ up_line ++ sum_lines functions 0 functions ++ main_line
 
 -- what is due to `gen`: the file with so many functions is printed, which takes no steps
 abbrev pub Generates : ℕ → Due → Type 0
-Generates functions due = due ≡ printed (generated functions) 0
+Generates functions due = due ≡ printed (generated_file functions) 0
 
 -- what is due to `genrun`: what `count` says of the file with so many functions, whose `main` takes no values
 abbrev pub CountsGenerated : ℕ → Limits → Due → Type 0
-CountsGenerated functions limits due = CountsFile limits [] (generated functions) due
+CountsGenerated functions limits due = CountsFile limits [] (generated_file functions) due

@@ -1,6 +1,7 @@
--- The headline: where a file is accepted and its arguments are of `main`'s types, the run prints the value of the
--- source's meaning, or names it as over the node limit, or says that the calls are spent or the region is full
--- exactly where the source, with the blocks that its layouts ask for, first passes that limit. A sink takes what is
+-- The headline of `run`. Let a file be accepted, and let the words spell arguments of `main`. Then the output gets
+-- the text of the value that the source means, or the error output gets one line: that this value has too many nodes,
+-- or which of the two limits the source meets first, that of calls or that of the region, into which go the blocks
+-- that values need in their layouts. A sink takes what is
 -- written; `out` is the output and `err` the error output, each before and after a call. A source hands out files by
 -- name. The limits are the number of calls that the run may make, and the address at which its region, the memory of
 -- the run, ends.

@@ -21,7 +21,7 @@ use Rattle.rb_target.specs.Text.{code_text}
 use Rattle.rb_target.specs.declared.code.CodeFun.{CodeFun}
 use Rattle.ribbit_tool.specs.Compiling.{IsCompiled, IsLaidOut}
 use Rattle.ribbit_tool.specs.Count.{IsMainTally, count_text}
-use Rattle.ribbit_tool.specs.Generate.{generated}
+use Rattle.ribbit_tool.specs.Generate.{generated_file}
 use Rattle.ribbit_tool.specs.Headline.{OfCalls, SaysAnswer}
 use Rattle.ribbit_tool.specs.Image.{ShowWhole}
 use Rattle.ribbit_tool.specs.Promise.{IsCalm}
@@ -92,7 +92,7 @@ CountHeadline = OfCalls count SaysCount
 -- what is promised of `gen`, the text of the file, and of `genrun`, what its run did
 pub record GenerateHeadline (words : List (List ℕ)) (out err : Change) (status : ℕ) : Type 0 where
   pub text : (functions : ℕ) → IsWordsOf (gen functions) words → IsCalm out err status
-      → (status ≡ 0) × Took out (generated functions) × Took err []
+      → (status ≡ 0) × Took out (generated_file functions) × Took err []
   pub counts : (functions : ℕ) (limits : Limits) → IsWordsOf (genrun functions limits) words
-      → (p : Program) → IsAccepted (generated functions) p → (args : List Value) → Spell p [] args
+      → (p : Program) → IsAccepted (generated_file functions) p → (args : List Value) → Spell p [] args
       → IsCalm out err status → SaysCount p args limits out err status

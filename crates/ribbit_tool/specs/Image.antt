@@ -41,15 +41,23 @@ abbrev pub ShowWhole : Program → List Layout → Limits → List Value → Lis
 ShowWhole p layouts limits args words m =
     (v : Value) → whole_answer p layouts limits args ≡ Shown v → IsImageOf p layouts limits args v words m
 
--- The source's answer is due, and of its value, which is never too large, an image.
+-- What is due to a run of this code, which is compiled from the program, on these arguments, where they fit: an image
+-- of the value that the source answers, however large it is, or the line of the limit that the call passes first.
 pub record Images (agreed : LaidOut) (code : List CodeFun) (args : List Value) (limits : Limits)
     (due : Due) : Type 0 where
+  -- the steps that the run takes
   pub taken : ℕ
+  -- the switches that it goes through
   pub switches : ℕ
+  -- both are so many as the code's run on words that represent the arguments, over a fresh region, has
   pub counted : IsCounted agreed code args limits.calls (empty_memory limits.region) taken switches
+  -- the words of the image
   pub words : List ℕ
+  -- the memory with the image's blocks
   pub memory : Memory
+  -- where the source answers a value, they are an image of it
   pub show : ShowWhole agreed.covered.program agreed.layouts limits args words memory
+  -- what is due: the image's text, or the line of the limit, after these steps
   pub shown : due ≡ answer_due (λ v. image_text (memory_image words memory)) limits.calls
       (whole_answer agreed.covered.program agreed.layouts limits args) taken
 

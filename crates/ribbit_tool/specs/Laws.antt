@@ -26,8 +26,8 @@ AreExecuted = (funs : List CodeFun) → IsValid funs → (name : List ℕ) (limi
 
 -- What `exec` answers to the text of code that `compile` may write of a typed program: it runs the function
 -- of the program that has this name on the words, which represent its arguments where no block is, and the
--- run does what the source does. So it shows words that represent the value, or says that the calls are spent
--- or the region is full where the source first passes that limit. It is never trapped.
+-- run does what the source does. So it shows words that represent the value, or tells which limit the source
+-- passes first, that of calls or that of the region. It is never trapped.
 abbrev pub CompiledTextsRun : Type 0
 CompiledTextsRun =
     (agreed : LaidOut) → IsTyped agreed.covered.program → (code : List CodeFun) → IsCompiled agreed code

@@ -58,7 +58,7 @@ IsCutOff due out err =
     ((status_of due ≡ 0) × CutOff out (text_of_due due) × TriesText err write_fault_line)
     ⊎ ((status_of due ≢ 0) × Took out [] × CutOff err (text_of_due due))
 
--- The source tells that nothing is held under the name that was to be opened last.
+-- The name that was to be opened last is that of no file, which the source tells.
 pub record LastIsAbsent (source : Source) : Type 0 where
   pub told : IsTrue source.tells
   pub name : List ℕ
@@ -75,7 +75,7 @@ pub record IsPromised (words : List (List ℕ)) (source : Source) (out err : Cha
   -- the files of the command were read in turn, each once at most and one byte over its limit at most
   pub reads : ReadsInTurn (files_of parsed) source
   -- a status other than 8 and that of want of memory is the right one for what was read, with its text and its
-  -- steps; so a fault is never taken for the end of a file
+  -- steps; so no read that failed passes as the end
   pub right : status ≢ 8 → status ≢ status_number NoMemory → GivesAnswer parsed source out err steps status
   -- where no write failed, the answer is the right one, want of memory aside
   pub complete : IsCalm out err status → GivesAnswer parsed source out err steps status

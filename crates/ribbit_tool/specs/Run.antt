@@ -81,14 +81,15 @@ laid_all p layouts limits args =
 
 -- the answer to a call that ends so, its blocks laid like this, however many nodes, numbers and constructions, the
 -- value has
-abbrev pub unbounded : Laid → SourceEnd → answer.Answer
-unbounded (Over full) end = answer.Full full
-unbounded (Fits blocks next) Spent = answer.Spent
-unbounded (Fits blocks next) (Done v left) = answer.Shown v
+abbrev pub answer_of_any_size : Laid → SourceEnd → answer.Answer
+answer_of_any_size (Over full) end = answer.Full full
+answer_of_any_size (Fits blocks next) Spent = answer.Spent
+answer_of_any_size (Fits blocks next) (Done v left) = answer.Shown v
 
 -- what the source comes to by the call of `main` on these values, however many nodes the value has
 abbrev pub whole_answer : Program → List Layout → Limits → List Value → answer.Answer
-whole_answer p layouts limits args = unbounded (laid_all p layouts limits args) (call_of p p.main limits.calls args).end
+whole_answer p layouts limits args =
+    answer_of_any_size (laid_all p layouts limits args) (call_of p p.main limits.calls args).end
 
 -- Runs --------------------------------------------------------------------------------------
 

@@ -20,6 +20,7 @@ use rb_accept::accepting::accept;
 use rb_accept::reading::{FILE_LIMIT, read_within};
 use rb_command::limits::Limits;
 use rb_core::program::Program;
+use rb_core::text::push;
 use rb_edge::seq::Name;
 use rb_edge::source::Source;
 use rb_edge::steps::{Ledger, Steps};
@@ -30,7 +31,6 @@ use rb_lines::refusal::{Refusal, Refused};
 use rb_lines::status::Status;
 use rb_run::answer::{Answer, Bounds};
 use rb_run::count::{Counted, Tally, count_main};
-use rb_show::text::push;
 use rb_values::forest::Forest;
 use std::alloc::{AllocError, Global};
 

@@ -9,13 +9,13 @@
 ghost use Rattle.std.specs.Prelude.{◌≡◌, ◌++◌, ℕ, IfOk, OnOk};
 ghost use Rattle.rb_command.specs.View.{limits_view};
 ghost use Rattle.rb_lines.specs.View.{Meets};
-ghost use Rattle.ribbit_tool.specs.Generate.{CountsGenerated, Generates, generated, sum_line, sum_lines};
+ghost use Rattle.ribbit_tool.specs.Generate.{CountsGenerated, Generates, generated_file, sum_line, sum_lines};
 
 use crate::count::count_bytes;
 use rb_command::limits::{Functions, Limits};
+use rb_core::text::push;
 use rb_edge::steps::{Ledger, Steps};
 use rb_lines::refusal::Refusal;
-use rb_show::text::push;
 use std::alloc::{AllocError, Global};
 
 // The line with the type of lists.
@@ -64,7 +64,7 @@ fn push_sums(alloc: Global, text: &mut Vec<u8>, functions: Functions) -> Result<
 
 // The text of the file with so many functions.
 fn generate(alloc: Global, functions: Functions) -> Result<Vec<u8>, AllocError>
-    ensures { IfOk result (λ text. text.items ≡ generated functions.count) }
+    ensures { IfOk result (λ text. text.items ≡ generated_file functions.count) }
 {
     let mut text = Vec::from_slice(alloc, LIST_TYPE)?;
     push(&mut text, LIST_LAYOUT)?;

@@ -19,7 +19,7 @@ use Rattle.rb_auto.specs.declared.form.Form.TheVariants.{Packed}
 use Rattle.rb_auto.specs.declared.room.Room.{Room}
 use Rattle.rb_auto.specs.Fields.{cons_of}
 use Rattle.rb_auto.specs.Widths.{con_width, shape}
-use Rattle.rb_auto.specs.Derived.{derived}
+use Rattle.rb_auto.specs.Derived.{derived_layout}
 use Rattle.rb_auto.specs.Completed.{with_layouts}
 use Rattle.rb_auto.specs.inner.Standing.{EachDerivedLeaf, TagFits}
 
@@ -48,13 +48,13 @@ HasRoom p rooms t tag width =
 abbrev pub HasFittingParts : Type 0
 HasFittingParts = (p : Program) (decls : List LayoutDecl) (rooms : List Room) (t tag width : ℕ)
     → TagFits p t (Packed tag width) → FieldsFit p decls rooms t → HasRoom p rooms t tag width
-    → decl_of decls t ≡ Some (derived p rooms t (Packed tag width))
+    → decl_of decls t ≡ Some (derived_layout p rooms t (Packed tag width))
     → EachDerivedLeaf p decls rooms t (Packed tag width) (λ n leaf. (i : ℕ) (item : Item)
     → slice_get (items_of decls t n) i ≡ Some item → ItemFits decls (open_positions p.types leaf.prov) item)
 
 -- A6: a leaf of a packed layout holds each bit or word of each field once, and nothing else, where the fields fit
 abbrev pub HoldsItsFields : Type 0
 HoldsItsFields = (p : Program) (decls : List LayoutDecl) (rooms : List Room) (t tag width : ℕ)
-    → FieldsFit p decls rooms t → decl_of decls t ≡ Some (derived p rooms t (Packed tag width))
+    → FieldsFit p decls rooms t → decl_of decls t ≡ Some (derived_layout p rooms t (Packed tag width))
     → EachDerivedLeaf p decls rooms t (Packed tag width)
     (λ n leaf. HoldsOnce (with_layouts p decls) leaf (items_of decls t n))

@@ -14,7 +14,7 @@ use Rattle.rb_layout.specs.A8.{AllSplitWell}
 use Rattle.rb_layout.specs.A9.{LeafFlattens}
 use Rattle.rb_auto.specs.declared.form.Form.{Form}
 use Rattle.rb_auto.specs.declared.room.Room.{Room}
-use Rattle.rb_auto.specs.Derived.{derived}
+use Rattle.rb_auto.specs.Derived.{derived_layout}
 use Rattle.rb_auto.specs.inner.Standing.{TagFits, EachDerivedLeaf, flat_derived}
 
 -- P holds of any program with layouts `decls`, by any rooms, for any type t and form
@@ -23,7 +23,7 @@ OfEach P = (p : Program) (decls : List LayoutDecl) (rooms : List Room) (t : ℕ)
 
 -- A1: the word of a derived layout has 1 to 64 bits, where the tag fits
 abbrev pub HasAShape : Type 0
-HasAShape = OfEach (λ p decls rooms t form. TagFits p t form → HasShape (Some (derived p rooms t form)))
+HasAShape = OfEach (λ p decls rooms t form. TagFits p t form → HasShape (Some (derived_layout p rooms t form)))
 
 -- A2: each leaf of a derived layout has one root word, of the shape's width
 abbrev pub HasItsRoot : Type 0

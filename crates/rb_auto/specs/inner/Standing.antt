@@ -14,7 +14,7 @@ use Rattle.rb_auto.specs.declared.form.Form.{Form}
 use Rattle.rb_auto.specs.declared.room.Room.{Room}
 use Rattle.rb_auto.specs.Fields.{cons_of}
 use Rattle.rb_auto.specs.Items.{form_tag, form_width}
-use Rattle.rb_auto.specs.Derived.{derived}
+use Rattle.rb_auto.specs.Derived.{derived_layout}
 use Rattle.rb_auto.specs.Completed.{with_layouts}
 
 -- the tag tells the type's constructors apart, of which there is one at least, and the word has room for it
@@ -27,7 +27,7 @@ pub record TagFits (p : Program) (t : ℕ) (form : Form) : Type 0 where
 module _ (p : Program) (decls : List LayoutDecl) (rooms : List Room) (t : ℕ) (form : Form) where
   -- the flat form of the layout derived for type t in this form, in program p with the layouts `decls`
   abbrev pub flat_derived : Layout
-  flat_derived = flat_layout (with_layouts p decls) (derived p rooms t form)
+  flat_derived = flat_layout (with_layouts p decls) (derived_layout p rooms t form)
 
   -- P holds of each leaf of the flat derived layout, with its number
   abbrev pub EachDerivedLeaf : (ℕ → Leaf → Type 0) → Type 0

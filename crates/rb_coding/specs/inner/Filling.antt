@@ -16,8 +16,7 @@ use Rattle.rb_layout.specs.A4.{IsBlockWidth}
 use Rattle.rb_layout.specs.Readable.{AreShort}
 use Rattle.rb_layout.specs.Words.{size_of}
 use Rattle.rb_rel.specs.Placing.{Laid, Over, Request, request_of, block_before, lay}
-use Rattle.rb_rel.proofs.Storing.{with_blocks}
-use Rattle.rb_rel.proofs.Layers.{address_at}
+use Rattle.rb_rel.specs.Storing.{with_blocks, address_at}
 use Rattle.rb_coding.specs.declared.fault.EncodeFault.{EncodeFault}
 use Rattle.rb_coding.specs.declared.fault.EncodeFault.TheVariants.{Full, Memory as NoMemory}
 use Rattle.rb_coding.specs.Encoding.{laid_before}

@@ -8,8 +8,7 @@ use Rattle.rb_bytes.specs.Memory.{Memory, IsWidth}
 use Rattle.rb_layout.specs.declared.layout.FlatTree.{FlatTree}
 use Rattle.rb_layout.specs.Splits.{Test, Is, IsNone, Route, routes_of, splits_of}
 use Rattle.rb_layout.specs.A7.{IsLiteral}
-use Rattle.rb_rel.specs.Reading.{read_loc}
-use Rattle.rb_rel.proofs.Trees.{LiteralsDistinct}
+use Rattle.rb_rel.specs.Reading.{LiteralsDistinct, read_loc}
 
 -- this number is read at a location, by loads of widths that a memory has
 pub record ReadsNumber (ws : List ℕ) (m : Memory) (loc : Loc) (n : ℕ) : Type 0 where

@@ -2,7 +2,7 @@
 -- level of a value or of one of its subvalues, the layer: a number, or a constructor with a count of fields. It is
 -- named by its number, from 0, and stands behind the nodes of its fields; a list of nodes has the value of each.
 -- `types` are the data types of the program, by number; a table has the size and, so far, the words of each node.
-use Rattle.std.specs.Prelude.{ℕ, zero, suc, ◌+◌, ◌-◌, List, [], ◌∷◌, ◌++◌, length, map, slice_get, slice_index, slice_index_or}
+use Rattle.std.specs.Prelude.{ℕ, zero, suc, ◌+◌, ◌-◌, List, [], ◌∷◌, ◌++◌, length, map, slice_index, slice_index_or}
 use Rattle.rb_core.specs.declared.value.Value.{Value, Num, Con}
 use Rattle.rb_core.specs.declared.value.Value.TheOpen as V
 use Rattle.rb_core.specs.declared.value.Value.TheOpen.{Value-F}
@@ -10,8 +10,8 @@ use Rattle.rb_core.specs.declared.value.Value.TheFolds.{para-Value}
 use Rattle.rb_core.specs.declared.types.Ty.{Ty}
 use Rattle.rb_core.specs.declared.types.Ty.TheVariants.{Int, Named}
 use Rattle.rb_core.specs.declared.types.DataDecl.{DataDecl}
-use Rattle.rb_core.specs.Values.{subs, fields_in}
-use Rattle.rb_layout.specs.Positions.{types_or_none}
+use Rattle.rb_core.specs.Values.{subs}
+use Rattle.rb_core.specs.Typing.{field_types}
 use Rattle.rb_values.specs.Nodes.{at}
 use Rattle.rb_values.specs.declared.nodes.Layer.{Layer}
 use Rattle.rb_values.specs.declared.nodes.Layer.TheVariants as L
@@ -20,7 +20,7 @@ use Rattle.rb_coding.specs.declared.table.Table.{Table}
 -- the types of the fields of constructor k of a type; none where there is no such constructor, as at an integer type
 abbrev pub field_list : List DataDecl → Ty → ℕ → List Ty
 field_list types (Int bits) k = []
-field_list types (Named t) k = types_or_none (fields_in (slice_get types t) k)
+field_list types (Named t) k = field_types types (record { ty = t; con = k })
 
 -- the types of the fields of a node at a type, by its outermost level: a number has none
 abbrev pub layer_fields : List DataDecl → Ty → Layer → List Ty

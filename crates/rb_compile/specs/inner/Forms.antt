@@ -73,10 +73,10 @@ held_or d x [] = d
 held_or d x (l ∷ ls) = held_or (if l.var == x then Some (record { ty = l.ty; slots = l.slots }) else d) x ls
 
 -- a variable that is held takes no code; one that is bound nowhere is 0, as in the meaning, in a new slot
-abbrev pub variable_is : Option Held → Sheet → Sheet → Held → Type 0
-variable_is None old new held = IsOne old (Const old.slots 0) (Int 64) new held
-variable_is (Some h) old new held = (new ≡ old) × (held ≡ h)
+abbrev pub IsHeldOrZero : Option Held → Sheet → Sheet → Held → Type 0
+IsHeldOrZero None old new held = IsOne old (Const old.slots 0) (Int 64) new held
+IsHeldOrZero (Some h) old new held = (new ≡ old) × (held ≡ h)
 
 -- variable number x takes no code where it is among those that are bound, and is 0 in a new slot where it is not
 abbrev pub VariableIs : List Local → ℕ → Sheet → Sheet → Held → Type 0
-VariableIs ls x old new held = variable_is (held_or None x ls) old new held
+VariableIs ls x old new held = IsHeldOrZero (held_or None x ls) old new held

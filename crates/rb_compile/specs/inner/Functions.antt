@@ -6,6 +6,7 @@ use Rattle.rb_core.specs.Coverage.{function_sites}
 use Rattle.rb_core.specs.Typing.{binder_of, type_of}
 use Rattle.rb_core.specs.WellNumbered.{expression_is_numbered}
 use Rattle.rb_target.specs.declared.code.CodeFun.{CodeFun}
+use Rattle.rb_target.specs.Sheet.{most_param_words}
 use Rattle.rb_target.specs.Validity.{IsLower}
 use Rattle.rb_fragment.specs.Plan.{Plan}
 use Rattle.rb_fragment.specs.Functions.{Compiles, param_words}
@@ -14,14 +15,14 @@ use Rattle.rb_compile.specs.inner.Ready.{SitesAreReady}
 
 -- f, as function number g, is as in a program that was accepted: the plan's program is typed and its layouts agree,
 -- f's body has the type of its result and is well numbered within some variables, its matches are ready, its
--- parameters have at most 256 words together, and its name is spelled as a function's
+-- parameters have at most `most_param_words` words together, and its name is spelled as a function's
 pub record FunIsReady (plan : Plan) (g : ℕ) (f : Fun) : Type 0 where
   pub sound : PlanIsSound plan
   pub typed : type_of plan.program.types plan.program.funs f.body (Some f.result) (map binder_of f.params) ≡ Ok f.result
   pub within : List ℕ
   pub numbered : expression_is_numbered plan.program.types plan.program.funs f.body within ≡ true
   pub ready_sites : SitesAreReady plan g (function_sites plan.program.types plan.program.funs f)
-  pub few : param_words plan f ≤ 256
+  pub few : param_words plan f ≤ most_param_words
   pub named : IsLower f.name
 
 -- each function of the program is ready, as in one that was accepted, and there are fewer than 2^64

@@ -24,8 +24,8 @@ abbrev pub nodes_left : Frame → ℕ
 nodes_left f = sum (map node_count f.rest.now)
 
 -- how many nodes stand behind the holes of all frames of a stack; 0 where there is no frame
-abbrev pub remaining : List Frame → ℕ
-remaining fs = sum (map nodes_left fs)
+abbrev pub nodes_behind : List Frame → ℕ
+nodes_behind fs = sum (map nodes_left fs)
 
 -- what a step down at the value v does to the stack `old`: either v is copied as w, which equals it, and the
 -- stack stays; or the value `first` is the one to copy next, the stack `new` with it is still the same whole,
@@ -33,7 +33,8 @@ remaining fs = sum (map nodes_left fs)
 abbrev pub Enters : Value → List Frame → List Frame → Turn → Type 0
 Enters v old new (Copied w) = (w ≡ v) × (new ≡ old)
 Enters v old new (Next first) =
-    (plugged new first.now ≡ plugged old v) × (node_count first.now + remaining new < node_count v + remaining old)
+    (plugged new first.now ≡ plugged old v)
+    × (node_count first.now + nodes_behind new < node_count v + nodes_behind old)
 
 -- what going up does with a copy v of what the hole of the stack `old` wants: either w is the copy of the
 -- whole, which is v itself where the stack has no frame; or the value `next` is the one to copy next, the stack
@@ -42,4 +43,4 @@ Enters v old new (Next first) =
 abbrev pub GoesUp : Value → List Frame → List Frame → Turn → Type 0
 GoesUp v old new (Copied w) = w ≡ plugged old v
 GoesUp v old new (Next next) =
-    (plugged new next.now ≡ plugged old v) × (node_count next.now + remaining new ≤ remaining old)
+    (plugged new next.now ≡ plugged old v) × (node_count next.now + nodes_behind new ≤ nodes_behind old)

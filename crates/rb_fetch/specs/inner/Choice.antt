@@ -1,7 +1,7 @@
 -- What code that chooses the leaf of a construction owes. The arguments hs are values in slots, one a field of the
 -- constructor, and what is shown of one is a pattern that it matches. A way is where runs have come to one leaf: an
--- open jump, the leaf's number, and parts of the value in slots; hole k is the jump of way k, to be set. An open
--- position of a leaf is a wildcard of its provenance, the pattern of the values that it holds. A representation is
+-- open jump, the leaf's number, and parts of the value in slots; hole k is the jump of way k, to be set. A leaf's
+-- provenance is the pattern of the values that it holds; its wildcards are the open positions. A representation is
 -- clean where all bits are 0 that stand in no part of a word. A plan has a program and its layouts, and a sheet is a
 -- function's code so far. A leaf is one of the forms in which a layout stores the values of a data type. To look into
 -- an argument is to find its leaf, or that of a part of it, by code. `agreed` is a program with layouts that agree

@@ -2,8 +2,8 @@
 -- a layout stores the values of a data type. A way is where runs have come to one leaf, with the parts of the value
 -- in slots; its arm is the code behind it, which makes the value in that leaf. The slots that arms share are those in
 -- which the first arm has the value's words; the others copy theirs there. Each arm ends with an open jump, which is
--- set to where all meet. An open position of a leaf is a wildcard of its provenance, the pattern of the values that
--- it holds. A plan has a program and its layouts, and a sheet is a function's code so far.
+-- set to where all meet. A leaf's provenance is the pattern of the values that it holds; its wildcards are the open
+-- positions. A plan has a program and its layouts, and a sheet is a function's code so far.
 use Rattle.std.specs.Prelude.{◌≡◌, ℕ, zero, suc, ◌+◌, ◌<◌, ◌≤◌, Bool, true, List, [], ◌++◌, length, Option, Some, None, slice_get}
 use Rattle.rb_core.specs.declared.value.Value.{Value}
 use Rattle.rb_core.specs.declared.types.Ty.TheVariants.{Named}

@@ -35,8 +35,8 @@ is_among [] path = false
 is_among (p ∷ ps) path = if same_path p path then true else is_among ps path
 
 -- the position of each of the constructors ps is among `looked`
-abbrev pub are_looked_at : List (List ℕ) → List Place → Type 0
-are_looked_at looked ps = (k : ℕ) (p : Place) → slice_get ps k ≡ Some p → is_among looked p.path ≡ true
+abbrev pub AreLookedAt : List (List ℕ) → List Place → Type 0
+AreLookedAt looked ps = (k : ℕ) (p : Place) → slice_get ps k ≡ Some p → is_among looked p.path ≡ true
 
 -- p is one of the constructors ps, and its position is not among `looked`
 abbrev pub IsNext : List (List ℕ) → List Place → Place → Type 0

@@ -22,9 +22,9 @@ use Rattle.rb_image.specs.Walks.{Waypoint, Where}
 use Rattle.rb_image.specs.Ways.{leads_below}
 
 -- what was found, and none where a fault was
-abbrev pub given : {A : Type 0} → Result A ImageFault → Option A
-given (Err fault) = None
-given (Ok x) = Some x
+abbrev pub found_or_none : {A : Type 0} → Result A ImageFault → Option A
+found_or_none (Err fault) = None
+found_or_none (Ok x) = Some x
 
 -- Words --------------------------------------------------------------------------------------
 

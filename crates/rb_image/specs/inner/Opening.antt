@@ -18,5 +18,5 @@ abbrev pub place_below : Examined → List ℕ → Open → List At
 place_below x path o = place_at x.layouts.now (examined_word x) (path ++ o.path) o.ty
 
 -- the places at these open positions below a path of a leaf that was examined, in their order
-abbrev pub opened : Examined → List ℕ → List Open → List At
-opened x path opens = flat_map (place_below x path) opens
+abbrev pub places_below : Examined → List ℕ → List Open → List At
+places_below x path opens = flat_map (place_below x path) opens

@@ -10,10 +10,10 @@ use Rattle.rb_image.specs.Orders.{LocatedPart, order_of}
 use Rattle.rb_image.specs.Splits.{word_at}
 
 -- how many words those blocks have whose addresses are not known, that is 0 or missing
-abbrev pub unread : List Block → List ℕ → ℕ
-unread [] ats = 0
-unread (b ∷ bs) [] = length b.words + unread bs []
-unread (b ∷ bs) (at ∷ ats) = (if at == 0 then length b.words else 0) + unread bs ats
+abbrev pub unread_words : List Block → List ℕ → ℕ
+unread_words [] ats = 0
+unread_words (b ∷ bs) [] = length b.words + unread_words bs []
+unread_words (b ∷ bs) (at ∷ ats) = (if at == 0 then length b.words else 0) + unread_words bs ats
 
 -- s is one of the parts of a leaf, each with the word that it is of, as `order_of` lists them
 abbrev pub IsLeafPart : Leaf → LocatedPart → Type 0

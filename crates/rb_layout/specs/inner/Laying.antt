@@ -16,7 +16,7 @@ use Rattle.rb_layout.specs.declared.layout.Kind.{Kind}
 use Rattle.rb_layout.specs.declared.layout.Leaf.{Leaf}
 use Rattle.rb_layout.specs.declared.layout.Part.{Part}
 use Rattle.rb_layout.specs.Positions.{open_positions}
-use Rattle.rb_layout.specs.Flattening.{WithBlocks, Laying, arm_numbering, flat_leaf, in_turn, inlined, item_laid, items_laid, kind_laid, part_laid, type_at}
+use Rattle.rb_layout.specs.Flattening.{WithBlocks, Laying, arm_numbering, flat_leaf, in_turn, words_inlined, item_laid, items_laid, kind_laid, part_laid, type_at}
 
 -- what is placed, its things behind the things xs and its blocks behind these blocks
 abbrev pub behind : {A : Type 0} → List A → List Block → WithBlocks (List A) → WithBlocks (List A)
@@ -60,7 +60,7 @@ kind_for p prov = kind_laid p.layouts (open_positions p.types prov)
 
 -- the words of the field at a path in a program's leaf with this provenance; none where the path is not open
 abbrev pub field_for : Program → Pat → List ℕ → List FlatWord
-field_for p prov path = inlined p.layouts (type_at (open_positions p.types prov) path) path
+field_for p prov path = words_inlined p.layouts (type_at (open_positions p.types prov) path) path
 
 -- the flat form of a program's leaf with this provenance and these items
 abbrev pub leaf_for : Program → Pat → List LayItem → Leaf

@@ -42,9 +42,9 @@ changes types layouts (suc n) es =
     turns types layouts es (slice_get es n) || changes types layouts n (looked types layouts n es)
 
 -- how many entries are not marked
-abbrev pub pending : List Entry → ℕ
-pending [] = 0
-pending (e ∷ es) = if e.barred then pending es else suc (pending es)
+abbrev pub entries_left : List Entry → ℕ
+entries_left [] = 0
+entries_left (e ∷ es) = if e.barred then entries_left es else suc (entries_left es)
 
 -- a goal holds: its type has a layout with a leaf, each leaf has the goal's root word, and there a finite derivation
 -- shows that it never has the literal

@@ -26,7 +26,7 @@ open_type (P.Con at c ps) ty = None
 
 -- the type at the end of a walk along a path, where the position there is open; None where a field is missing on the
 -- way, or the walk is nowhere from the start
-abbrev pub walked : List DataDecl → Option (Pat × Ty) → List ℕ → Option Ty
-walked types None path = None
-walked types (Some (p, ty)) [] = open_type (out-Pat p) ty
-walked types (Some (p, ty)) (i ∷ path) = walked types (sub_pattern types p i) path
+abbrev pub type_along : List DataDecl → Option (Pat × Ty) → List ℕ → Option Ty
+type_along types None path = None
+type_along types (Some (p, ty)) [] = open_type (out-Pat p) ty
+type_along types (Some (p, ty)) (i ∷ path) = type_along types (sub_pattern types p i) path

@@ -49,7 +49,7 @@ use Rattle.rb_match.specs.declared.knowledge.Known.TheVariants as K
 use Rattle.rb_match.specs.declared.knowledge.Spot.{Spot}
 use Rattle.rb_match.specs.Bounding.{choosing_look}
 use Rattle.rb_match.specs.declared.knowledge.Edge.{Edge}
-use Rattle.rb_match.specs.inner.Knowing.{AreKnown, IsEdge, SpotsBelow, View, seen}
+use Rattle.rb_match.specs.inner.Knowing.{AreKnown, IsEdge, SpotsBelow, View, view_of}
 use Rattle.rb_match.specs.inner.Places.{HaveWords, IsLookedAt}
 
 -- Links -----------------------------------------------------------------------------------------
@@ -70,8 +70,8 @@ is_test (Some (Test position arms other)) = true
 
 -- what an edge to a node carries of what is known: all of it where the node is a test, and nothing where it is a
 -- clause, at which nothing is asked any more
-abbrev pub carried : List GraphNode → ℕ → List Known → List Known
-carried nodes node known = if is_test (slice_get nodes node) then known else []
+abbrev pub known_at_node : List GraphNode → ℕ → List Known → List Known
+known_at_node nodes node known = if is_test (slice_get nodes node) then known else []
 
 -- Numbers ---------------------------------------------------------------------------------------
 
@@ -104,7 +104,7 @@ edge_at pc arm node known = record { hole = record { pc = pc; arm = arm; leaf = 
 
 -- the edge by an instruction and its arm to a node of a graph, which carries what is known only where that is a test
 abbrev pub edge_in : List GraphNode → ℕ → Option ℕ → ℕ → List Known → Edge
-edge_in nodes pc arm node known = edge_at pc arm node (carried nodes node known)
+edge_in nodes pc arm node known = edge_at pc arm node (known_at_node nodes node known)
 
 -- the edges by the arms of the switch at instruction pc, counted from arm k, each to the node of one of these arms of
 -- a test, and with these facts where that node is a test
@@ -233,8 +233,8 @@ pub record LeavesWhere (To : View → ℕ → Type 0) (plan : Plan) (final : Lis
   pub runs : next start s w ≡ next target slots world
   pub keeps : Keeps n s slots
   pub later : IsLater most w world
-  pub known : AreKnown (seen plan clean v spots slots w.memory) edge.known
-  pub is_node : To (seen plan clean v spots slots w.memory) edge.hole.leaf
+  pub known : AreKnown (view_of plan clean v spots slots w.memory) edge.known
+  pub is_node : To (view_of plan clean v spots slots w.memory) edge.hole.leaf
 
 -- the node that is reached, number k, is the given one, whatever is known of the value
 abbrev pub IsNode : ℕ → View → ℕ → Type 0
@@ -270,7 +270,7 @@ pub record AskedThere (To : ℕ → View → ℕ → Type 0) (plan : Plan) (ty :
       → Finishes final new.code (holes_of edges) (length old.code) (length new.code)
       → (s : List ℕ) (w : World) (v part : Value) (clean : Bool) (ws : List ℕ) (node : ℕ) → new.slots ≤ length s
       → IsGood w.memory → AreMeant reads s w.memory ws → Rep plan w.memory clean ty part ws
-      → AreKnown (seen plan clean v spots s w.memory) known → part_at v position ≡ Some part
+      → AreKnown (view_of plan clean v spots s w.memory) known → part_at v position ≡ Some part
       → take_link arms other (out-Value part) ≡ Some node
       → LeavesWhere (To node) plan final next edges n (choosing_look plan.layouts ty) (length old.code)
       s w clean v spots
@@ -309,7 +309,7 @@ pub record Asked (To : ℕ → View → ℕ → Type 0) (plan : Plan) (ty : Ty) 
       → Finishes final new.code (holes_of edges) (length old.code) (length new.code)
       → (s : List ℕ) (w : World) (v part : Value) (clean : Bool) (ws : List ℕ) (node : ℕ) → new.slots ≤ length s
       → IsGood w.memory → AreMeant words s w.memory ws → Rep plan w.memory clean ty v ws
-      → AreKnown (seen plan clean v spots s w.memory) known → part_at v position ≡ Some part
+      → AreKnown (view_of plan clean v spots s w.memory) known → part_at v position ≡ Some part
       → take_link arms other (out-Value part) ≡ Some node
       → LeavesWhere (To node) plan final next edges n (choosing_look plan.layouts at) (length old.code)
       s w clean v spots

@@ -46,7 +46,7 @@ use Rattle.rb_core.specs.declared.value.Value.{out-Value}
 use Rattle.rb_core.specs.declared.value.Value.TheOpen as V
 use Rattle.rb_match.specs.declared.knowledge.Known.{Known}
 use Rattle.rb_match.specs.declared.knowledge.Spot.{Spot}
-use Rattle.rb_match.specs.inner.Knowing.{AreKnown, seen}
+use Rattle.rb_match.specs.inner.Knowing.{AreKnown, view_of}
 use Rattle.rb_match.specs.Bounding.{binding_bound, binding_look, choosing_look, looks_with, places_below, places_in}
 use Rattle.rb_match.specs.inner.Asking.{AreSpots}
 use Rattle.rb_match.specs.inner.Saving.{IsThere, mend_at, mends_from}
@@ -130,7 +130,7 @@ BindsField agreed t leaf words sub field i old new bound =
 
 -- these facts are so of value v, with these spots, contents of the slots and memory, and the memory is good
 abbrev pub AreSeen : Plan → Bool → Value → List Spot → List Known → List ℕ → Memory → Type 0
-AreSeen plan clean v spots known s m = IsGood m × AreKnown (seen plan clean v spots s m) known
+AreSeen plan clean v spots known s m = IsGood m × AreKnown (view_of plan clean v spots s m) known
 
 -- Run on the words of a value that begins with the constructor, whatever its leaf, the appended code saves
 -- fields: the facts are known then. It does at most the switches of one look, and keeps the first n slots.

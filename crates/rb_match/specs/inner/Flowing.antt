@@ -36,7 +36,7 @@ use Rattle.rb_match.specs.declared.knowledge.Known.{Known}
 use Rattle.rb_match.specs.declared.knowledge.Edge.{Edge}
 use Rattle.rb_match.specs.declared.knowledge.Spot.{Spot}
 use Rattle.rb_match.specs.Bounding.{TypedPosition, choosing_look, looks_with}
-use Rattle.rb_match.specs.inner.Knowing.{AreKnown, IsEdge, seen}
+use Rattle.rb_match.specs.inner.Knowing.{AreKnown, IsEdge, view_of}
 use Rattle.rb_match.specs.inner.Places.{IsLookedAt, IsPlaceIn}
 use Rattle.rb_match.specs.inner.Asking.{AreSpots, holes_of, StandOpen}
 
@@ -117,7 +117,7 @@ pub record Arrives (job : Job) (final : List Instr) (next : Next) (edges : List 
   pub keeps : Keeps job.base s slots
   pub path : List TypedPosition
   pub later : IsLater (looks job.plan path) w world
-  pub known : AreKnown (seen job.plan clean v job.spots slots w.memory) edge.known
+  pub known : AreKnown (view_of job.plan clean v job.spots slots w.memory) edge.known
   pub on : IsOn job v edge.hole.leaf path
 
 -- the run from where the job began comes to instruction `here`, at which the code of node n begins, with these facts
@@ -129,7 +129,7 @@ pub record Lands (job : Job) (next : Next) (here : ℕ) (known : List Known) (n 
   pub keeps : Keeps job.base s slots
   pub path : List TypedPosition
   pub later : IsLater (looks job.plan path) w world
-  pub is_known : AreKnown (seen job.plan clean v job.spots slots w.memory) known
+  pub is_known : AreKnown (view_of job.plan clean v job.spots slots w.memory) known
   pub on : IsOn job v n path
 
 -- the job's reads mean the words of a value of which the graph takes a clause, in a good memory

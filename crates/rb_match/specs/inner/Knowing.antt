@@ -30,8 +30,8 @@ pub record View : Type 0 where
   pub memory : Memory
 
 -- the view of a value with these spots, in these slots and this memory
-abbrev pub seen : Plan → Bool → Value → List Spot → List ℕ → Memory → View
-seen plan clean v spots s m = record { plan = plan; clean = clean; value = v; spots = spots; slots = s; memory = m }
+abbrev pub view_of : Plan → Bool → Value → List Spot → List ℕ → Memory → View
+view_of plan clean v spots s m = record { plan = plan; clean = clean; value = v; spots = spots; slots = s; memory = m }
 
 -- the slots of each of these spots are below n
 abbrev pub SpotsBelow : ℕ → List Spot → Type 0

@@ -45,27 +45,27 @@ use Rattle.rb_match.specs.declared.knowledge.Spot.{Spot}
 use Rattle.rb_match.specs.declared.knowledge.Edge.{Edge}
 use Rattle.rb_match.specs.declared.spots.Whole.{Whole}
 use Rattle.rb_match.specs.Bounding.{choosing_look}
-use Rattle.rb_match.specs.inner.Knowing.{AreKnown, View, seen}
+use Rattle.rb_match.specs.inner.Knowing.{AreKnown, View, view_of}
 use Rattle.rb_match.specs.inner.Asking.{AreGroups, AreOpen, AreSpots, Asked, AskedThere, LeadOneWay, LeavesWhere, edge_in, group_for, holes_of, leaf_con, take_link}
 use Rattle.rb_match.specs.inner.Saving.{IsThereWith}
 use Rattle.rb_match.specs.inner.Threading.{AllFollow, LeadsOn}
 
 -- those of the holes, in their order, whose `leaf`, the number of a group of leaves, is i or higher: no way is made
 -- for them yet
-abbrev pub pending : ℕ → List Hole → List Hole
-pending i [] = []
-pending i (h ∷ hs) = if nat_le i h.leaf then h ∷ pending i hs else pending i hs
+abbrev pub holes_to_set : ℕ → List Hole → List Hole
+holes_to_set i [] = []
+holes_to_set i (h ∷ hs) = if nat_le i h.leaf then h ∷ holes_to_set i hs else holes_to_set i hs
 
 -- those of the holes whose `leaf`, the number of a group of leaves, is i or higher are holes of the code
 abbrev pub CanOpen : List Instr → List Hole → ℕ → Type 0
-CanOpen code holes i = (h : Hole) → IsHoleAmong h (pending i holes) → IsHole code h
+CanOpen code holes i = (h : Hole) → IsHoleAmong h (holes_to_set i holes) → IsHole code h
 
 -- Behind code that finds a leaf, from the sheet `mid` up to instruction `top`, stand the ways of the groups below i,
 -- and leave by these edges; the holes of the other groups are open. Each target of the edges leads to one node.
 pub record WaysStand (mid : Sheet) (top : ℕ) (holes : List Hole) (i : ℕ) (b : Sheet) (edges : List Edge) : Type 0 where
   pub grows : Grows mid.code b.code
   pub high : top ≤ length b.code
-  pub are_holes : (h : Hole) → IsHoleAmong h (pending i holes) → (length mid.code ≤ h.pc) × (h.pc < top)
+  pub are_holes : (h : Hole) → IsHoleAmong h (holes_to_set i holes) → (length mid.code ≤ h.pc) × (h.pc < top)
       × IsHole b.code h
   pub are_open : AreOpen top b.code edges
   pub one : LeadOneWay edges
@@ -125,13 +125,14 @@ shared_edge nodes count known h = edge_in nodes h.pc h.arm (h.leaf - count) know
 
 -- the edges by those of the holes that are of groups that are not one leaf alone, whose numbers are from `count` on
 abbrev pub shared_edges : List GraphNode → ℕ → List Known → List Hole → List Edge
-shared_edges nodes count known holes = map (shared_edge nodes count known) (pending count holes)
+shared_edges nodes count known holes = map (shared_edge nodes count known) (holes_to_set count holes)
 
 -- some facts lead from node number `node` on to node k that are so of the view's value, perhaps with other contents
 -- of the slots than the view's, since those of spots may have been written on the way
 abbrev pub IsOnward : LaidOut → Whole → ℕ → View → ℕ → Type 0
 IsOnward agreed graph node view k =
-    (told : List Known) × (s : List ℕ) × AreKnown (seen view.plan view.clean view.value view.spots s view.memory) told
+    (told : List Known) × (s : List ℕ)
+    × AreKnown (view_of view.plan view.clean view.value view.spots s view.memory) told
     × LeadsFrom agreed graph told node k
 
 -- Ways ------------------------------------------------------------------------------------------
@@ -154,7 +155,7 @@ pub record WaysLead (To : ℕ → View → ℕ → Type 0) (plan : Plan) (n t : 
     (known : List Known) (position : List ℕ) (arms : List GraphArm) (other : Option ℕ) (groups : List (Option ℕ))
     (mid : Sheet) (holes : List Hole) (i : ℕ) (b : Sheet) (edges : List Edge) : Type 0 where
   pub adds : Adds plan mid b
-  pub leaves : OnLeaves plan t words spots known position arms other mid b (pending i holes ++ holes_of edges)
+  pub leaves : OnLeaves plan t words spots known position arms other mid b (holes_to_set i holes ++ holes_of edges)
       (λ final next s w clean v leaf node. (group : ℕ) → group_at groups leaf ≡ Some group
       → (group < i → LeavesWhere (To node) plan final next edges n (choosing_look plan.layouts (Named t))
       (length mid.code) s w clean v spots)

@@ -26,7 +26,7 @@ use Rattle.rb_match.specs.declared.place.Place.{Place}
 use Rattle.rb_match.specs.declared.place.Begun.{Begun}
 use Rattle.rb_match.specs.Bounding.{places_in}
 use Rattle.rb_match.specs.Bounding as bounding
-use Rattle.rb_match.specs.inner.Knowing.{AreKnown, SpotsBelow, seen}
+use Rattle.rb_match.specs.inner.Knowing.{AreKnown, SpotsBelow, view_of}
 
 -- the path leads to an open position of leaf number `leaf` of data type t, that is, a wildcard of its provenance, at
 -- which type ty is
@@ -46,7 +46,7 @@ pub record ReadsPlace (plan : Plan) (ty : Ty) (words : List Read) (spots : List 
   pub count : length place.reads ≡ words_needed plan place.ty
   pub fit : (k : ℕ) → AllFit k words → SpotsBelow k spots → AllFit k place.reads
   pub means : (clean : Bool) (v : Value) (ws s : List ℕ) (m : Memory) → IsGood m → AreMeant words s m ws
-      → Rep plan m clean ty v ws → AreKnown (seen plan clean v spots s m) known
+      → Rep plan m clean ty v ws → AreKnown (view_of plan clean v spots s m) known
       → IsPartMeant plan clean place.ty v position place.reads s m
 
 -- in each plan of the layouts the place is where the part of the value at the position is, if these facts are known

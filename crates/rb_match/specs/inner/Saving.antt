@@ -38,7 +38,7 @@ use Rattle.rb_match.specs.declared.knowledge.Known.{Known}
 use Rattle.rb_match.specs.declared.knowledge.Spot.{Spot}
 use Rattle.rb_match.specs.declared.saving.Source.{Source}
 use Rattle.rb_match.specs.Bounding.{rebuilding}
-use Rattle.rb_match.specs.inner.Knowing.{AreKnown, seen}
+use Rattle.rb_match.specs.inner.Knowing.{AreKnown, view_of}
 use Rattle.rb_match.specs.inner.Asking.{AreSpots}
 
 -- Spots -----------------------------------------------------------------------------------------
@@ -196,7 +196,7 @@ SavesPart agreed t leaf path words spot old new =
 -- the words of a part of data type t stand in slots, and these facts are so of the value v that it is part of
 abbrev pub IsThereWith : Plan → Bool → ℕ → Value → Value → List ℕ → List Spot → List Known → List ℕ → Memory → Type 0
 IsThereWith plan clean t v part words spots known s m =
-    IsThere plan clean t part words s m × AreKnown (seen plan clean v spots s m) known
+    IsThere plan clean t part words s m × AreKnown (view_of plan clean v spots s m) known
 
 -- Where the part at a position has this leaf, the appended code goes from some facts on a value to more, with at most
 -- `most` switches.

@@ -31,7 +31,7 @@ use Rattle.rb_match.specs.declared.knowledge.Known.{Known}
 use Rattle.rb_match.specs.declared.knowledge.Edge.{Edge}
 use Rattle.rb_match.specs.declared.knowledge.Spot.{Spot}
 use Rattle.rb_match.specs.Bounding.{TypedPosition}
-use Rattle.rb_match.specs.inner.Knowing.{AreKnown, IsKnown, View, seen}
+use Rattle.rb_match.specs.inner.Knowing.{AreKnown, IsKnown, View, view_of}
 use Rattle.rb_match.specs.inner.Places.{IsLookedAt}
 use Rattle.rb_match.specs.inner.Asking.{StandOpen, take_link}
 use Rattle.rb_match.specs.inner.Flowing.{IsOn, job_of, looks, tree_from}
@@ -112,7 +112,7 @@ LeadsOn agreed ty pats nodes known n m =
     → let job = job_of plan base spots ty words pats nodes root first in
     IsPlanOf agreed plan → LinksAreLower nodes
     → (clean : Bool) (v : Value) (s : List ℕ) (w : Memory) (clause : ℕ) (path : List TypedPosition)
-    → AreKnown (seen plan clean v spots s w) known → clause_taken (tree_from nodes root) v ≡ Some clause
+    → AreKnown (view_of plan clean v spots s w) known → clause_taken (tree_from nodes root) v ≡ Some clause
     → IsOn job v n path
     → (longer : List TypedPosition) × (looks plan path ≤ looks plan longer) × IsOn job v m longer
 

@@ -61,7 +61,8 @@ row_key r = option_map key_of_head (row_head r)
 abbrev pub rows_at : List (List Pat) → List ℕ → List (List Pat)
 rows_at rows ns = map (λ i. slice_index_or rows i []) ns
 
--- x groups the rows by the heads that they begin with: the rows that have a head's key, and those without one, have
--- together the specialised rows for it that all rows have, in the same order
+-- x serves for the specialised rows of all rows: those that x has with a head's key, and those that it has without
+-- one, have together the specialised rows for the head that all rows have, in the same order. How x spreads the rows
+-- over the groups is left open; it may have all of them without a key
 abbrev pub AreGrouped : List (List Pat) → Groups → Type 0
 AreGrouped rows x = (h : Head) (n : ℕ) → special h n (rows_at rows (near x (key_of_head h))) ≡ special h n rows

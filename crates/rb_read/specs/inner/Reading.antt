@@ -2,7 +2,8 @@
 -- or what is below its constructor, a layout's tree, or a pointer part of a leaf. It is read with a number of levels
 -- left, and the nodes inside it with one fewer; with none left it is too deep. `total` is the number of all tokens of
 -- the file, so that what begins at `ts` has the number `total - length ts`. A function named `.._from` takes the
--- first token apart from those behind it. A token is refused where the reader is stuck at it.
+-- first token apart from those behind it. One named `.._one` reads one layer of a node: it takes the readers of what
+-- stands inside, and has the first token looked at by `.._from`. A token is refused where the reader is stuck at it.
 use Rattle.std.specs.Prelude.{ℕ, zero, suc, ◌-◌, List, [], ◌∷◌, length, Bool, true, false, if◌then◌else◌, Option, Some, None, Ok, Err}
 use Rattle.rb_core.specs.declared.expression.Op.{Op}
 use Rattle.rb_core.specs.declared.types.Auto.TheVariants as auto
@@ -41,21 +42,21 @@ use Rattle.rb_read.specs.inner.Combining.{Reader, stuck, deep, pair, into, expec
 use Rattle.rb_read.specs.inner.Tokens.{lower_name, upper_name, number, field, width}
 
 -- the name with this text, whose token has number `at`
-abbrev pub named : ℕ → List ℕ → NameTree
-named at name = record { at = at; text = name }
+abbrev pub name_tree : ℕ → List ℕ → NameTree
+name_tree at name = record { at = at; text = name }
 
 -- no form that is wanted begins with the token before these: it is stuck at that one
-abbrev pub refused : {A : Type 0} → Reader A
-refused ts = Err (stuck (suc (length ts)))
+abbrev pub stop_before : {A : Type 0} → Reader A
+stop_before ts = Err (stuck (suc (length ts)))
 
 -- Types, constructors and parameters.
 
 -- a type, by its first token and over those behind it: of integers of 1 to 64 bits, or a name with a capital, with
 -- the number of its token; a width of 0 or over 64, and any other token, is refused
 unfoldable pub type_from : ℕ → Token → Reader TyTree
-type_from total (token.Uint bits) ts = if is_uint_width bits then Ok (ty.Int bits, ts) else refused ts
-type_from total (token.Upper name) ts = Ok (ty.Named (named (total - suc (length ts)) name), ts)
-type_from total _ ts = refused ts
+type_from total (token.Uint bits) ts = if is_uint_width bits then Ok (ty.Int bits, ts) else stop_before ts
+type_from total (token.Upper name) ts = Ok (ty.Named (name_tree (total - suc (length ts)) name), ts)
+type_from total _ ts = stop_before ts
 
 -- a type, `u8` or `T`; it is stuck where no token is left
 unfoldable pub type_tree : ℕ → Reader TyTree
@@ -90,11 +91,11 @@ begins_pattern t = is_symbol symbol.Underscore t
 -- a pattern, by its first token, which has number `at`, and over those behind it: a name, a number or `_`; any other
 -- token is refused. `inner` reads the patterns inside
 unfoldable pub pattern_from : Reader PatTree → ℕ → Token → Reader PatTree
-pattern_from inner at (token.Upper name) ts = into (λ ps. pat.Con at (named at name) ps) (in_parens inner) ts
-pattern_from inner at (token.Lower name) ts = Ok (pat.Var at (named at name), ts)
+pattern_from inner at (token.Upper name) ts = into (λ ps. pat.Con at (name_tree at name) ps) (in_parens inner) ts
+pattern_from inner at (token.Lower name) ts = Ok (pat.Var at (name_tree at name), ts)
 pattern_from inner at (token.Num n) ts = Ok (pat.Num at n, ts)
 pattern_from inner at (token.Symbol symbol.Underscore) ts = Ok (pat.Wild at, ts)
-pattern_from inner at _ ts = refused ts
+pattern_from inner at _ ts = stop_before ts
 
 -- a pattern, where `inner` reads the patterns inside; it is stuck where no token is left
 unfoldable pub pattern_one : Reader PatTree → ℕ → Reader PatTree
@@ -119,9 +120,9 @@ begins_below t = is_symbol symbol.Underscore t
 -- what stands below a provenance's constructor, by its first token, which has number `at`, and over those behind it:
 -- a name with a capital, or `_`; any other token is refused. `inner` reads what is inside
 unfoldable pub below_from : Reader PatTree → ℕ → Token → Reader PatTree
-below_from inner at (token.Upper name) ts = into (λ ps. pat.Con at (named at name) ps) (in_parens inner) ts
+below_from inner at (token.Upper name) ts = into (λ ps. pat.Con at (name_tree at name) ps) (in_parens inner) ts
 below_from inner at (token.Symbol symbol.Underscore) ts = Ok (pat.Wild at, ts)
-below_from inner at _ ts = refused ts
+below_from inner at _ ts = stop_before ts
 
 -- what stands below a provenance's constructor, where `inner` reads what is inside; it is stuck where no token is
 -- left
@@ -137,8 +138,8 @@ below (suc n) total ts = below_one (λ us. below n total us) total ts
 -- a provenance, by its first token, which has number `at`, and over those behind it: a name with a capital; any other
 -- token is refused. `inner` reads what is below its constructor
 unfoldable pub provenance_from : Reader PatTree → ℕ → Token → Reader PatTree
-provenance_from inner at (token.Upper name) ts = into (λ ps. pat.Con at (named at name) ps) (in_parens inner) ts
-provenance_from inner at _ ts = refused ts
+provenance_from inner at (token.Upper name) ts = into (λ ps. pat.Con at (name_tree at name) ps) (in_parens inner) ts
+provenance_from inner at _ ts = stop_before ts
 
 -- a provenance, where `inner` reads what is below its constructor; it is stuck where no token is left
 unfoldable pub provenance_one : Reader PatTree → ℕ → Reader PatTree
@@ -167,9 +168,9 @@ begins_expression (token.Reserved w) = is_form (form_of w)
 begins_expression _ = false
 
 -- what a name with number `at` is: a variable where no parentheses stand behind it, or a call with those arguments
-abbrev pub called : ℕ → List ℕ → Option (List ExprTree) → ExprTree
-called at name None = expr.Var at (named at name)
-called at name (Some es) = expr.Call at (named at name) es
+abbrev pub name_or_call : ℕ → List ℕ → Option (List ExprTree) → ExprTree
+name_or_call at name None = expr.Var at (name_tree at name)
+name_or_call at name (Some es) = expr.Call at (name_tree at name) es
 
 -- an operation made of its two operands; its word has number `at`
 abbrev pub operation_of : ℕ → Op → Unit {0} × (ExprTree × (Unit {0} × (ExprTree × Unit {0}))) → ExprTree
@@ -232,19 +233,19 @@ module _ (inside : Reader PatTree) (inner : Reader ExprTree) (total at : ℕ) wh
   from_form form.Conversion ts = conversion ts
   from_form form.Binding ts = binding ts
   from_form form.Matching ts = matching ts
-  from_form form.Other ts = refused ts
+  from_form form.Other ts = stop_before ts
 
   -- an expression, by its first token and over those behind it: a number, a name, or a reserved word that begins one;
   -- any other token is refused
   unfoldable pub expression_from : Token → Reader ExprTree
   expression_from (token.Num n) ts = Ok (expr.Num at n, ts)
-  expression_from (token.Lower name) ts = into (λ o. called at name o) arguments ts
-  expression_from (token.Upper name) ts = into (λ es. expr.Build at (named at name) es) (in_parens inner) ts
+  expression_from (token.Lower name) ts = into (λ o. name_or_call at name o) arguments ts
+  expression_from (token.Upper name) ts = into (λ es. expr.Build at (name_tree at name) es) (in_parens inner) ts
   expression_from (token.Reserved w) ts = from_form (form_of w) ts
-  expression_from _ ts = refused ts
+  expression_from _ ts = stop_before ts
 
--- an expression, where `inside` reads the patterns inside, and `inner` the expressions; it is stuck where no token is
--- left
+-- one layer of an expression, where `inside` reads the patterns in it, and `inner` the expressions in it; it is stuck
+-- where no token is left
 unfoldable pub expression_one : Reader PatTree → Reader ExprTree → ℕ → Reader ExprTree
 expression_one inside inner total [] = Err (stuck 0)
 expression_one inside inner total (t ∷ ts) = expression_from inside inner total (total - suc (length ts)) t ts
@@ -317,7 +318,7 @@ ends_path t = is_symbol symbol.OpenBracket t
 unfoldable pub path_end_from : Token → Reader PathEnd
 path_end_from (token.Symbol symbol.OpenBracket) ts = into (λ r. sliced r.0 r.1) range_rest ts
 path_end_from (token.Reserved word.Word) ts = into (λ j. numbered j) number ts
-path_end_from _ ts = refused ts
+path_end_from _ ts = stop_before ts
 
 -- what stands behind a path in a part, `[0:8]` or `word 1`; it is stuck where no token is left
 unfoldable pub path_end : Reader PathEnd
@@ -351,7 +352,7 @@ module _ (pointed : Reader PartKind) where
   part_kind_from (token.Symbol symbol.Dot) ts =
       into field_part_of (pair field (pair more_fields (optional ends_path path_end))) ts
   part_kind_from (token.Symbol symbol.Arrow) ts = pointed ts
-  part_kind_from _ ts = refused ts
+  part_kind_from _ ts = stop_before ts
 
   -- what a part holds: `= 5`, `.0`, `.0[0:8]`, `.0 word 1` or `-> 8 { inline .1 }`; it is stuck where no token is
   -- left
@@ -369,7 +370,7 @@ module _ (pointed : Reader PartKind) where
   item_from (token.Reserved word.Word) ts =
       into word_item_of (pair number (pair (expect symbol.OpenBrace) (any_closed part symbol.CloseBrace))) ts
   item_from (token.Reserved word.Inline) ts = into (λ p. lay_item.Inline p) path ts
-  item_from _ ts = refused ts
+  item_from _ ts = stop_before ts
 
   -- an item of a leaf or block: a word with its parts, `word 32 { [0:32] .0 }`, or the words of a field, `inline .1`;
   -- it is stuck where no token is left
@@ -397,9 +398,9 @@ lay_item_tree zero ts = item_one no_pointer ts
 lay_item_tree (suc n) ts = item_one (pointer (λ us. lay_item_tree n us)) ts
 
 -- what stands behind `->` in a part, by the levels that are left
-unfoldable pub pointed : ℕ → Reader PartKind
-pointed zero ts = no_pointer ts
-pointed (suc n) ts = pointer (λ us. lay_item_tree n us) ts
+unfoldable pub pointer_tree : ℕ → Reader PartKind
+pointer_tree zero ts = no_pointer ts
+pointer_tree (suc n) ts = pointer (λ us. lay_item_tree n us) ts
 
 -- Trees of layouts.
 
@@ -451,7 +452,7 @@ unfoldable pub tree_by : Reader SplitTree → Reader SplitTree → Reader SplitT
 tree_by inner whole [] = Err (stuck 0)
 tree_by inner whole (token.Reserved word.Split ∷ ts) = split_rest inner ts
 tree_by inner whole (token.Upper name ∷ ts) = whole (token.Upper name ∷ ts)
-tree_by inner whole (t ∷ ts) = refused ts
+tree_by inner whole (t ∷ ts) = stop_before ts
 
 -- a layout's tree, with so many levels left
 unfoldable pub layout_tree : ℕ → ℕ → Reader SplitTree
@@ -471,7 +472,7 @@ pub data LayoutRest : Type 0 where
 unfoldable pub auto_from : Token → Reader Auto
 auto_from (token.Reserved word.Boxed) ts = Ok (auto.Boxed, ts)
 auto_from (token.Reserved word.Packed) ts = Ok (auto.Packed, ts)
-auto_from _ ts = refused ts
+auto_from _ ts = stop_before ts
 
 -- how a layout is derived: the word `boxed` or `packed`; it is stuck where no token is left
 unfoldable pub auto_word : Reader Auto
@@ -503,7 +504,7 @@ module _ (limit total : ℕ) where
       (pair (layout_tree limit total) (expect symbol.Semicolon)))) ts
   layout_rest_from (token.Symbol symbol.Equals) ts =
       into (λ p. derived p.0) (pair auto_word (expect symbol.Semicolon)) ts
-  layout_rest_from _ ts = refused ts
+  layout_rest_from _ ts = stop_before ts
 
   -- a layout behind its type's name, `<64> = ..;` or `= boxed;`; it is stuck where no token is left
   unfoldable pub layout_rest : Reader LayoutRest
@@ -538,7 +539,7 @@ module _ (limit total : ℕ) where
   file_item_from at (token.Reserved word.Type) ts = type_item ts
   file_item_from at (token.Reserved word.Layout) ts = layout_item at ts
   file_item_from at (token.Reserved word.Fun) ts = fun_item ts
-  file_item_from at _ ts = refused ts
+  file_item_from at _ ts = stop_before ts
 
   -- an item of a file: a type, a layout or a function; it is stuck where no token is left
   unfoldable pub file_item : Reader ItemTree

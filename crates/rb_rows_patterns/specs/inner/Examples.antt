@@ -1,4 +1,5 @@
--- Types for examples: colours, trees of colours, pairs of both, and six bits.
+-- Types for examples: colours, trees of colours, pairs of both, and six bits. They stand here, and not in proofs, since
+-- clauses of the rows cite them.
 use Rattle.std.specs.Prelude.{ℕ, List, [], ◌∷◌}
 use Rattle.rb_core.specs.declared.types.Con.{Con}
 use Rattle.rb_core.specs.declared.types.DataDecl.{DataDecl}

@@ -100,7 +100,7 @@ fn put_binary(
     a: &ExprTree,
     b: &ExprTree,
 ) -> Result<(), AllocError>
-    ensures { OnOk result ((l : ℕ) → Wrote (λ rest. spelling.reserved (op_word op) ∷ spelling.sym symbol.OpenParen
+    ensures { OnOk result ((l : ℕ) → Wrote (λ rest. spelling.word_token (op_word op) ∷ spelling.sym symbol.OpenParen
         ∷ expr_written a.now l (written.token comma
         ∷ expr_written b.now l (spelling.sym symbol.CloseParen ∷ rest))) out.old.items out.new.items) }
 {
@@ -123,9 +123,9 @@ fn put_let(
     a: &ExprTree,
     b: &ExprTree,
 ) -> Result<(), AllocError>
-    ensures { OnOk result ((l : ℕ) → Wrote (λ rest. spelling.reserved word.Let ∷ lower_written name.now
+    ensures { OnOk result ((l : ℕ) → Wrote (λ rest. spelling.word_token word.Let ∷ lower_written name.now
         (spelling.sym symbol.Colon ∷ ty_written ty.now (spelling.sym symbol.Equals
-        ∷ expr_written a.now l (spelling.reserved word.In ∷ expr_written b.now l rest))))
+        ∷ expr_written a.now l (spelling.word_token word.In ∷ expr_written b.now l rest))))
         out.old.items out.new.items) }
 {
     put_expr(alloc, out, b)?;
@@ -147,7 +147,7 @@ fn put_match(
     scrutinee: &ExprTree,
     clauses: &[ClauseTree],
 ) -> Result<(), AllocError>
-    ensures { OnOk result ((l : ℕ) → Wrote (λ rest. spelling.reserved word.Match
+    ensures { OnOk result ((l : ℕ) → Wrote (λ rest. spelling.word_token word.Match
         ∷ expr_written scrutinee.now l (spelling.sym symbol.OpenBrace
         ∷ some_with comma (at_level l (map clause_written clauses.now))
         (spelling.sym symbol.CloseBrace ∷ rest))) out.old.items out.new.items) }

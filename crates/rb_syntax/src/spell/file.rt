@@ -138,9 +138,9 @@ fn put_derived(
     name: &NameTree,
     auto: Auto,
 ) -> Result<(), AllocError>
-    ensures { OnOk result (Wrote (λ rest. spelling.reserved word.Layout
+    ensures { OnOk result (Wrote (λ rest. spelling.word_token word.Layout
         ∷ upper_written name.now (spelling.sym symbol.Equals
-        ∷ spelling.reserved (auto_word auto) ∷ spelling.sym symbol.Semicolon ∷ rest)) out.old.items out.new.items) }
+        ∷ spelling.word_token (auto_word auto) ∷ spelling.sym symbol.Semicolon ∷ rest)) out.old.items out.new.items) }
 {
     put_symbol(out, Symbol::Semicolon)?;
     put_word(out, word_of_auto(auto))?;

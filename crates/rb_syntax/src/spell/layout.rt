@@ -86,7 +86,7 @@ fn put_const(out: &mut Vec<Token>, n: u64) -> Result<(), AllocError>
 // Puts one word of the field at a path, which a part of a word holds, as `.0 word 1`.
 fn put_word_of(alloc: Global, out: &mut Vec<Token>, path: &[u32], j: u64) -> Result<(), AllocError>
     ensures { OnOk result (Wrote (λ rest. path_written path.now
-        (spelling.reserved word.Word ∷ spelling.num j ∷ rest)) out.old.items out.new.items) }
+        (spelling.word_token word.Word ∷ spelling.num j ∷ rest)) out.old.items out.new.items) }
 {
     put_num(out, j)?;
     put_word(out, ReservedWord::Word)?;
@@ -120,7 +120,7 @@ fn put_word_item(
     bits: u64,
     parts: &[PartDecl],
 ) -> Result<(), AllocError>
-    ensures { OnOk result ((l : ℕ) → Wrote (λ rest. spelling.reserved word.Word ∷ spelling.num bits
+    ensures { OnOk result ((l : ℕ) → Wrote (λ rest. spelling.word_token word.Word ∷ spelling.num bits
         ∷ spelling.sym symbol.OpenBrace
         ∷ any_with comma (at_level l (map part_written parts.now))
         (spelling.sym symbol.CloseBrace ∷ rest)) out.old.items out.new.items) }

@@ -117,7 +117,7 @@ pub(crate) fn put_split(
 // Puts the end of a split that has an `else`, as `else => .. }`.
 #[cycle(split)]
 fn put_else(alloc: Global, out: &mut Vec<Token>, tree: &SplitTree) -> Result<(), AllocError>
-    ensures { OnOk result ((l : ℕ) → Wrote (λ rest. spelling.reserved word.Else ∷ spelling.sym symbol.FatArrow
+    ensures { OnOk result ((l : ℕ) → Wrote (λ rest. spelling.word_token word.Else ∷ spelling.sym symbol.FatArrow
         ∷ split_written tree.now l (spelling.sym symbol.CloseBrace ∷ rest)) out.old.items out.new.items) }
 {
     put_symbol(out, Symbol::CloseBrace)?;
@@ -135,7 +135,7 @@ fn put_arms(
     loc: &Loc,
     arms: &[ArmTree],
 ) -> Result<(), AllocError>
-    ensures { OnOk result ((l : ℕ) → Wrote (λ rest. spelling.reserved word.Split
+    ensures { OnOk result ((l : ℕ) → Wrote (λ rest. spelling.word_token word.Split
         ∷ loc_written loc.now (spelling.sym symbol.OpenBrace
         ∷ each (at_level l (map arm_written arms.now)) rest)) out.old.items out.new.items) }
 {

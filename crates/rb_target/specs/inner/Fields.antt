@@ -9,6 +9,7 @@ use Rattle.std.specs.Cmp.Lexicographic.{pointwise}
 use Rattle.rb_bytes.specs.Memory.{most_block}
 use Rattle.rb_core.specs.Decimal.{number_in}
 use Rattle.rb_target.specs.Text.{op_text, key_text}
+use Rattle.rb_target.specs.Validity.{most_offset}
 use Rattle.rb_target.specs.declared.instr.AluOp.{AluOp}
 use Rattle.rb_target.specs.declared.instr.AluOp.TheVariants.{Add, Sub, Mul, And, Or, Xor, Eq, Lt}
 use Rattle.rb_target.specs.declared.instr.SwitchArm.{SwitchArm}
@@ -130,8 +131,8 @@ fields key.Copy = Any ∷ Any ∷ []
 fields key.Alu = Operation ∷ FromOne 64 ∷ Any ∷ Any ∷ Any ∷ []
 fields key.Take = Any ∷ Any ∷ Range ∷ []
 fields key.Put = Any ∷ Any ∷ Range ∷ []
-fields key.Load = Any ∷ Any ∷ Upto 511 ∷ Width ∷ []
-fields key.Store = Any ∷ Upto 511 ∷ Width ∷ Any ∷ []
+fields key.Load = Any ∷ Any ∷ Upto most_offset ∷ Width ∷ []
+fields key.Store = Any ∷ Upto most_offset ∷ Width ∷ Any ∷ []
 fields key.Place = Any ∷ FromOne most_block ∷ Align ∷ []
 fields key.Jump = Any ∷ []
 fields key.Switch = Any ∷ OrDash ∷ Pairs ∷ []

@@ -5,7 +5,7 @@ ghost use Rattle.std.specs.Prelude.{◌≡◌, IfOk, slice_get, drop, map};
 ghost use Rattle.rb_target.specs.inner.Fields as spec;
 
 use super::spot::{Field, Line};
-use crate::instr::{AluOp, Instr, SwitchArm};
+use crate::instr::{AluOp, Instr, MOST_OFFSET, SwitchArm};
 use crate::word::{Key, LineWord};
 use rb_bytes::memory::MOST_BLOCK;
 use rb_core::seq::Seq;
@@ -30,8 +30,18 @@ impl Key {
                 Field::Any,
             ],
             Key::Take | Key::Put => &[Field::Any, Field::Any, Field::Range],
-            Key::Load => &[Field::Any, Field::Any, Field::Upto(511), Field::Width],
-            Key::Store => &[Field::Any, Field::Upto(511), Field::Width, Field::Any],
+            Key::Load => &[
+                Field::Any,
+                Field::Any,
+                Field::Upto(MOST_OFFSET),
+                Field::Width,
+            ],
+            Key::Store => &[
+                Field::Any,
+                Field::Upto(MOST_OFFSET),
+                Field::Width,
+                Field::Any,
+            ],
             Key::Place => &[Field::Any, Field::FromOne(MOST_BLOCK), Field::Align],
             Key::Jump => &[Field::Any],
             Key::Switch => &[Field::Any, Field::OrDash, Field::Pairs],

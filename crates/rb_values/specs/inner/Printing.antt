@@ -12,13 +12,13 @@ use Rattle.rb_values.specs.declared.print.Frame.{Frame}
 
 -- what a frame has still to write: its fields from `next` on, up to the parenthesis behind the last
 abbrev pub frame_text : List DataDecl → List Value → Frame → List ℕ
-frame_text types vs f = fields_text (field_of types f.ty f.con) f.next
+frame_text types vs f = fields_text (field_of types f.con) f.next
     (map (text_of types) (drop f.next (subs (at vs f.node))))
 
 -- what all frames, the outermost first in their list, have still to write: the innermost writes first
-abbrev pub pending : List DataDecl → List Value → List Frame → List ℕ
-pending types vs [] = []
-pending types vs (f ∷ fs) = pending types vs fs ++ frame_text types vs f
+abbrev pub text_to_write : List DataDecl → List Value → List Frame → List ℕ
+text_to_write types vs [] = []
+text_to_write types vs (f ∷ fs) = text_to_write types vs fs ++ frame_text types vs f
 
 -- the work that a frame has left, which falls as it writes: one for its end, two for each node
 -- of its fields from `next`
@@ -42,12 +42,13 @@ AreFrames vs (f ∷ fs) = IsFrame vs f × AreFrames vs fs
 pub record Opened (types : List DataDecl) (vs : List Value) (node : ℕ) (ty : Ty) (old new : List Frame)
     (out written : List ℕ) : Type 0 where
   pub frames : AreFrames vs old → AreFrames vs new
-  pub text : written ++ pending types vs new ≡ out ++ (text_of types (at vs node) ty ++ pending types vs old)
+  pub text : written ++ text_to_write types vs new
+      ≡ out ++ (text_of types (at vs node) ty ++ text_to_write types vs old)
   pub less : work vs new + 1 ≤ work vs old + 2 * node_count (at vs node)
 
 -- one more field of a frame that was taken from the stack, or its end, is written
 pub record Turned (types : List DataDecl) (vs : List Value) (frame : Frame) (old new : List Frame)
     (out written : List ℕ) : Type 0 where
   pub frames : AreFrames vs new
-  pub text : written ++ pending types vs new ≡ out ++ (frame_text types vs frame ++ pending types vs old)
+  pub text : written ++ text_to_write types vs new ≡ out ++ (frame_text types vs frame ++ text_to_write types vs old)
   pub less : work vs new < work vs old + frame_work vs frame

@@ -101,19 +101,19 @@ each none rest = rest
 each (also t ts) rest = spelled t (sign.Comma ∷ each ts rest)
 
 -- the signs of the names that wait, the outermost first, with their whole fields, in front of `rest`
-abbrev pub shown_waits : List Wait → List Sign → List Sign
-shown_waits [] rest = rest
-shown_waits (o ∷ os) rest = shown_waits os (sign.Name o.at o.name ∷ sign.Open ∷ each o.fields rest)
+abbrev pub signs_of_waits : List Wait → List Sign → List Sign
+signs_of_waits [] rest = rest
+signs_of_waits (o ∷ os) rest = signs_of_waits os (sign.Name o.at o.name ∷ sign.Open ∷ each o.fields rest)
 
 -- the signs that led to a state, in front of `rest`
-abbrev pub shown : State → List Sign → List Sign
-shown (expecting os) rest = shown_waits os rest
-shown (named at x os) rest = shown_waits os (sign.Name at x ∷ rest)
-shown (complete t os) rest = shown_waits os (spelled t rest)
+abbrev pub signs_of_state : State → List Sign → List Sign
+signs_of_state (expecting os) rest = signs_of_waits os rest
+signs_of_state (named at x os) rest = signs_of_waits os (sign.Name at x ∷ rest)
+signs_of_state (complete t os) rest = signs_of_waits os (spelled t rest)
 
 -- the signs `ss` lead to state s: the state shows just them, and what follows on them is read as from the state
 pub record IsStateOf (ss : List Sign) (s : State) : Type 0 where
-  pub said : (rest : List Sign) → shown s rest ≡ ss ++ rest
+  pub said : (rest : List Sign) → signs_of_state s rest ≡ ss ++ rest
   pub same : (rest : List Sign) → answer (expecting []) (ss ++ rest) ≡ answer s rest
 
 -- The outline of a state.
@@ -136,9 +136,9 @@ outline_of (named at x os) = record { mode = mode.Name; depth = length os; nodes
 outline_of (complete t os) = record { mode = mode.Whole; depth = length os; nodes = waits_nodes os + term_nodes t }
 
 -- the outline of a state that may not be there; none where it is not
-abbrev pub outlined : Option State → Option Outline
-outlined None = None
-outlined (Some s) = Some (outline_of s)
+abbrev pub outline_or_none : Option State → Option Outline
+outline_or_none None = None
+outline_or_none (Some s) = Some (outline_of s)
 
 -- the outline behind a sign where a value is to begin; none where no value begins with it
 abbrev pub outline_begin : Outline → Sign → Option Outline

@@ -26,9 +26,9 @@ field_at None i = None
 field_at (Some tys) i = slice_get tys i
 
 -- the bytes of the nodes of a term that do not fit the type; no bytes where nothing is tried
-abbrev pub tried : List DataDecl → Option Ty → Term → List ℕ
-tried types None t = []
-tried types (Some ty) t = misfits types t ty
+abbrev pub misfits_at : List DataDecl → Option Ty → Term → List ℕ
+misfits_at types None t = []
+misfits_at types (Some ty) t = misfits types t ty
 
 -- the value that a term names at the type, as the only one of a list; no value where nothing is tried
 abbrev pub value_at : List DataDecl → Option Ty → Term → List Value
@@ -61,26 +61,26 @@ is_clean (Some p) = false
 module _ (types : List DataDecl) (root : Ty) where
   -- the type of the next value: `root` where no name waits, else that of the next field of the innermost name that
   -- waits; none where it is not tried
-  abbrev pub expected : List Wait → Option Ty
-  expected [] = Some root
-  expected (o ∷ os) = field_at (con_fields types (con_at types (expected os) o.name)) (term_count o.fields)
+  abbrev pub next_type : List Wait → Option Ty
+  next_type [] = Some root
+  next_type (o ∷ os) = field_at (con_fields types (con_at types (next_type os) o.name)) (term_count o.fields)
 
   -- the bytes of the nodes that do not fit, of the names that wait and of their whole fields,
   -- the outermost name first
   abbrev pub faults : List Wait → List ℕ
   faults [] = []
-  faults (o ∷ os) = faults os ++ wait_misfits types (expected os) o
+  faults (o ∷ os) = faults os ++ wait_misfits types (next_type os) o
 
   -- the values of the whole fields of the names that wait, those of the outermost name first
-  abbrev pub built : List Wait → List Value
-  built [] = []
-  built (o ∷ os) = built os ++ wait_values types (expected os) o
+  abbrev pub values_of_waits : List Wait → List Value
+  values_of_waits [] = []
+  values_of_waits (o ∷ os) = values_of_waits os ++ wait_values types (next_type os) o
 
   -- the frame of name o, which waits within the names `os`
   abbrev pub frame_of : Wait → List Wait → Frame
   frame_of o os = record {
     at = o.at;
-    con = con_at types (expected os) o.name;
+    con = con_at types (next_type os) o.name;
     next = term_count o.fields;
     clean = is_clean (first (faults os));
   }
@@ -94,13 +94,13 @@ module _ (types : List DataDecl) (root : Ty) where
   abbrev pub state_faults : State → List ℕ
   state_faults (expecting os) = faults os
   state_faults (named at x os) = faults (waits at x ∷ os)
-  state_faults (complete t os) = faults os ++ tried types (expected os) t
+  state_faults (complete t os) = faults os ++ misfits_at types (next_type os) t
 
   -- the values that are whole in a state, from left to right; a name whose fields may still begin has none yet
   abbrev pub state_values : State → List Value
-  state_values (expecting os) = built os
-  state_values (named at x os) = built (waits at x ∷ os)
-  state_values (complete t os) = built os ++ value_at types (expected os) t
+  state_values (expecting os) = values_of_waits os
+  state_values (named at x os) = values_of_waits (waits at x ∷ os)
+  state_values (complete t os) = values_of_waits os ++ value_at types (next_type os) t
 
   -- the frame of the name that stands last, where its fields may still begin; none in any other state
   abbrev pub state_name : State → Option Frame
@@ -129,7 +129,7 @@ module _ (types : List DataDecl) (root : Ty) where
     pub frames_are : frames ≡ frames_of os
     pub name_is : name ≡ None
     pub fault_is : fault ≡ first (faults (o ∷ os))
-    pub values_are : fault ≡ None → values ≡ built (o ∷ os)
+    pub values_are : fault ≡ None → values ≡ values_of_waits (o ∷ os)
 
 -- the state with a name that stands last taken as whole without fields; any other state as it is
 abbrev pub settled : State → State

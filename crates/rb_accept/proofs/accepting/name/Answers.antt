@@ -1,4 +1,4 @@
-use Rattle.rb_names.specs.Programs.{numbered}
+use Rattle.rb_names.specs.Programs.{program_of}
 use Rattle.rb_syntax.specs.Tokens.{tokens}
 use Rattle.rb_accept.specs.Accepting.{misnamed}
 use Rattle.rb_accept.proofs.Faults.{name_fault}
@@ -14,4 +14,4 @@ pub returns-in_ok-refused-in-Err-clause-refused : goal.returns-in_ok-refused-in-
 returns-in_ok-refused-in-Err-clause-refused c =
     let shown = c.in_ok-refused-in-Err.ensures in
     misnamed c.args.placed.now c.args.file.now c.requires.read c.in-Err.fault
-    (name_fault (numbered c.args.file.now) c.in-Err.fault shown.other c.in-Err.ensures.answers) shown.due
+    (name_fault (program_of c.args.file.now) c.in-Err.fault shown.other c.in-Err.ensures.answers) shown.due

@@ -1,11 +1,11 @@
 use Rattle.std.proofs.Common.{◌≡◌, ◌≤◌, length}
-use Rattle.rb_core.specs.inner.Copying.{plugged, remaining}
+use Rattle.rb_core.specs.inner.Copying.{plugged, nodes_behind}
 use Rattle.rb_core.proofs.copying.leave.Given as goal
 
 abbrev pub invariant-loop-frame : goal.invariant-loop-frame
 invariant-loop-frame l = record {
   whole : plugged l.frames.items l.value ≡ plugged l.fn.frames.items l.fn.copied;
-  fewer : remaining l.frames.items ≤ remaining l.fn.frames.items;
+  fewer : nodes_behind l.frames.items ≤ nodes_behind l.fn.frames.items;
 }
 
 abbrev pub decreases-loop-frame : goal.decreases-loop-frame

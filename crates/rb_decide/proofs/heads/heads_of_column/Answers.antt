@@ -1,6 +1,5 @@
 use Rattle.std.proofs.Common.{◌+◌, ◌++◌, drop, sym, ap, ◌∙◌}
 use Rattle.std.proofs.lemmas.List.{append-nil}
-use Rattle.rb_core.specs.declared.value.Value.TheOpen as V
 use Rattle.rb_matrix.specs.Heads.{any_begins, row_head}
 use Rattle.rb_matrix.specs.Known.{with_head}
 use Rattle.rb_decide.specs.ClauseMatrices.{column_heads}
@@ -10,7 +9,7 @@ use Rattle.rb_decide.proofs.heads.heads_of_column.Goals as goal
 
 pub loop-row-init : goal.loop-row-init
 loop-row-init c = record {
-  numbers = λ n. c.new-numbers.ensures n ∙ sym (ap (λ hs. any_begins hs (V.Num n)) c.new-heads.ensures.items);
+  known = λ l. c.new-known.ensures l ∙ sym (ap (λ hs. any_begins hs l) c.new-heads.ensures.items);
   order = ap (λ l. l ++ beyond l (column_heads c.args.rows.now)) c.new-heads.ensures.items ∙ beyond-none (column_heads c.args.rows.now);
 }
 
@@ -18,7 +17,7 @@ pub loop-row-preserved : goal.loop-row-preserved
 loop-row-preserved c =
     let cut = split-at-item c.args.rows.now c.loop-row.row-index c.row-item.result c.loop-row-test.true c.row-item.is in
     record {
-      numbers = c.in_ok-add_head.ensures.numbers;
+      known = c.in_ok-add_head.ensures.known;
       order =
           ap (λ l. l ++ beyond l (column_heads (drop (c.loop-row.row-index + 1) c.args.rows.now)))
           (c.in_ok-add_head.ensures.order ∙ ap (with_head c.loop-row.heads.items) (c.head_of_row.ensures ∙ ap row_head c.as_slice.ensures))

@@ -3,7 +3,7 @@ use Rattle.std.proofs.lemmas.Option.{slice_get_read, slice_get-get_or}
 use Rattle.rb_core.specs.declared.types.Ty.TheVariants.{Int}
 use Rattle.rb_layout.specs.Positions.{opens_of}
 use Rattle.rb_image.specs.Parts.{ats_of}
-use Rattle.rb_image.specs.inner.Opening.{opened}
+use Rattle.rb_image.specs.inner.Opening.{places_below}
 use Rattle.rb_image.proofs.BelowLemmas.{fields_end, fields_from, fields_more, fields_untyped}
 use Rattle.rb_image.proofs.below.+opening.Goals as goal
 
@@ -32,5 +32,5 @@ add_fields-loop-i-preserved t c =
     let is_p = slice_get_read ps (length ps) i c.index-pats-i.result refl c.loop-i-test.true c.index-pats-i.is in
     let is_ty = slice_get-get_or ts i (Int 0) c.if-i-tys.false in
     c.loop-i.invariant ∙ ap (λ ys. before ++ ys) (fields_more x ps ts path i c.index-pats-i.result _ is_p is_ty)
-    ∙ sym (append_assoc before (opened x (path ++ i ∷ []) (opens_of x.types.now c.index-pats-i.result _)) rest)
+    ∙ sym (append_assoc before (places_below x (path ++ i ∷ []) (opens_of x.types.now c.index-pats-i.result _)) rest)
     ∙ ap (λ zs. zs ++ rest) (sym (rw (c.as_slice.ensures, c.in_ok-field.ensures) at c.in_ok-add_places.ensures))

@@ -3,7 +3,7 @@ use Rattle.std.proofs.lemmas.Option.{slice_get_read}
 use Rattle.rb_image.specs.LeafWords.{block_span, follow}
 use Rattle.rb_image.specs.Orders.{order_of}
 use Rattle.rb_image.specs.Sites.{kept_of}
-use Rattle.rb_image.specs.inner.Reaching.{unread}
+use Rattle.rb_image.specs.inner.Reaching.{unread_words}
 use Rattle.rb_image.specs.inner.Viewing.{spots_of}
 use Rattle.rb_image.proofs.LeafWordLemmas.{spot_is_part, unread_none}
 use Rattle.rb_image.proofs.leaf_words.read_words.Goals as goal
@@ -16,7 +16,7 @@ loop-spot-init g c =
     let ats = c.in_ok-words.words.addresses.items in
     let least = c.at_root.ensures.least in
     let most = c.at_root.ensures.most in
-    let none : unread leaf.blocks ats ≡ block_span leaf = ap (unread leaf.blocks) c.in_ok-words.ensures.addresses ∙ unread_none leaf.blocks (length leaf.blocks) in
+    let none : unread_words leaf.blocks ats ≡ block_span leaf = ap (unread_words leaf.blocks) c.in_ok-words.ensures.addresses ∙ unread_none leaf.blocks (length leaf.blocks) in
     record {
       root = c.in_ok-words.ensures.root;
       addresses = ap (λ xs. follow m leaf ws xs (order_of leaf)) (sym c.in_ok-words.ensures.addresses)

@@ -1,7 +1,7 @@
 use Rattle.std.proofs.Common.{◌+◌, length, drop, Ok, refl, sym, ap, ◌∙◌}
 use Rattle.std.proofs.lemmas.Option.{slice_get_read}
 use Rattle.std.proofs.lemmas.Bool.{false≢true}
-use Rattle.rb_image.specs.Rebuilds.{chosen, matches}
+use Rattle.rb_image.specs.Rebuilds.{leaf_chosen, matches}
 use Rattle.rb_image.specs.inner.Standing.{or_before, position_shown}
 use Rattle.rb_image.proofs.GivenLemmas.{due_is, fault_is}
 use Rattle.rb_image.proofs.MatchLemmas.{leaf_passed, leaf_unknown}
@@ -19,7 +19,7 @@ loop-leaf-preserved c =
     let x = position_shown c.args.view.now in
     let is = slice_get_read leaves (length leaves) k leaf refl c.loop-leaf-test.true c.leaf-item.is in
     let due = matches types layouts m leaf.prov x in
-    let later = chosen types layouts m (drop (k + 1) leaves) x in
+    let later = leaf_chosen types layouts m (drop (k + 1) leaves) x in
     elim c.match-matches.branch [
       | in-Ok+else-so w ↦ c.loop-leaf.invariant ∙ leaf_passed types layouts m leaves k leaf x is c.loop-leaf.before (due_is (λ so. so) due w.in-Ok.so w.in-Ok.ensures ∙ ap (λ b. Ok b) w.if-so.false)
           ∙ ap (λ b. or_before b later) (sym w.before-is)

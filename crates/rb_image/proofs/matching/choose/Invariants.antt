@@ -1,5 +1,5 @@
 use Rattle.std.proofs.Common.{◌≡◌, drop}
-use Rattle.rb_image.specs.Rebuilds.{chosen}
+use Rattle.rb_image.specs.Rebuilds.{leaf_chosen}
 use Rattle.rb_image.specs.inner.Standing.{or_before, position_shown}
 use Rattle.rb_image.proofs.matching.choose.Given as goal
 
@@ -7,4 +7,4 @@ abbrev pub invariant-loop-leaf : goal.invariant-loop-leaf
 invariant-loop-leaf l =
     let types = l.agreed.covered.program.types in
     let m = l.image.blocks in
-    chosen types l.agreed.layouts m l.leaves (position_shown l.view) ≡ or_before l.before (chosen types l.agreed.layouts m (drop l.leaf-index l.leaves) (position_shown l.view))
+    leaf_chosen types l.agreed.layouts m l.leaves (position_shown l.view) ≡ or_before l.before (leaf_chosen types l.agreed.layouts m (drop l.leaf-index l.leaves) (position_shown l.view))

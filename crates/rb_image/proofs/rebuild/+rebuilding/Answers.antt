@@ -5,7 +5,7 @@ use Rattle.std.proofs.lemmas.Option.{slice_get_read}
 use Rattle.rb_layout.specs.declared.layout.Leaf.{Leaf}
 use Rattle.rb_layout.specs.Positions.{layout_of, open_positions}
 use Rattle.rb_image.specs.declared.pack.FieldWords.{FieldWords}
-use Rattle.rb_image.specs.Rebuilds.{chosen, fields_at, packed, rebuilt_within}
+use Rattle.rb_image.specs.Rebuilds.{leaf_chosen, fields_at, words_of_leaf, rebuilt_within}
 use Rattle.rb_image.specs.Splits.{and_then}
 use Rattle.rb_layout.specs.Opens.{opens_at}
 use Rattle.rb_image.specs.inner.Standing.{position_shown}
@@ -32,7 +32,7 @@ rebuild_within-returns-in_err-leaf t c =
     let some : 0 < c.args.depth = omega (arith, c.if-depth-eq0.false) in
     let due = rebuilt_within types layouts m c.args.depth ty x in
     given_on (λ (ws : List ℕ). ws) due c.from_residual.result _ c.from_residual.ensures.0 c.from_residual.ensures.1
-    (first_err (λ (leaf : Bor Leaf). leaf.now) (λ (ws : List ℕ). ws) due (chosen types layouts m layout.leaves x) (in_leaf types layouts m ty x (c.args.depth - 1)) _
+    (first_err (λ (leaf : Bor Leaf). leaf.now) (λ (ws : List ℕ). ws) due (leaf_chosen types layouts m layout.leaves x) (in_leaf types layouts m ty x (c.args.depth - 1)) _
     (rebuilt_more types layouts m ty x c.args.depth some layout is) (rw c.as_slice.ensures at c.in_err-leaf.ensures))
 
 pub rebuild_within-returns-in_err-fields : goal.rebuild_within-returns-in_err-fields
@@ -52,11 +52,11 @@ rebuild_within-returns-in_err-fields t c =
     let same : c.as_slice-types.result.now ≡ types = c.as_slice-types.ensures ∙ ap (λ q. q.types) (c.program.ensures.same ∙ ap (λ k. k.program) c.covered.ensures.same) in
     let opens : opens_at c.as_slice-2.result.now ≡ open_positions types leaf.prov = ap opens_at c.as_slice-2.ensures ∙ c.in_ok-opens.ensures ∙ ap (λ ts. open_positions ts leaf.prov) same in
     let fields = fields_at types layouts m (rebuilt_within types layouts m (c.args.depth - 1)) x in
-    let go = λ (found : List FieldWords). Ok (packed leaf found) in
+    let go = λ (found : List FieldWords). Ok (words_of_leaf leaf found) in
     given_on (λ (ws : List ℕ). ws) due c.from_residual-in_err-fields.result _ c.from_residual-in_err-fields.ensures.0 c.from_residual-in_err-fields.ensures.1
     (first_err (λ (found : List FieldWords). found) (λ (ws : List ℕ). ws) due (fields (opens_at c.as_slice-2.result.now)) go _
     (rebuilt_more types layouts m ty x c.args.depth some layout is
-    ∙ then_given (λ (b : Bor Leaf). b.now) (λ (ws : List ℕ). ws) (chosen types layouts m layout.leaves x) (in_leaf types layouts m ty x (c.args.depth - 1)) c.in_ok-leaf.leaf (rw c.as_slice.ensures at c.in_ok-leaf.ensures)
+    ∙ then_given (λ (b : Bor Leaf). b.now) (λ (ws : List ℕ). ws) (leaf_chosen types layouts m layout.leaves x) (in_leaf types layouts m ty x (c.args.depth - 1)) c.in_ok-leaf.leaf (rw c.as_slice.ensures at c.in_ok-leaf.ensures)
     ∙ ap (λ os. and_then (fields os) go) (sym opens)) c.in_err-fields.ensures)
 
 pub rebuild_within-returns : goal.rebuild_within-returns
@@ -76,10 +76,10 @@ rebuild_within-returns t c =
     let same : c.as_slice-types.result.now ≡ types = c.as_slice-types.ensures ∙ ap (λ q. q.types) (c.program.ensures.same ∙ ap (λ k. k.program) c.covered.ensures.same) in
     let opens : opens_at c.as_slice-2.result.now ≡ open_positions types leaf.prov = ap opens_at c.as_slice-2.ensures ∙ c.in_ok-opens.ensures ∙ ap (λ ts. open_positions ts leaf.prov) same in
     let fields = fields_at types layouts m (rebuilt_within types layouts m (c.args.depth - 1)) x in
-    let go = λ (found : List FieldWords). Ok (packed leaf found) in
-    given_ok (λ (ws : List ℕ). ws) due (packed leaf c.in_ok-fields.fields) c.in_ok-words.words
+    let go = λ (found : List FieldWords). Ok (words_of_leaf leaf found) in
+    given_ok (λ (ws : List ℕ). ws) due (words_of_leaf leaf c.in_ok-fields.fields) c.in_ok-words.words
     (rebuilt_more types layouts m ty x c.args.depth some layout is
-    ∙ then_given (λ (b : Bor Leaf). b.now) (λ (ws : List ℕ). ws) (chosen types layouts m layout.leaves x) (in_leaf types layouts m ty x (c.args.depth - 1)) c.in_ok-leaf.leaf (rw c.as_slice.ensures at c.in_ok-leaf.ensures)
+    ∙ then_given (λ (b : Bor Leaf). b.now) (λ (ws : List ℕ). ws) (leaf_chosen types layouts m layout.leaves x) (in_leaf types layouts m ty x (c.args.depth - 1)) c.in_ok-leaf.leaf (rw c.as_slice.ensures at c.in_ok-leaf.ensures)
     ∙ ap (λ os. and_then (fields os) go) (sym opens)
     ∙ then_given (λ (found : List FieldWords). found) (λ (ws : List ℕ). ws) (fields (opens_at c.as_slice-2.result.now)) go c.in_ok-fields.fields c.in_ok-fields.ensures)
     (rw (c.as_slice-3.ensures, c.as_slice-4.ensures) at c.in_ok-words.ensures)

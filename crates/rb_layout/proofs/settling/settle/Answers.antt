@@ -1,5 +1,5 @@
 use Rattle.std.proofs.Common.{◌<◌, length, sym, subst, ◌∙◌}
-use Rattle.rb_layout.specs.inner.Settling.{AreSettled, pending}
+use Rattle.rb_layout.specs.inner.Settling.{AreSettled, entries_left}
 use Rattle.rb_layout.proofs.SettleLemmas.{Goes, goes-pass, pass-less, settled-pass}
 use Rattle.rb_layout.proofs.settling.settle.Goals as goal
 
@@ -7,7 +7,7 @@ pub loop-smaller : goal.loop-smaller
 loop-smaller c =
     let es = c.loop.entries in
     let changed = sym c.pass.ensures.result ∙ c.loop-test.true in
-    subst (λ fs. pending fs < pending es) (sym c.pass.ensures.new) (pass-less c.args.types.now c.args.layouts.now (length es) es changed)
+    subst (λ fs. entries_left fs < entries_left es) (sym c.pass.ensures.new) (pass-less c.args.types.now c.args.layouts.now (length es) es changed)
 
 pub loop-preserved : goal.loop-preserved
 loop-preserved c =

@@ -1,6 +1,6 @@
 use Rattle.rb_layout.specs.inner.Barring.{AreAsked}
 use Rattle.rb_layout.specs.inner.Finding.{KeepsGoals}
-use Rattle.rb_layout.specs.inner.Settling.{AreTrue, pending}
+use Rattle.rb_layout.specs.inner.Settling.{AreTrue, entries_left}
 use Rattle.rb_layout.proofs.settling.settle.Given as goal
 
 abbrev pub invariant-loop : goal.invariant-loop
@@ -11,4 +11,4 @@ invariant-loop l = record {
 }
 
 abbrev pub decreases-loop : goal.decreases-loop
-decreases-loop l = pending l.entries
+decreases-loop l = entries_left l.entries

@@ -1,5 +1,6 @@
 use Rattle.std.proofs.Common.{codes, refl}
-use Rattle.rb_show.proofs.Texts.{literals_next, two}
+use Rattle.rb_core.proofs.TextLemmas.{two}
+use Rattle.rb_show.proofs.Texts.{literals_next}
 use Rattle.rb_show.proofs.condition.push_others.Goals as goal
 
 pub loop-arm-preserved : goal.loop-arm-preserved

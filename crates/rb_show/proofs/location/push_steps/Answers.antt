@@ -1,5 +1,6 @@
 use Rattle.rb_show.specs.Locations.{step_text}
-use Rattle.rb_show.proofs.Texts.{appended, flat_map_next}
+use Rattle.rb_core.proofs.TextLemmas.{appended}
+use Rattle.rb_show.proofs.Texts.{flat_map_next}
 use Rattle.rb_show.proofs.location.push_steps.Goals as goal
 
 pub loop-step-preserved : goal.loop-step-preserved

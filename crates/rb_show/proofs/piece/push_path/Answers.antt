@@ -1,6 +1,7 @@
 use Rattle.std.proofs.Common.{◌++◌, codes, refl}
 use Rattle.std.specs.Fmt.{decimal}
-use Rattle.rb_show.proofs.Texts.{appended, flat_map_next, two}
+use Rattle.rb_core.proofs.TextLemmas.{appended, two}
+use Rattle.rb_show.proofs.Texts.{flat_map_next}
 use Rattle.rb_show.proofs.piece.push_path.Goals as goal
 
 pub loop-field-preserved : goal.loop-field-preserved

@@ -1,5 +1,5 @@
 use Rattle.std.proofs.Common.{refl}
-use Rattle.rb_show.proofs.Texts.{two}
+use Rattle.rb_core.proofs.TextLemmas.{two}
 use Rattle.rb_show.proofs.word.push_block.Goals as goal
 
 pub returns : goal.returns

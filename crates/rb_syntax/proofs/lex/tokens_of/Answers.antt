@@ -1,13 +1,13 @@
 use Rattle.std.proofs.Common.{◌≡◌, ◌-◌, ◌<◌, ◌≤◌, length, drop, sym, ◌∙◌, ap, arith, length-drop}
 use Rattle.rb_syntax.specs.declared.piece.Piece.TheVariants as piece
-use Rattle.rb_syntax.specs.Lexing.{lexed_from}
+use Rattle.rb_syntax.specs.Lexing.{lexing_from}
 use Rattle.rb_syntax.specs.Pieces.{piece_at}
 use Rattle.rb_syntax.proofs.LexLemmas.{rest_after, in_front-nil, at_end, turn-gap, turn-token, turn-bad, turn-wide}
 use Rattle.rb_syntax.proofs.lex.tokens_of.Goals as goal
 use Rattle.rb_syntax.proofs.lex.tokens_of.Goals.{in-Gap, in-Token+in_ok-push-in-Token}
 
 pub loop-turn-init : goal.loop-turn-init
-loop-turn-init c = record { place = omega arith; turns = omega arith; same = rw c.new-tokens.ensures.items (in_front-nil _ ∙ ap (λ n. lexed_from n 0 c.args.bytes.now) (let z : length c.args.bytes.now - 0 ≡ length c.args.bytes.now = omega arith in z)) }
+loop-turn-init c = record { place = omega arith; turns = omega arith; same = rw c.new-tokens.ensures.items (in_front-nil _ ∙ ap (λ n. lexing_from n 0 c.args.bytes.now) (let z : length c.args.bytes.now - 0 ≡ length c.args.bytes.now = omega arith in z)) }
 
 pub returns-then-left-eq0 : goal.returns-then-left-eq0
 returns-then-left-eq0 c = at_end _ _ _ _ _ c.if-left-eq0.true c.loop-turn.invariant.same

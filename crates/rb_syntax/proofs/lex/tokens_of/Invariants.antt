@@ -1,5 +1,5 @@
 use Rattle.std.proofs.Common.{◌≡◌, ◌+◌, ◌-◌, ◌≤◌, length}
-use Rattle.rb_syntax.specs.Lexing.{lexed_from, lexed}
+use Rattle.rb_syntax.specs.Lexing.{lexing_from, lexing_of}
 use Rattle.rb_syntax.proofs.LexLemmas.{in_front}
 use Rattle.rb_syntax.proofs.lex.tokens_of.Given as goal
 
@@ -8,5 +8,5 @@ invariant-loop-turn l = record {
   place : l.at + length l.left ≡ length l.bytes;
   -- each turn takes a byte
   turns : length l.left ≤ l._turn-end - l._turn;
-  same : in_front l.tokens.items (lexed_from (l._turn-end - l._turn) l.at l.left) ≡ lexed l.bytes;
+  same : in_front l.tokens.items (lexing_from (l._turn-end - l._turn) l.at l.left) ≡ lexing_of l.bytes;
 }

@@ -1,7 +1,7 @@
 use Rattle.std.proofs.Common.{◌≡◌, ◌≤◌, ◌+◌, ◌-◌, length, set, refl, ap, arith}
 use Rattle.std.specs.Prelude.{vec_capacity, vec_len}
 use Rattle.std.specs.Vec.{with_item}
-use Rattle.rb_bytes.specs.Memory.{aligned}
+use Rattle.rb_bytes.specs.Memory.{least_multiple}
 use Rattle.rb_bytes.specs.declared.checked.CheckedMemory.TheInside.{Inside}
 use Rattle.rb_bytes.proofs.CheckedLemmas.{below_place, blocks_few, resized_is, place_kept, place_is}
 use Rattle.rb_bytes.proofs.checked.CheckedMemoryByteMemory.place.Goals as goal
@@ -12,7 +12,7 @@ overflow_add-self c = omega (arith, blocks_few c.self.inside c.self.invariant)
 pub invariant_of-self : goal.invariant_of-self
 invariant_of-self c =
     let f = c.self.inside in
-    let at = aligned f.next c.args.align in
+    let at = least_multiple f.next c.args.align in
     let more = at + c.args.size - length f.bytes.items in
     let count : length f.bytes.items + more ≡ at + c.args.size = omega (arith, below_place f c.self.invariant c.args.align at c.requires.align refl) in
     let even = c.self.invariant.even in
@@ -35,7 +35,7 @@ invariant_of-self c =
 pub returns-clause-value : goal.returns-clause-value
 returns-clause-value c =
     let f = c.self.inside in
-    let at = aligned f.next c.args.align in
+    let at = least_multiple f.next c.args.align in
     let more = at + c.args.size - length f.bytes.items in
     let count : length f.bytes.items + more ≡ at + c.args.size = omega (arith, below_place f c.self.invariant c.args.align at c.requires.align refl) in
     let even = c.self.invariant.even in
@@ -58,7 +58,7 @@ returns-clause-value c =
 pub returns-clause-good : goal.returns-clause-good
 returns-clause-good c =
     let f = c.self.inside in
-    let at = aligned f.next c.args.align in
+    let at = least_multiple f.next c.args.align in
     let more = at + c.args.size - length f.bytes.items in
     let count : length f.bytes.items + more ≡ at + c.args.size = omega (arith, below_place f c.self.invariant c.args.align at c.requires.align refl) in
     let even = c.self.invariant.even in

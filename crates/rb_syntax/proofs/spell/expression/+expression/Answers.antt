@@ -2,7 +2,7 @@ use Rattle.std.proofs.Common.{◌≡◌, ◌∷◌, map, drop, arith}
 use Rattle.rb_syntax.specs.declared.token.Symbol.TheVariants as symbol
 use Rattle.rb_syntax.specs.declared.token.ReservedWord.TheVariants as word
 use Rattle.rb_syntax.specs.Written.{token, each_behind, any_with}
-use Rattle.rb_syntax.specs.Spelling.{expr_written, clause_written, lower_written, ty_written, at_level, comma, sym, reserved}
+use Rattle.rb_syntax.specs.Spelling.{expr_written, clause_written, lower_written, ty_written, at_level, comma, sym, word_token}
 use Rattle.rb_syntax.proofs.ListLemmas.{fields-some}
 use Rattle.rb_syntax.proofs.spell.expression.+expression.Goals as goal
 
@@ -26,12 +26,12 @@ put_binary-returns t c l rest h =
 pub put_let-returns : goal.put_let-returns
 put_let-returns t c l rest h =
     let body = expr_written c.args.b.now l rest in
-    let value = expr_written c.args.a.now l (reserved word.In ∷ body) in
+    let value = expr_written c.args.a.now l (word_token word.In ∷ body) in
     let ty = ty_written c.args.ty.now (sym symbol.Equals ∷ value) in
     let named = lower_written c.args.name.now (sym symbol.Colon ∷ ty) in
     c.in_ok-put_word-2.ensures named (c.in_ok-put_lower.ensures (sym symbol.Colon ∷ ty) (c.in_ok-put_symbol-2.ensures ty
     (c.in_ok-put_ty.ensures (sym symbol.Equals ∷ value) (c.in_ok-put_symbol.ensures value
-    (c.in_ok-put_expr-2.ensures l (reserved word.In ∷ body) (c.in_ok-put_word.ensures body
+    (c.in_ok-put_expr-2.ensures l (word_token word.In ∷ body) (c.in_ok-put_word.ensures body
     (c.in_ok-put_expr.ensures l rest h)))))))
 
 pub put_fields-returns-in_ok-put_symbol-in-len1-up-2 : goal.put_fields-returns-in_ok-put_symbol-in-len1-up-2

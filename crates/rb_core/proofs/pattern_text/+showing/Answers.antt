@@ -1,9 +1,9 @@
 use Rattle.std.proofs.Common.{ap, sym, ◌∙◌, ◌++◌, map, take}
 use Rattle.rb_core.specs.declared.pattern.Pat.{Pat}
-use Rattle.rb_show.specs.Patterns.{opening_text, pattern_text}
-use Rattle.rb_show.specs.inner.Patterns.{opening}
-use Rattle.rb_show.proofs.Texts.{appended, opened_next, two}
-use Rattle.rb_show.proofs.pattern.+showing.Goals as goal
+use Rattle.rb_core.specs.Texts.{opening_text, pattern_text}
+use Rattle.rb_core.specs.inner.Texts.{opening}
+use Rattle.rb_core.proofs.TextLemmas.{appended, opened_next, two}
+use Rattle.rb_core.proofs.pattern_text.+showing.Goals as goal
 
 pub push_fields-loop-i-preserved : goal.push_fields-loop-i-preserved
 push_fields-loop-i-preserved n c =

@@ -3,26 +3,13 @@
 
 ghost use Rattle.std.specs.Prelude.{◌≡◌, ◌++◌, ℕ, List, OnErr, OnOk, map};
 ghost use Rattle.rb_core.specs.declared.pattern.Pat.{Pat as Pattern};
-ghost use Rattle.rb_show.specs.Patterns.{closing_text, con_text, opening_text, pattern_text};
-ghost use Rattle.rb_show.specs.inner.Patterns.{opening};
+ghost use Rattle.rb_core.specs.Texts.{closing_text, opening_text, pattern_text};
+ghost use Rattle.rb_core.specs.inner.Texts.{opening};
 
-use crate::text::{push, push_number};
-use rb_core::pattern::Pat;
-use rb_core::types::{ConRef, DataDecl};
+use crate::pattern::Pat;
+use crate::text::{push, push_con, push_number};
+use crate::types::DataDecl;
 use std::alloc::AllocError;
-
-// Adds a constructor's name, by its type's number and its own; nothing where there is none.
-fn push_con(text: &mut Vec<u8>, types: &[DataDecl], con: ConRef) -> Result<(), AllocError>
-    ensures { OnOk result (text.new.items ≡ text.old.items ++ con_text types.now con) }
-{
-    match types.get(con.ty as usize) {
-        Some(decl) => match decl.cons.get(con.con as usize) {
-            Some(con) => push(text, con.name.as_slice()),
-            None => Ok(()),
-        },
-        None => Ok(()),
-    }
-}
 
 // What stands before the field of this number: `(` before the first, a comma before each other.
 fn opening(number: usize) -> &'static [u8]
