@@ -259,6 +259,18 @@ def columns(n):
     return f"type S=S({comma(['u1'] * 32)});\nfun main(s: S): u8 = match s {{{comma(clauses)}}};\n"
 
 
+def nested_columns(n):
+    """A clause with 0 for each of n columns of 1,024, which stand in 32 constructors of 32 bits each, and then one of `_`."""
+    clauses = []
+    for j in range(n):
+        row, bits = ["_"] * 32, ["_"] * 32
+        bits[j % 32] = "0"
+        row[j // 32] = f"B({comma(bits)})"
+        clauses.append(f"S({comma(row)})=>0")
+    types = f"type B=B({comma(['u1'] * 32)});\ntype S=S({comma(['B'] * 32)});\n"
+    return types + f"fun f(s: S): u8 = match s {{{comma(clauses)},_=>1}};\n" + MAIN
+
+
 def heads(n):
     """A match of 256 constructors of 32 fields, a clause each, and then 1,000 n of `_`."""
     cons = names("C", 256)
@@ -551,7 +563,7 @@ AGREEING = [
 ]
 REFUSED = [(closed, 300), (twice, 64), (ring, 900)]
 MATCHES = [
-    (literals, 16), (short_clauses, 28), (wrapped, 20), (crossed, 18), (wilds, 52), (columns, 32), (heads, 43), (unfolded, 4),
+    (literals, 16), (short_clauses, 28), (wrapped, 20), (crossed, 18), (wilds, 52), (columns, 32), (nested_columns, 1024), (heads, 43), (unfolded, 4),
     (crowded, 15), (all_numbers, 16), (pattern, 32), (carried, 96), (binders, 28), (used, 26), (unknown, 36), (short_names, 65),
 ]
 COMPILED = [(coloured, 8)]
