@@ -1,7 +1,8 @@
 -- Names that the lexer cuts from a text are spelled as names of their kinds are.
-use Rattle.std.proofs.Common.{◌≡◌, ℕ, List, [], ◌∷◌, take, Bool, true, false, ◌&&◌, refl}
+use Rattle.std.proofs.Common.{◌≡◌, ℕ, List, [], ◌∷◌, take, Bool, true, false, ◌&&◌}
 use Rattle.std.specs.List.{list_all}
 use Rattle.std.specs.Char.{is_ascii_uppercase, is_ascii_lowercase}
+use Rattle.std.proofs.lemmas.Bool.{and_parts}
 use Rattle.rb_core.specs.WellNumbered.{is_upper, is_lower, is_capital, is_small, is_word_byte}
 use Rattle.rb_names.specs.Written.{AreNamed}
 use Rattle.rb_syntax.specs.Cutting.{FirstByteIs, Cut, stop, gap, token, IsWritten}
@@ -10,10 +11,6 @@ use Rattle.rb_syntax.specs.declared.token.Placed.{Placed}
 use Rattle.rb_syntax.specs.declared.token.Token.{Token}
 use Rattle.rb_syntax.specs.declared.token.Token.TheVariants as tok
 
-pub both : (a b : Bool) → (a && b) ≡ true → (a ≡ true) × (b ≡ true)
-both true b e = (refl, e)
-both false b e = absurd cc
-
 pub and_both : (a b : Bool) → a ≡ true → b ≡ true → (a && b) ≡ true
 and_both true b d e = e
 and_both false b d e = absurd cc
@@ -21,12 +18,12 @@ and_both false b d e = absurd cc
 upper : (name : List ℕ) → FirstByteIs is_ascii_uppercase name → list_all is_word_byte name ≡ true → is_upper name ≡ true
 upper [] first all = absurd first
 upper (b ∷ bs) first all =
-    and_both (is_capital b) (list_all is_word_byte bs) first (both (is_word_byte b) (list_all is_word_byte bs) all).1
+    and_both (is_capital b) (list_all is_word_byte bs) first (and_parts (is_word_byte b) (list_all is_word_byte bs) all).1
 
 lower : (name : List ℕ) → FirstByteIs is_ascii_lowercase name → list_all is_word_byte name ≡ true → is_lower name ≡ true
 lower [] first all = absurd first
 lower (b ∷ bs) first all =
-    and_both (is_small b) (list_all is_word_byte bs) first (both (is_word_byte b) (list_all is_word_byte bs) all).1
+    and_both (is_small b) (list_all is_word_byte bs) first (and_parts (is_word_byte b) (list_all is_word_byte bs) all).1
 
 written-named : (t : Token) (text : List ℕ) → IsWritten t text → (ts : List Token) → AreNamed ts → AreNamed (t ∷ ts)
 written-named (tok.Upper name) text w ts h = (upper name w.1 w.2, h)

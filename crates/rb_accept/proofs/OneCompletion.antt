@@ -1,7 +1,7 @@
 -- A program is completed in one way.
 use Rattle.std.proofs.Common.{◌≡◌, ℕ, List, [], ◌∷◌, Option, Ok, Err, refl, sym, ap, ◌∙◌}
 use Rattle.rb_auto.specs.Answers.{Derives, answer}
-use Rattle.rb_auto.specs.Completed.{completed}
+use Rattle.rb_auto.specs.Completed.{completed_program}
 use Rattle.rb_auto.specs.Rooms.{AreTheRooms}
 use Rattle.rb_auto.specs.declared.fault.AutoFault.{AutoFault}
 use Rattle.rb_auto.specs.declared.fault.AutoFault.TheVariants.{PackedRecursive, PackedWide, Memory}
@@ -42,5 +42,5 @@ pub one_completion : (file : FileTree) (p : Program) (c d : Completed) → IsCom
 one_completion file p c d h k =
     let same = all_derived p (kinds_of file) (left_types file) h.answers k.answers h.are_derived k.are_derived in
     with_parts c.program d.program c.refused d.refused
-    (h.program ∙ ap (λ (rs : List Derives). completed p (layouts_in rs)) same ∙ sym k.program)
+    (h.program ∙ ap (λ (rs : List Derives). completed_program p (layouts_in rs)) same ∙ sym k.program)
     (h.refused ∙ ap (λ (rs : List Derives). first_refusal rs) same ∙ sym k.refused)

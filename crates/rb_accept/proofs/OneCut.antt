@@ -1,10 +1,11 @@
 -- A text is cut in one way: it has one list of tokens, and then neither a bad byte nor a number that is too wide.
-use Rattle.std.proofs.Common.{◌≡◌, ℕ, zero, suc, ◌+◌, ◌<◌, ◌≤◌, ◌^◌, List, [], ◌∷◌, ◌++◌, length, take, drop, codes, nat_eq, Bool, true, false, not, ◌==◌, ◌||◌, ◌&&◌, if◌then◌else◌, Option, Some, find, refl, sym, ◌∙◌, ap, subst, arith, length-take, length-drop, leb-true, eqb-true}
+use Rattle.std.proofs.Common.{◌≡◌, ℕ, zero, suc, ◌+◌, ◌<◌, ◌≤◌, ◌^◌, List, [], ◌∷◌, ◌++◌, length, take, drop, codes, nat_eq, Bool, true, false, not, ◌==◌, ◌||◌, if◌then◌else◌, Option, Some, find, refl, sym, ◌∙◌, ap, subst, arith, length-take, length-drop, leb-true, eqb-true}
 use Rattle.std.specs.Char.{is_ascii_digit, is_ascii_uppercase, is_ascii_lowercase, is_ascii_alphabetic}
 use Rattle.std.specs.Int.{is_in_range}
 use Rattle.std.specs.List.{list_all, starts_with}
 use Rattle.std.specs.Str.{bytes_eq}
 use Rattle.std.specs.Str.Parse.{digits_value}
+use Rattle.std.proofs.lemmas.Bool.{and_parts}
 use Rattle.std.proofs.Math.Nat.{le_antisymm}
 use Rattle.std.proofs.lemmas.Bool.Decides.{Decides-eqb}
 use Rattle.std.proofs.lemmas.Grind.{common_steps}
@@ -25,12 +26,8 @@ use Rattle.rb_syntax.specs.declared.token.ReservedWord.TheVariants as word
 
 -- First bytes -------------------------------------------------------------------------------
 
-both : (a b : Bool) → (a && b) ≡ true → (a ≡ true) × (b ≡ true)
-both true b e = (refl, e)
-both false b e = absurd (cc e)
-
 range : (lo hi b : ℕ) → is_in_range lo hi b ≡ true → (lo ≤ b) × (b ≤ hi)
-range lo hi b e = let h = both _ _ e in (leb-true lo b h.0, leb-true b hi h.1)
+range lo hi b e = let h = and_parts _ _ e in (leb-true lo b h.0, leb-true b hi h.1)
 
 -- what one test says of the first byte another says too
 begins_so : (p q : ℕ → Bool) → ((b : ℕ) → p b ≡ true → q b ≡ true) → (text : List ℕ) → FirstByteIs p text → FirstByteIs q text
@@ -52,7 +49,7 @@ front_begins p k (b ∷ bs) e = e
 
 begins_all : (p : ℕ → Bool) (text : List ℕ) → 0 < length text → list_all p text ≡ true → FirstByteIs p text
 begins_all p [] some e = absurd (omega (arith, some))
-begins_all p (b ∷ bs) some e = (both (p b) (list_all p bs) e).0
+begins_all p (b ∷ bs) some e = (and_parts (p b) (list_all p bs) e).0
 
 -- the kinds of bytes that tokens begin with: capitals, small letters, digits, and others
 kind : ℕ → ℕ
@@ -286,13 +283,13 @@ or-left a b e = rw e refl
 digits-words : (ds : List ℕ) → list_all is_ascii_digit ds ≡ true → list_all is_word_byte ds ≡ true
 digits-words [] e = refl
 digits-words (d ∷ ds) e =
-    let h = both (is_ascii_digit d) (list_all is_ascii_digit ds) e in
+    let h = and_parts (is_ascii_digit d) (list_all is_ascii_digit ds) e in
     rw (digit-word d h.0) (digits-words ds h.1)
 
 all-front : (p : ℕ → Bool) (k : ℕ) (xs : List ℕ) → list_all p xs ≡ true → list_all p (take k xs) ≡ true
 all-front p zero xs e = refl
 all-front p (suc k) [] e = refl
-all-front p (suc k) (x ∷ xs) e = let h = both (p x) (list_all p xs) e in rw h.0 (all-front p k xs h.1)
+all-front p (suc k) (x ∷ xs) e = let h = and_parts (p x) (list_all p xs) e in rw h.0 (all-front p k xs h.1)
 
 -- a run begins with a byte of names and numbers
 run-begins : (text : List ℕ) → IsTokenRun text → FirstByteIs is_word_byte text × FirstByteIs is_token_byte text

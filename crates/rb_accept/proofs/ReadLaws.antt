@@ -5,7 +5,7 @@ use Rattle.std.proofs.lemmas.List.{take_all}
 use Rattle.std.specs.Option.{option_map}
 use Rattle.rb_edge.specs.History.{Reading, Course, going, ended, failed}
 use Rattle.rb_edge.specs.Source.{FailsToOpen}
-use Rattle.rb_edge.specs.Whole.{ReadsOnce, stopped_by}
+use Rattle.rb_edge.specs.Whole.{ReadsOnce, course_by}
 use Rattle.rb_edge.specs.declared.whole.SourceFault.{SourceFault}
 use Rattle.rb_edge.specs.declared.whole.SourceFault.TheVariants as fault
 use Rattle.rb_accept.specs.Reading.{HeldFiles, Source, source_of, IsReading, ReadsInTurn, AreInTurn, handed_out, whole}
@@ -128,7 +128,7 @@ module _ {S : Type 0} (tells : S → Bool) (held : S → HeldFiles) (readings : 
     pub long_read : limit < length bytes → drop (length (readings old)) (readings new) ≡ record { name = name; bytes = bytes; course = going } ∷ []
     long_read long = read_as false (lt-leb (length bytes) limit long)
 
-  stopped : (f : SourceFault) (r : Reading) → r.course ≡ stopped_by f → (f ≡ fault.Failed → FailsToOpen tells held faults old new name)
+  stopped : (f : SourceFault) (r : Reading) → r.course ≡ course_by f → (f ≡ fault.Failed → FailsToOpen tells held faults old new name)
       → (r.course ≢ ended) × (r.course ≡ failed → FailsToOpen tells held faults old new name)
   stopped fault.Failed r is cause = (λ end. failed≢ended (sym is ∙ end), λ fails. cause refl)
   stopped fault.Memory r is cause = (λ end. going≢ended (sym is ∙ end), λ fails. absurd (going≢failed (sym is ∙ fails)))

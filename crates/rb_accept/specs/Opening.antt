@@ -21,7 +21,8 @@ use Rattle.rb_accept.specs.declared.opening.Opened.{Opened}
 abbrev pub Following : Type 1
 Following = Program → Image → Due → Type 0
 
--- the text is none of an image whose blocks are in their places, and this is due to it by its fault
+-- the text is none of an image whose blocks are in their places: `fault` is why, which is known, so that it is not want
+-- of memory; and this is due to the text by that fault
 pub record IsGarbled (text : List ℕ) (due : Due) : Type 0 where
   pub fault : ImageFault
   pub known : fault ≢ Memory

@@ -25,7 +25,7 @@ use rb_layout::evidence::Refused as Disagreed;
 use rb_layout::flat_layouts::flatten;
 use rb_layout::layout::Layout;
 use rb_lines::line::{begin, end};
-use rb_lines::pattern::missing;
+use rb_lines::pattern::missing_values;
 use rb_lines::place::byte_of;
 use rb_lines::refusal::Refused;
 use rb_lines::status::Status;
@@ -216,7 +216,7 @@ pub fn refuse_match(
     ensures { IfOk result (λ c. due_of c ≡ accepting.match_due types.now placed.now length token pattern.now) }
 {
     let at = byte_of(placed, length, token);
-    let line = missing(alloc, types, pattern, at)?;
+    let line = missing_values(alloc, types, pattern, at)?;
     Ok(Refused {
         status: Status::Meaning,
         line,

@@ -6,6 +6,7 @@ use Rattle.std.proofs.lemmas.Bool.{leb-true}
 use Rattle.std.proofs.lemmas.List.{append-nil, append_assoc}
 use Rattle.std.proofs.lemmas.List.Concat.{flat_map-append}
 use Rattle.std.proofs.lemmas.Option.{same_Some, slice_get_within}
+use Rattle.std.proofs.lemmas.Result.{IfOk-weaker}
 use Rattle.rb_core.specs.declared.program.Program.{Program}
 use Rattle.rb_core.specs.declared.types.DataDecl.{DataDecl}
 use Rattle.rb_core.specs.declared.layout_decl.LayoutDecl.{LayoutDecl}
@@ -32,7 +33,6 @@ use Rattle.rb_agree.specs.Answers.{Finds}
 use Rattle.rb_agree.specs.inner.Lists.{EachOf}
 use Rattle.rb_agree.specs.inner.Rules.{RuleIsReady, early_rules, late_rules, leaf_spots, leaves_spots, rule_spots, rules_spots, spots_of}
 use Rattle.rb_agree.proofs.Lists.{each-first, each-none}
-use Rattle.rb_agree.proofs.Holding.{if-ok}
 use Rattle.rb_agree.proofs.Finding.{found-first, found-later}
 
 from_none : (k : ℕ) → 0 + k ≡ k
@@ -212,7 +212,7 @@ module _ (p : Program) (layouts : List Layout) where
 
   pub late-found : {E : Type 0} (r : Option Refused) → EarlyFinds r → r ≡ None → (res : Result (Option Refused) E) → IfOk res (Finds p layouts (rules_spots p.layouts layouts late_rules))
       → IfOk res (Finds p layouts (later_spots p layouts))
-  late-found r h none res found = if-ok res (Finds p layouts (rules_spots p.layouts layouts late_rules)) (Finds p layouts (later_spots p layouts)) (λ x k.
+  late-found r h none res found = IfOk-weaker res (Finds p layouts (rules_spots p.layouts layouts late_rules)) (Finds p layouts (later_spots p layouts)) (λ x k.
       found-later p layouts (rules_spots p.layouts layouts early_rules) (rules_spots p.layouts layouts late_rules) x (subst (λ (y : Option Refused). EarlyFinds y) none h) k) found
 
   pub ready-late : (r : Option Refused) → IsTyped p → A1 p → AreInOrder p layouts → EarlyFinds r → r ≡ None → EachOf (RuleIsReady layouts) late_rules

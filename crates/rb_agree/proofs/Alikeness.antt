@@ -1,8 +1,8 @@
 -- Leaves that are alike at a location exclude the same numbers there.
-use Rattle.std.proofs.Common.{◌≡◌, ℕ, suc, ◌+◌, ◌-◌, ◌<◌, ◌≤◌, inl, inr, min, List, [], ◌∷◌, length, get_or, Bool, true, false, ◌&&◌, leb, ltb, if◌then◌else◌, Option, Some, None, refl, sym, ap, subst, ◌∙◌, arith}
+use Rattle.std.proofs.Common.{◌≡◌, ℕ, suc, ◌+◌, ◌-◌, ◌<◌, ◌≤◌, inl, inr, min, List, [], ◌∷◌, ◌++◌, length, get_or, Bool, true, false, ◌&&◌, leb, ltb, if◌then◌else◌, Option, Some, None, refl, sym, ap, subst, ◌∙◌, arith}
 use Rattle.std.specs.Prelude.{slice_get}
+use Rattle.std.specs.Option.{option_or}
 use Rattle.std.specs.Int.{bit_at}
-use Rattle.std.specs.Bool.{OnTrue}
 use Rattle.std.proofs.lemmas.Bool.{ltb-true, ltb-false}
 use Rattle.std.proofs.lemmas.Grind.{common_steps}
 use Rattle.std.proofs.lemmas.Option.{same_Some, slice_get_within, slice_get-get_or}
@@ -21,13 +21,17 @@ use Rattle.rb_layout.specs.declared.layout.Kind.TheVariants.{Const, Bits, Word, 
 use Rattle.rb_layout.specs.declared.layout.WordRef.{WordRef}
 use Rattle.rb_layout.specs.Positions.{open_positions}
 use Rattle.rb_layout.specs.Flattening.{type_at}
-use Rattle.rb_layout.specs.Locations.{Reached, reached_at, resolve_from, range_in, or_else, bit_of_kind, bit_of_part, constant_bit}
+use Rattle.rb_layout.specs.Locations.{Reached, reached_at, resolve_from, range_in, bit_of_kind, bit_of_part, constant_bit}
 use Rattle.rb_layout.specs.Excluded.{Bars, differs, null, within, Excludes, HasNull, HasOtherBit}
 use Rattle.rb_layout.specs.Excluded as X
-use Rattle.rb_layout.specs.Splits.{IsNone}
+use Rattle.rb_layout.specs.Splits.{IsNone, Test}
 use Rattle.rb_layout.specs.A7.{MeetsTest}
 use Rattle.rb_layout.proofs.OpenPositions.{position-typed, type-open}
-use Rattle.rb_agree.specs.inner.Passing.{IsLike, IsPrior}
+use Rattle.rb_agree.specs.inner.Lists.{EachOf}
+use Rattle.rb_agree.specs.declared.passing.Asking.{Asking}
+use Rattle.rb_agree.specs.inner.Passing.{IsLike, IsPrior, test_at, test_of}
+use Rattle.rb_agree.specs.inner.Splits.{literals_in}
+use Rattle.rb_agree.proofs.Lists.{each-append, each-first, each-none}
 use Rattle.rb_agree.specs.inner.Alike.{AreAlike, AreKinds, ArePartsAlike, IsBeside, IsPartAlike}
 
 and-off : (a b : Bool) → b ≡ false → (a && b) ≡ false
@@ -75,8 +79,8 @@ module _ (types : List DataDecl) (one other : Pat) (o l : ℕ) where
   same-bit (p ∷ ps) [] h n lo hi = let e = h.0 in absurd (omega (arith, e))
   same-bit (p ∷ ps) (q ∷ qs) h n lo hi =
       let e = h.0 in
-      ap (λ (x : Option ℕ). or_else x (constant_bit ps n)) (same-bit-of p q n (h.1 0 p q refl refl) lo hi)
-      ∙ ap (λ (x : Option ℕ). or_else (bit_of_part q n) x) (same-bit ps qs (omega (arith, e), λ k. h.1 (suc k)) n lo hi)
+      ap (λ (x : Option ℕ). option_or x (constant_bit ps n)) (same-bit-of p q n (h.1 0 p q refl refl) lo hi)
+      ∙ ap (λ (x : Option ℕ). option_or (bit_of_part q n) x) (same-bit ps qs (omega (arith, e), λ k. h.1 (suc k)) n lo hi)
 
   -- the part with the same number
   part-of : (ps qs : List Part) → Alike ps qs → (k : ℕ) (p : Part) → slice_get ps k ≡ Some p → (q : Part) × (slice_get qs k ≡ Some q) × IsPartAlike types one other o l p q
@@ -218,14 +222,27 @@ pub pairs-all : (R : Part → Part → Type 0) (ps qs : List Part) (i : ℕ) →
     → (k : ℕ) (p q : Part) → slice_get ps k ≡ Some p → slice_get qs k ≡ Some q → R p q
 pairs-all R ps qs i all before k p q e f = before k p q (omega (arith, all, slice_get_within ps k p e)) e f
 
--- what follows from what a test tells
-pub told : (b : Bool) (P Q : Type 0) → (P → Q) → OnTrue b P → OnTrue b Q
-told true P Q f h = f h
-told false P Q f h = h
-
 -- A leaf that is alike to one that meets the test of an `else` -------------------------------------------
 
-pub like-meets : (types : List DataDecl) (layouts : List Layout) (leaves : List Leaf) (leaf : Leaf) (loc : Loc) (literals : List ℕ) (prior : Option ℕ) → IsLike types leaves leaf loc prior
-    → IsPrior types layouts leaves (IsNone loc literals) prior → MeetsTest types layouts leaf (IsNone loc literals)
-like-meets types layouts leaves leaf loc literals prior h known =
-    meets-too types layouts h.1 leaf loc h.4 literals (subst (λ (p : Option ℕ). IsPrior types layouts leaves (IsNone loc literals) p) h.2 known h.1 h.3)
+like-meets : (types : List DataDecl) (layouts : List Layout) (leaves : List Leaf) (leaf : Leaf) (loc : Loc) (literals : List ℕ) (priors : List ℕ) → IsLike types leaves leaf loc priors
+    → EachOf (IsPrior types layouts leaves (IsNone loc literals)) priors → MeetsTest types layouts leaf (IsNone loc literals)
+like-meets types layouts leaves leaf loc literals priors h known = meets-too types layouts h.3.0 leaf loc h.3.2 literals (known h.0 h.1 h.2 h.3.0 h.3.1)
+
+module _ (types : List DataDecl) (layouts : List Layout) (leaves : List Leaf) where
+  abbrev Priors : Test → List ℕ → Type 0
+  Priors test ns = EachOf (IsPrior types layouts leaves test) ns
+
+  pub spared-meets : (leaf : Leaf) (a : Asking) (seen priors : List ℕ) → seen ≡ priors → (a.literal ≡ None) × IsLike types leaves leaf a.loc.now seen → Priors (test_of a) priors
+      → MeetsTest types layouts leaf (test_of a)
+  spared-meets leaf a seen priors same spared known =
+      let as_else : test_of a ≡ IsNone a.loc.now (literals_in a.arms.now) = ap (λ (o : Option ℕ). test_at a.loc.now a.arms.now o) spared.0 in
+      subst (λ (t : Test). MeetsTest types layouts leaf t) (sym as_else) (like-meets types layouts leaves leaf a.loc.now (literals_in a.arms.now) priors
+      (subst (λ (ns : List ℕ). IsLike types leaves leaf a.loc.now ns) same spared.1) (subst (λ (t : Test). Priors t priors) as_else known))
+
+  pub priors-none : (test : Test) (ns : List ℕ) → ns ≡ [] → Priors test ns
+  priors-none test ns none = subst (λ (ms : List ℕ). Priors test ms) (sym none) (each-none (IsPrior types layouts leaves test))
+
+  pub priors-more : (test : Test) (old new : List ℕ) (n : ℕ) (leaf : Leaf) → new ≡ old ++ n ∷ [] → slice_get leaves n ≡ Some leaf → MeetsTest types layouts leaf test → Priors test old → Priors test new
+  priors-more test old new n leaf is at meets known =
+      subst (λ (ns : List ℕ). Priors test ns) (sym is) (each-append (IsPrior types layouts leaves test) old (n ∷ []) known (each-first (IsPrior types layouts leaves test) n []
+      (λ x there. subst (λ (y : Leaf). MeetsTest types layouts y test) (same_Some leaf x (sym at ∙ there)) meets) (each-none (IsPrior types layouts leaves test))))

@@ -3,7 +3,7 @@ use Rattle.std.proofs.Common.{◌≡◌, ℕ, zero, suc, inl, inr, get_or, ◌+�
 use Rattle.std.specs.Prelude.{slice_get, IsSome, unwrap_or, ◌&&◌, ◌==◌, if◌then◌else◌}
 use Rattle.std.specs.Bool.{MatchBool}
 use Rattle.std.proofs.lemmas.Option.{same_Some, slice_get_within}
-use Rattle.std.proofs.lemmas.Bool.{eqb-true, eq-eqb, cases_lt}
+use Rattle.std.proofs.lemmas.Bool.{eqb-true, eq-eqb, cases_lt, and_parts}
 use Rattle.rb_agree.proofs.Lists.{at-item}
 use Rattle.rb_core.specs.declared.value.Value.{Value}
 use Rattle.rb_core.specs.declared.types.Ty.{Ty}
@@ -15,7 +15,7 @@ use Rattle.rb_core.specs.declared.pattern.Pat.TheOpen as P
 use Rattle.rb_core.specs.declared.typing.TypeFault.TheVariants.{Arity, Mismatch}
 use Rattle.rb_core.specs.Values.{is_of_type, all_of_types, are_of, fields_of}
 use Rattle.rb_core.specs.Matching.{IsExhaustive, chosen_clause, matches_of, next_clause}
-use Rattle.rb_core.specs.Typing.{PatternRule, also_bound, and_then, number_type, distinct_binders, fields_match, field_types, pattern_binders, pattern_params, pattern_step, subpatterns}
+use Rattle.rb_core.specs.Typing.{PatternRule, also_bound, and_then, number_type, distinct_binders, field_params, field_types, pattern_binders, pattern_params, pattern_step, subpatterns}
 use Rattle.rb_core.proofs.PatternLaws.{fold-Wild, fold-Var, fold-Num, fold-Con, Each, induction}
 use Rattle.rb_layout.specs.declared.layout.Layout.{Layout}
 use Rattle.rb_layout.specs.declared.layout.Leaf.{Leaf}
@@ -62,10 +62,6 @@ no-leaf (l ∷ ls) v none (suc n) leaf e m = no-leaf ls v (none-case l (chosen_c
 
 -- Plain patterns bind nothing -----------------------------------------------------------------------
 
-both : (a b : Bool) → (a && b) ≡ true → (a ≡ true) × (b ≡ true)
-both true b e = (refl, e)
-both false b e = absurd cc
-
 module _ (types : List DataDecl) where
   abbrev Binds : Pat → Type 0
   Binds p = (t : Ty) → is_plain types p t ≡ true → pattern_params types p t ≡ Ok []
@@ -94,11 +90,11 @@ module _ (types : List DataDecl) where
   subs-plain [] (t ∷ ts) each e = absurd cc
   subs-plain (p ∷ ps) [] each e = absurd cc
   subs-plain (p ∷ ps) (t ∷ ts) each e =
-      let h = both (is_plain types p t) (all_of_types (map (is_plain types) ps) ts) e in
+      let h = and_parts (is_plain types p t) (all_of_types (map (is_plain types) ps) ts) e in
       let rest = subs-plain ps ts each.1 h.1 in
       (ap suc rest.0, ap (λ r. and_then r (λ bound. also_bound bound (subpatterns (rules ps) ts))) (each.0 t h.0) ∙ ap (λ r. also_bound [] r) rest.1)
 
-  fields-plain : (at : ℕ) (ps : List Pat) → Each Binds ps → (x : Option (List Ty)) → are_of (map (is_plain types) ps) x ≡ true → fields_match at (rules ps) (unwrap_or x []) ≡ Ok []
+  fields-plain : (at : ℕ) (ps : List Pat) → Each Binds ps → (x : Option (List Ty)) → are_of (map (is_plain types) ps) x ≡ true → field_params at (rules ps) (unwrap_or x []) ≡ Ok []
   fields-plain at ps each None e = absurd cc
   fields-plain at ps each (Some ts) e =
       let h = subs-plain ps ts each e in
@@ -108,9 +104,9 @@ module _ (types : List DataDecl) where
       → pattern_step types (P.Con at c (rules ps)) t ≡ Ok []
   con-case at c ps each (Int bits) e = absurd cc
   con-case at c ps each (Named t) e =
-      let h = both (c.ty == t) (are_of (map (is_plain types) ps) (fields_of types c)) e in
+      let h = and_parts (c.ty == t) (are_of (map (is_plain types) ps) (fields_of types c)) e in
       let same : (t == c.ty) ≡ true = eq-eqb t c.ty (sym (eqb-true c.ty t h.0)) in
-      ap (λ b. if b then fields_match at (rules ps) (field_types types c) else Err (Mismatch at (Named t) (Named c.ty))) same ∙ fields-plain at ps each (fields_of types c) h.1
+      ap (λ b. if b then field_params at (rules ps) (field_types types c) else Err (Mismatch at (Named t) (Named c.ty))) same ∙ fields-plain at ps each (fields_of types c) h.1
 
   plain-con : (at : ℕ) (c : ConRef) (ps : List Pat) → Each Binds ps → Binds (Con at c ps)
   plain-con at c ps each t e =
@@ -138,7 +134,7 @@ module _ (types : List DataDecl) where
 
   pub have-common : (t : ℕ) (p q r : Pat) → IsCommon types (Named t) p q r → HaveCommon types t p q
   have-common t p q r c =
-      let h = both (matches_of p c.value) (matches_of q c.value) (c.all c.value c.typed c.matched) in (c.value, c.typed, h.0, h.1)
+      let h = and_parts (matches_of p c.value) (matches_of q c.value) (c.all c.value c.typed c.matched) in (c.value, c.typed, h.0, h.1)
 
   and_true : (a b : Bool) → a ≡ true → b ≡ true → (a && b) ≡ true
   and_true true b e f = f

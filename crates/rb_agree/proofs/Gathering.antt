@@ -2,6 +2,7 @@
 use Rattle.std.proofs.Common.{◌≡◌, ◌≢◌, ℕ, zero, suc, ◌+◌, ◌<◌, List, [], ◌∷◌, ◌++◌, length, Bool, true, false, ◌&&◌, ◌==◌, if◌then◌else◌, Some, Result, Ok, Err, OnOk, refl, sym, ap, subst, ◌∙◌, arith, append_assoc, append-nil, eqb-true}
 use mathlib.Core.Bool.{beq}
 use Rattle.std.specs.Prelude.{slice_get, slice_set}
+use Rattle.std.proofs.lemmas.Bool.{and_parts}
 use Rattle.std.proofs.lemmas.Grind.{common_steps}
 use Rattle.std.proofs.lemmas.Option.{same_Some, get_or_from_slice_get}
 use Rattle.rb_core.specs.declared.types.Ty.{Ty}
@@ -121,10 +122,6 @@ units-other true false e same = absurd cc
 units-other false true e same = absurd cc
 units-other false false e same = absurd cc
 
-pub where-ok : {T E : Type 0} (r : Result T E) (P Q : Type 0) → (P → Q) → OnOk r P → OnOk r Q
-where-ok (Ok x) P Q f h = f h
-where-ok (Err e) P Q f h = h
-
 -- A part ------------------------------------------------------------------------------------------------
 
 pub bits-there : (p : Part) (path : List ℕ) (first : ℕ) → p.kind ≡ Bits path first → (ty : Ty) (q : List ℕ) → run_there path false (record { first = first; count = p.l }) ty q ≡ part_runs ty q p
@@ -151,15 +148,11 @@ pointer-none p align block e ty q = by ty ∙ ap (λ (k : Kind). kind_runs ty q 
   by (Int bits) = refl
   by (Named s) = refl
 
-both : (a b : Bool) → (a && b) ≡ true → (a ≡ true) × (b ≡ true)
-both true b e = (refl, e)
-both false b e = absurd cc
-
 path-is : (p q : List ℕ) → same_path p q ≡ true → p ≡ q
 path-is [] [] e = refl
 path-is [] (j ∷ q) e = absurd cc
 path-is (i ∷ p) [] e = absurd cc
-path-is (i ∷ p) (j ∷ q) e = let b = both (i == j) (same_path p q) e in let x = eqb-true i j b.0 in let y = path-is p q b.1 in cc
+path-is (i ∷ p) (j ∷ q) e = let b = and_parts (i == j) (same_path p q) e in let x = eqb-true i j b.0 in let y = path-is p q b.1 in cc
 
 same-self : (p : List ℕ) → same_path p p ≡ true
 same-self [] = refl

@@ -1,8 +1,9 @@
 -- What the parts of a leaf hold of an open position, counted by runs; and the paths that items name.
-use Rattle.std.proofs.Common.{◌≡◌, ℕ, ◌+◌, ◌<◌, List, [], ◌∷◌, ◌++◌, map, Bool, true, false, Option, Some, None, Result, Ok, Err, IfOk, refl, sym, ap, subst, ◌∙◌, arith}
+use Rattle.std.proofs.Common.{◌≡◌, ℕ, ◌+◌, ◌<◌, List, [], ◌∷◌, ◌++◌, map, Bool, true, false, Option, Some, None, Result, IfOk, refl, sym, ap, subst, ◌∙◌, arith}
 use Rattle.std.specs.Prelude.{◌&&◌, ◌==◌, leb, ltb, sum, MatchOption, if◌then◌else◌}
 use Rattle.std.specs.List.{flat_map}
 use Rattle.std.proofs.lemmas.List.Sums.{sum_by-cons}
+use Rattle.std.proofs.lemmas.Result.{IfOk-weaker}
 use Rattle.rb_core.specs.declared.types.DataDecl.{DataDecl}
 use Rattle.rb_core.specs.declared.types.Ty.{Ty}
 use Rattle.rb_core.specs.declared.types.Ty.TheVariants.{Int, Named}
@@ -98,10 +99,6 @@ pub word-paths : (parts : List Written) → flat_map part_paths parts ≡ flat_m
 word-paths [] = refl
 word-paths (x ∷ parts) = ap (λ (ps : List (List ℕ)). part_paths x ++ ps) (word-paths parts)
 
-pub if-ok : {T E : Type 0} (r : Result T E) (P Q : T → Type 0) → ((x : T) → P x → Q x) → IfOk r P → IfOk r Q
-if-ok (Ok x) P Q go h = go x h
-if-ok (Err e) P Q go h = tt
-
 pub where-none : (r : Option Why) (P : Type 0) (Q : Why → Type 0) → MatchOption r P Q → r ≡ None → P
 where-none r P Q h none = subst (λ (x : Option Why). MatchOption x P Q) none h
 
@@ -118,7 +115,7 @@ module _ (opens : List Open) where
 
   pub path-found : {E : Type 0} (path : List ℕ) (paths : List (List ℕ)) → paths ≡ path ∷ [] → (r : Result (Option Why) E) → IfOk r (OfPath path) → IfOk r (Found paths)
   path-found path paths is r h =
-      if-ok r (OfPath path) (Found paths) (λ x k. subst (λ (ps : List (List ℕ)). Found ps x) (sym is) (one-path path x k)) h
+      IfOk-weaker r (OfPath path) (Found paths) (λ x k. subst (λ (ps : List (List ℕ)). Found ps x) (sym is) (one-path path x k)) h
 
   pub paths-found : {E : Type 0} (xs ys : List (List ℕ)) → xs ≡ ys → (r : Result (Option Why) E) → IfOk r (Found xs) → IfOk r (Found ys)
   paths-found xs ys is r h = subst (λ (ps : List (List ℕ)). IfOk r (Found ps)) is h
@@ -148,7 +145,7 @@ module _ (p : Program) (leaf : Leaf) where
   pub place-found : {E : Type 0} (o : Open) (runs : List Run) (n : ℕ) → runs ≡ leaf_runs leaf o.ty o.path → n ≡ units_of p o.ty → (r : Result (Option Why) E)
       → IfOk r (λ x. MatchOption x (AreOnce runs n) (FailsUnits o.path runs n)) → IfOk r (λ x. MatchOption x (HoldsPlace p leaf o) (FailsPlace p leaf o))
   place-found o runs n is all r h =
-      if-ok r (λ x. MatchOption x (AreOnce runs n) (FailsUnits o.path runs n)) (λ x. MatchOption x (HoldsPlace p leaf o) (FailsPlace p leaf o)) (units-hold o runs n is all) h
+      IfOk-weaker r (λ x. MatchOption x (AreOnce runs n) (FailsUnits o.path runs n)) (λ x. MatchOption x (HoldsPlace p leaf o) (FailsPlace p leaf o)) (units-hold o runs n is all) h
 
   abbrev pub ShownHolds : OpenPosition → Type 0
   ShownHolds place = HoldsPlace p leaf (open_at place)
@@ -164,7 +161,7 @@ module _ (p : Program) (leaf : Leaf) where
 
   pub each-held : {E : Type 0} (ps : List OpenPosition) → opens_at ps ≡ open_positions p.types leaf.prov → (r : Result (Option Why) E) → IfOk r (FindsIn ShownHolds ShownFails ps)
       → IfOk r (λ x. MatchOption x (HoldsEach p leaf) (FailsEach p leaf))
-  each-held ps is r h = if-ok r (FindsIn ShownHolds ShownFails ps) (λ x. MatchOption x (HoldsEach p leaf) (FailsEach p leaf)) (all-hold ps is) h
+  each-held ps is r h = IfOk-weaker r (FindsIn ShownHolds ShownFails ps) (λ x. MatchOption x (HoldsEach p leaf) (FailsEach p leaf)) (all-hold ps is) h
 
   module _ (items : List Item) where
     abbrev OpensIn : List DataDecl → List Open
@@ -203,4 +200,4 @@ module _ (p : Program) (leaf : Leaf) where
         → IfOk r (λ x. MatchOption x (HoldsEach p leaf) (FailsEach p leaf)) → IfOk r (λ x. MatchOption x (HoldsOnce p leaf items) (FailsHeld p leaf items))
     held-found types s is h none r each =
         let others = subst (λ (ts : List DataDecl). OtherFound ts None) is (subst (λ (x : Option Why). OtherFound types x) none h) in
-        if-ok r (λ x. MatchOption x (HoldsEach p leaf) (FailsEach p leaf)) (λ x. MatchOption x (HoldsOnce p leaf items) (FailsHeld p leaf items)) (λ x k. with-places x others k) each
+        IfOk-weaker r (λ x. MatchOption x (HoldsEach p leaf) (FailsEach p leaf)) (λ x. MatchOption x (HoldsOnce p leaf items) (FailsHeld p leaf items)) (λ x k. with-places x others k) each

@@ -5,6 +5,7 @@ use Rattle.std.specs.List.{flat_map}
 use Rattle.std.proofs.lemmas.Bool.{lt-ltb}
 use Rattle.std.proofs.lemmas.List.{drop_all, length-map}
 use Rattle.std.proofs.lemmas.Option.{slice_get_within}
+use Rattle.std.proofs.lemmas.Result.{IfOk-weaker}
 use Rattle.rb_core.specs.declared.program.Program.{Program}
 use Rattle.rb_core.specs.declared.types.DataDecl.{DataDecl}
 use Rattle.rb_core.specs.declared.types.Ty.TheVariants.{Named}
@@ -33,7 +34,6 @@ use Rattle.rb_agree.specs.inner.Passing.{PassWhereOff}
 use Rattle.rb_agree.specs.inner.Sharing.{ApartWhereOff}
 use Rattle.rb_agree.specs.inner.Rules.{HoldsWhereOff, IsKnown, leaf_spots, leaves_spots, refusal, rule_number, rule_spots, rules_spots, spots_of, type_spots}
 use Rattle.rb_agree.proofs.Lists.{map-at, flat-end}
-use Rattle.rb_agree.proofs.Holding.{if-ok}
 use Rattle.rb_agree.proofs.Finding.{Passes, pass-on, pass-found, one-place, ends, found-first, found-later, leaves-next, leaves-end, types-next, types-end}
 
 -- What a typed program gives ------------------------------------------------------------------------------
@@ -55,12 +55,12 @@ module _ (p : Program) (layouts : List Layout) (t : ℕ) (layout : Layout) (rule
   holds-nowhere marks none = λ n leaf off at. absurd (cc (ap (λ (ms : List Bool). slice_get ms n) (sym none) ∙ off))
 
   pub holds-values : {E : Type 0} (types : List DataDecl) (r : Result (List Bool) E) → rule ≡ Values → types ≡ p.types → IfOk r (ApartWhereOff types t layout.leaves) → IfOk r (HoldsWhereOff p layouts rule t layout)
-  holds-values types r is same h = if-ok r (ApartWhereOff types t layout.leaves) (HoldsWhereOff p layouts rule t layout) (λ marks apart n leaf off at.
+  holds-values types r is same h = IfOk-weaker r (ApartWhereOff types t layout.leaves) (HoldsWhereOff p layouts rule t layout) (λ marks apart n leaf off at.
       subst (λ (x : Rule). Checked p layouts (leaf_spots p.layouts x t layout n leaf) None) (sym is)
       (subst (λ (ts : List DataDecl). IsApart ts t layout n leaf) same (apart n leaf off at), tt)) h
 
   pub holds-tests : {E : Type 0} (types : List DataDecl) (r : Result (List Bool) E) → rule ≡ Tests → types ≡ p.types → IfOk r (PassWhereOff types layouts layout) → IfOk r (HoldsWhereOff p layouts rule t layout)
-  holds-tests types r is same h = if-ok r (PassWhereOff types layouts layout) (HoldsWhereOff p layouts rule t layout) (λ marks pass n leaf off at.
+  holds-tests types r is same h = IfOk-weaker r (PassWhereOff types layouts layout) (HoldsWhereOff p layouts rule t layout) (λ marks pass n leaf off at.
       subst (λ (x : Rule). Checked p layouts (leaf_spots p.layouts x t layout n leaf) None) (sym is)
       (subst (λ (ts : List DataDecl). MeetsAll ts layouts layout.tree n leaf) same (pass n leaf off at), tt)) h
 
@@ -126,7 +126,7 @@ module _ (p : Program) (layouts : List Layout) where
 
     pub type-one : {E : Type 0} (rule r : Rule) (s : Spot) → rule ≡ r → type_spots r t layout ≡ s ∷ [] → record { rule = rule_number r; ty = t; leaf = None } ≡ place_of_spot s
         → (res : Result (Option Why) E) → IfOk res (Of s) → IfOk res (TypeFinds rule)
-    type-one rule r s is spots place res h = if-ok res (Of s) (TypeFinds rule) (λ found k.
+    type-one rule r s is spots place res h = IfOk-weaker res (Of s) (TypeFinds rule) (λ found k.
         subst (λ (x : Rule). TypeFinds x found) (sym is)
         (subst (λ (ss : List Spot). Finds p layouts ss (refusal (rule_number r) t None found)) (sym spots) (one-place p layouts s (rule_number r) t None found place k))) h
 
@@ -145,7 +145,7 @@ module _ (p : Program) (layouts : List Layout) where
 
       pub leaf-one : {E : Type 0} (rule r : Rule) (s : Spot) → rule ≡ r → leaf_spots p.layouts r t layout n leaf ≡ s ∷ [] → record { rule = rule_number r; ty = t; leaf = Some n } ≡ place_of_spot s
           → (res : Result (Option Why) E) → IfOk res (Of s) → IfOk res (LeafFinds rule)
-      leaf-one rule r s is spots place res h = if-ok res (Of s) (LeafFinds rule) (λ found k. leaf-at rule r s is spots place found k) h
+      leaf-one rule r s is spots place res h = IfOk-weaker res (Of s) (LeafFinds rule) (λ found k. leaf-at rule r s is spots place found k) h
 
       pub leaf-none : (rule r : Rule) → rule ≡ r → leaf_spots p.layouts r t layout n leaf ≡ [] → LeafFinds rule None
       leaf-none rule r is spots = subst (λ (x : Rule). LeafFinds x None) (sym is) (subst (λ (ss : List Spot). Finds p layouts ss None) (sym spots) tt)
@@ -154,7 +154,7 @@ module _ (p : Program) (layouts : List Layout) where
       PartsFound items found = (ls : List Layout) (u m : ℕ) → Finds p ls (part_spots u m leaf 0 items) (refusal 3 u (Some m) found)
 
       pub leaf-parts : {E : Type 0} (rule : Rule) (items : List Item) → rule ≡ Parts → items ≡ items_of p.layouts t n → (res : Result (Option Why) E) → IfOk res (PartsFound items) → IfOk res (LeafFinds rule)
-      leaf-parts rule items is same res h = if-ok res (PartsFound items) (LeafFinds rule) (λ found k.
+      leaf-parts rule items is same res h = IfOk-weaker res (PartsFound items) (LeafFinds rule) (λ found k.
           subst (λ (x : Rule). LeafFinds x found) (sym is)
           (subst (λ (xs : List Item). Finds p layouts (part_spots t n leaf 0 xs) (refusal 3 t (Some n) found)) same (k layouts t n))) h
 
@@ -202,7 +202,7 @@ module _ (p : Program) (layouts : List Layout) where
 
       pub type-passes : {E : Type 0} (r : Option Why) → TypeFinds rule r → r ≡ None → (res : Result (Option Refused) E) → IfOk res (Finds p layouts (leaves_spots p.layouts rule t layout))
           → IfOk res (Finds p layouts (spots_of p.layouts rule t layout))
-      type-passes r h none res found = if-ok res (Finds p layouts (leaves_spots p.layouts rule t layout)) (Finds p layouts (spots_of p.layouts rule t layout)) (λ x k.
+      type-passes r h none res found = IfOk-weaker res (Finds p layouts (leaves_spots p.layouts rule t layout)) (Finds p layouts (spots_of p.layouts rule t layout)) (λ x k.
           found-later p layouts (type_spots rule t layout) (leaves_spots p.layouts rule t layout) x (subst (λ (y : Option Why). TypeFinds rule y) none h) k) found
 
   -- Types one after the other

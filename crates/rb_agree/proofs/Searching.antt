@@ -3,7 +3,7 @@ use Rattle.std.proofs.Common.{◌≡◌, ℕ, zero, suc, ◌+◌, ◌<◌, ◌�
 use Rattle.std.specs.Prelude.{slice_get, slice_set, MatchBool, ◌||◌, ◌&&◌}
 use Rattle.std.specs.List.{list_any}
 use Rattle.std.proofs.lemmas.Option.{same_Some, slice_get_within}
-use Rattle.std.proofs.lemmas.Bool.{cases_lt, ne_eqb}
+use Rattle.std.proofs.lemmas.Bool.{cases_lt, ne_eqb, and_parts}
 use Rattle.std.proofs.lemmas.List.{length-append}
 use Rattle.rb_core.specs.WellNumbered.{is_distinct}
 use Rattle.rb_layout.specs.Cycles.{HasNoCycle, IsChain, IsCycleFrom}
@@ -12,13 +12,9 @@ use Rattle.rb_layout.specs.Graphs.{AreUnmarked, edges_of, HasEdge, HasNoEdge, Le
 use Rattle.rb_layout.proofs.GraphLemmas.{Reaches, chain-snoc, get-last, get-left, get-of, none-past, reach-more, set-here, set-keeps, set-length, set-only}
 use Rattle.rb_agree.specs.Lists.{SomeOf}
 use Rattle.rb_agree.specs.inner.Lists.{EachOf}
-use Rattle.rb_agree.specs.inner.Ways.{State, added, added_if, all_added, state}
+use Rattle.rb_agree.specs.inner.Ways.{State, with_found, added_if, with_all_found, state}
 
 -- No number twice -----------------------------------------------------------------------------------------
-
-both : (a b : Bool) → (a && b) ≡ true → (a ≡ true) × (b ≡ true)
-both true b e = (refl, e)
-both false b e = absurd cc
 
 any-snoc : (x n : ℕ) (ys : List ℕ) (b : Bool) → list_any (nat_eq x) ys ≡ b → nat_eq x n ≡ false → list_any (nat_eq x) (ys ++ n ∷ []) ≡ b
 any-snoc x n [] b e other = ap (λ c. c || false) other ∙ e
@@ -27,7 +23,7 @@ any-snoc x n (y ∷ ys) b e other = ap (λ c. nat_eq x y || c) (any-snoc x n ys 
 distinct-snoc : (xs : List ℕ) (n : ℕ) → is_distinct nat_eq xs ≡ true → ((k y : ℕ) → slice_get xs k ≡ Some y → y ≡ n → ⊥) → is_distinct nat_eq (xs ++ n ∷ []) ≡ true
 distinct-snoc [] n e new = refl
 distinct-snoc (x ∷ xs) n e new =
-    let h = both (not (list_any (nat_eq x) xs)) (is_distinct nat_eq xs) e in
+    let h = and_parts (not (list_any (nat_eq x) xs)) (is_distinct nat_eq xs) e in
     let other : nat_eq x n ≡ false = ne_eqb x n (new 0 x refl) in
     ap (λ b. not b && is_distinct nat_eq (xs ++ n ∷ [])) (any-snoc x n xs (list_any (nat_eq x) xs) refl other)
     ∙ ap (λ b. b && is_distinct nat_eq (xs ++ n ∷ [])) h.0 ∙ distinct-snoc xs n h.1 (λ k y at. new (suc k) y at)
@@ -149,26 +145,26 @@ module _ (graph : List (List ℕ)) (start : ℕ) where
   known-all n edges t here rest zero x e = subst (λ y. Known t.marks y) (same_Some n x e) here
   known-all n edges t here rest (suc k) x e = rest k x e
 
-  all-steps : (w : Way) (edges : List ℕ) (s : State) → Base s → IsFound s.marks w → ((k n : ℕ) → slice_get edges k ≡ Some n → Leads graph w.number n) → Steps s (all_added w.way edges s) edges
+  all-steps : (w : Way) (edges : List ℕ) (s : State) → Base s → IsFound s.marks w → ((k n : ℕ) → slice_get edges k ≡ Some n → Leads graph w.number n) → Steps s (with_all_found w.way edges s) edges
   all-steps w [] s b f leads = record { base = b; grows = grows-none s; known = λ k n e. absurd cc }
   all-steps w (n ∷ edges) s b f leads =
       let one = one-step w n s (slice_get s.marks n) refl b f (leads 0 n refl) in
-      let t = added w.way n s in
+      let t = with_found w.way n s in
       let rest = all-steps w edges t one.base (found-more s t one.grows w f) (λ k x e. leads (suc k) x e) in
       record {
         base = rest.base;
-        grows = grows-more s t (all_added w.way edges t) one.grows rest.grows;
-        known = known-all n edges (all_added w.way edges t) (known-more t (all_added w.way edges t) rest.grows n one.known) rest.known;
+        grows = grows-more s t (with_all_found w.way edges t) one.grows rest.grows;
+        known = known-all n edges (with_all_found w.way edges t) (known-more t (with_all_found w.way edges t) rest.grows n one.known) rest.known;
       }
 
   -- ---- the search
   pub search-next : (s t : State) (i : ℕ) (w : Way) → IsSearch s i → slice_get s.found i ≡ Some w → HasNoEdge (edges_of graph w.number) start
-      → t ≡ all_added w.way (edges_of graph w.number) s → IsSearch t (i + 1)
+      → t ≡ with_all_found w.way (edges_of graph w.number) s → IsSearch t (i + 1)
   search-next s t i w h at none is =
       let f = h.base.found i w at in
       let steps = all-steps w (edges_of graph w.number) s h.base f (λ k n e. (k, e)) in
       let lt = slice_get_within s.found i w at in
-      let u = all_added w.way (edges_of graph w.number) s in
+      let u = with_all_found w.way (edges_of graph w.number) s in
       subst (λ (x : State). IsSearch x (i + 1)) (sym is) (record {
         base = steps.base;
         closed = λ k x le e.
@@ -221,11 +217,11 @@ module _ (graph : List (List ℕ)) (start : ℕ) where
         subst (λ (ns : List ℕ). IsCycleFrom (Leads graph) start ns) (sym is_way)
         (cycle-found s i w h at (subst (λ (ns : List ℕ). HasEdge ns start) is_edges (subst (λ x. MatchBool x (HasEdge edges start) (HasNoEdge edges start)) e leads)))
 
-    pub next-branch : b ≡ false → MatchBool b (Unit {0}) (t ≡ all_added way edges s) → IsSearch t (i + 1)
-    next-branch e added =
-        let all : t ≡ all_added way edges s = subst (λ x. MatchBool x (Unit {0}) (t ≡ all_added way edges s)) e added in
+    pub next-branch : b ≡ false → MatchBool b (Unit {0}) (t ≡ with_all_found way edges s) → IsSearch t (i + 1)
+    next-branch e with_found =
+        let all : t ≡ with_all_found way edges s = subst (λ x. MatchBool x (Unit {0}) (t ≡ with_all_found way edges s)) e with_found in
         search-next s t i w h at (subst (λ (ns : List ℕ). HasNoEdge ns start) is_edges (subst (λ x. MatchBool x (HasEdge edges start) (HasNoEdge edges start)) e leads))
-        (all ∙ ap (λ (ns : List ℕ). all_added ns edges s) is_way ∙ ap (λ (ns : List ℕ). all_added w.way ns s) is_edges)
+        (all ∙ ap (λ (ns : List ℕ). with_all_found ns edges s) is_way ∙ ap (λ (ns : List ℕ). with_all_found w.way ns s) is_edges)
 
   -- ---- the beginning
   unmarked-at : (marks : List Bool) (n : ℕ) → n < length marks → ((k : ℕ) (m : Bool) → slice_get marks k ≡ Some m → m ≡ false) → slice_get marks n ≡ Some false
@@ -241,7 +237,7 @@ module _ (graph : List (List ℕ)) (start : ℕ) where
   one-way marks new zero y e = subst (λ z. mark_of (slice_set marks start true) z ≡ true) (same_Some start y e) (set-here marks start false new)
   one-way marks new (suc k) y e = absurd cc
 
-  pub search-init : (marks : List Bool) (t : State) → AreUnmarked (length graph) marks → start < length graph → t ≡ added [] start (state marks []) → IsSearch t 0
+  pub search-init : (marks : List Bool) (t : State) → AreUnmarked (length graph) marks → start < length graph → t ≡ with_found [] start (state marks []) → IsSearch t 0
   search-init marks t none lt is =
       let new = unmarked-at marks start (let c = none.0 in omega (arith, lt, c)) none.1 in
       let s = state marks [] in
@@ -257,9 +253,9 @@ module _ (graph : List (List ℕ)) (start : ℕ) where
         first = inl (set-here marks start false new);
       })
 
-pub added-next : (way edges : List ℕ) (i : ℕ) (s : State) → i < length edges → all_added way (drop i edges) s ≡ all_added way (drop (i + 1) edges) (added way (get_or edges i 0) s)
+pub added-next : (way edges : List ℕ) (i : ℕ) (s : State) → i < length edges → with_all_found way (drop i edges) s ≡ with_all_found way (drop (i + 1) edges) (with_found way (get_or edges i 0) s)
 added-next way edges i s lt =
-    ap (λ (xs : List ℕ). all_added way xs s) (drop-cons edges i 0 lt) ∙ ap (λ m. all_added way (drop m edges) (added way (get_or edges i 0) s)) (sym (add-one i))
+    ap (λ (xs : List ℕ). with_all_found way xs s) (drop-cons edges i 0 lt) ∙ ap (λ m. with_all_found way (drop m edges) (with_found way (get_or edges i 0) s)) (sym (add-one i))
 
 pub not-within : (i n : ℕ) → (i < n → false ≡ true) → n ≤ i
 not-within i n h = elim (cases_lt i n) [ inl lt ↦ absurd (cc (h lt)) | inr le ↦ le ]

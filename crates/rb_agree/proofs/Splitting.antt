@@ -1,10 +1,16 @@
 -- The splits of a tree, form by form, and their literals.
-use Rattle.std.proofs.Common.{◌≡◌, ℕ, zero, suc, ◌⊎◌, inl, inr, ◌+◌, ◌<◌, ◌≤◌, List, [], ◌∷◌, ◌++◌, map, length, take, drop, get_or, add-one, drop-cons, Bool, true, false, Option, Some, None, Result, Ok, Err, IfOk, refl, sym, ap, subst, ◌∙◌, arith}
-use Rattle.std.specs.Prelude.{slice_get, is_some, MatchOption, ◌||◌, ◌==◌}
+use Rattle.std.proofs.Common.{◌≡◌, ℕ, zero, suc, ◌⊎◌, inl, inr, ◌+◌, ◌<◌, ◌≤◌, List, [], ◌∷◌, ◌++◌, map, length, take, drop, get_or, add-one, drop-cons, Bool, true, false, cond, Option, Some, None, Result, Ok, Err, IfOk, refl, sym, ap, subst, ◌∙◌, arith}
+use Rattle.std.specs.Prelude.{slice_get, is_some, MatchOption, not, ◌||◌, ◌==◌}
 use Rattle.std.specs.List.{flat_map, list_any}
-use Rattle.std.proofs.lemmas.Option.{same_Some}
+use Rattle.std.specs.Ordering.{nat_cmp}
+use Rattle.std.specs.BTreeMap.{is_at}
+use Rattle.std.specs.BTreeSet as tree
+use Rattle.std.specs.BTreeSet.{BTreeSet}
+use Rattle.std.proofs.lemmas.Grind.{common_steps}
+use Rattle.std.proofs.lemmas.Option.{same_Some, slice_get_within, slice_get-get_or}
 use Rattle.std.proofs.lemmas.List.{drop_all}
-use Rattle.std.proofs.lemmas.Bool.{eqb-true, eq-eqb}
+use Rattle.std.proofs.lemmas.List.Folds.{list_any_more}
+use Rattle.std.proofs.lemmas.Bool.{cases_lt, eqb-true, eq-eqb, not-false, not-true}
 use Rattle.rb_core.specs.declared.layout_decl.Loc.{Loc}
 use Rattle.rb_core.specs.declared.layout_decl.Step.{Step}
 use Rattle.rb_layout.specs.declared.layout.FlatTree as F
@@ -18,7 +24,7 @@ use Rattle.rb_layout.specs.Splits.{SplitAt, Under, literals_of, splits_step, spl
 use Rattle.rb_layout.specs.A8.{AllSplitWell, FailsSplits, HasArm, SplitsWell, last_length, length_of}
 use Rattle.rb_layout.proofs.FlatForms.{fold-Leaf, fold-Split, fold-Split-else}
 use Rattle.rb_agree.specs.inner.Lists.{EachOf, FindsIn}
-use Rattle.rb_agree.specs.inner.Splits.{AreDistinct, AreFit, FailsSplit, arm_splits, literals_in, split_of}
+use Rattle.rb_agree.specs.inner.Splits.{AreDistinct, AreFit, FailsSplit, IsTwice, arm_splits, literals_in, split_of}
 use Rattle.rb_agree.proofs.Lists.{finds-left, finds-right, finds-first, finds-rest, flat-next, flat-end, PassesIn}
 
 pub splits-Leaf : (n : ℕ) → splits_of (F.Leaf n) ≡ []
@@ -174,6 +180,43 @@ none-before (x ∷ cs) (suc k) c e (suc j) lt is =
 abbrev pub DistinctBefore : List ℕ → ℕ → Type 0
 DistinctBefore cs n = (j k c : ℕ) → j < k → k < n → slice_get cs j ≡ Some c → slice_get cs k ≡ Some c → ⊥
 
+-- a set has the first n of these literals, and no other number
+abbrev pub HasFirst : BTreeSet ℕ → List ℕ → ℕ → Type 0
+HasFirst s cs n = (c : ℕ) → tree.contains nat_cmp s c ≡ list_any (λ y. y == c) (take n cs)
+
+module _ (s : BTreeSet ℕ) (cs : List ℕ) (k : ℕ) (new : Bool) (within : k < length cs) (has : HasFirst s cs k) (is : new ≡ not (tree.contains nat_cmp s (get_or cs k 0))) where
+  pub held-twice : new ≡ false → IsTwice cs (get_or cs k 0)
+  held-twice old =
+      let r = any-before cs k (get_or cs k 0) (sym (has (get_or cs k 0)) ∙ not-false (tree.contains nat_cmp s (get_or cs k 0)) (sym is ∙ old)) in
+      (r.0, k, r.1, r.2, slice_get-get_or cs k 0 within)
+
+  pub distinct-more : new ≡ true → DistinctBefore cs k → DistinctBefore cs (k + 1)
+  distinct-more fresh before = λ i j c lt below at-i at-j. elim (cases_lt j k) [
+    | inl less ↦ before i j c lt less at-i at-j
+    | inr most ↦
+        let here : j ≡ k = omega (arith, most, below) in
+        let same : get_or cs k 0 ≡ c = same_Some (get_or cs k 0) c (sym (slice_get-get_or cs k 0 within) ∙ subst (λ n. slice_get cs n ≡ Some c) here at-j) in
+        none-before cs k c (subst (λ n. list_any (λ y. y == n) (take k cs) ≡ false) same
+        (sym (has (get_or cs k 0)) ∙ not-true (tree.contains nat_cmp s (get_or cs k 0)) (sym is ∙ fresh))) i (omega (arith, lt, here)) at-i
+  ]
+
+same-number : (x c : ℕ) → is_at (nat_cmp x) c ≡ (x == c)
+same-number x c = grind (arith, common_steps)
+
+either-holds : (p b : Bool) → cond p true b ≡ (b || p)
+either-holds true true = refl
+either-holds true false = refl
+either-holds false true = refl
+either-holds false false = refl
+
+pub has-more : (s t : BTreeSet ℕ) (cs : List ℕ) (k : ℕ) → k < length cs → HasFirst s cs k → tree.Updates nat_cmp s t (get_or cs k 0) true → HasFirst t cs (k + 1)
+has-more s t cs k within has updates = λ c.
+    updates.0 c ∙ ap (λ b. cond b true (tree.contains nat_cmp s c)) (same-number (get_or cs k 0) c) ∙ either-holds (get_or cs k 0 == c) (tree.contains nat_cmp s c)
+    ∙ ap (λ b. b || get_or cs k 0 == c) (has c) ∙ sym (list_any_more (λ y. y == c) cs k 0 within)
+
+pub distinct-all : (cs : List ℕ) (n : ℕ) → length cs ≤ n → DistinctBefore cs n → AreDistinct cs
+distinct-all cs n all before = λ j k c lt at-j at-k. before j k c lt (omega (arith, all, slice_get_within cs k c at-k)) at-j at-k
+
 -- What is found of a split ------------------------------------------------------------------------------
 
 module _ (loc : Loc) (arms : List FlatArm) (other : Bool) where
@@ -184,7 +227,3 @@ pub in-layout-ok : {E : Type 0} (layout : Layout) (r : Result (Option Why) E) �
     → IfOk r (λ found. MatchOption found (AllSplitWell layout) (FailsSplits layout))
 in-layout-ok layout (Ok found) h = in-layout layout found h
 in-layout-ok layout (Err e) h = tt
-
-pub other-ok : {A E : Type 0} (P Q : A → Type 0) (r : Result A E) → ((x : A) → P x → Q x) → IfOk r P → IfOk r Q
-other-ok P Q (Ok x) go h = go x h
-other-ok P Q (Err e) go h = tt

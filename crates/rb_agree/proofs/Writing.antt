@@ -1,5 +1,5 @@
 -- Written items, form by form.
-use Rattle.std.proofs.Common.{◌≡◌, ℕ, suc, ◌+◌, ◌<◌, ◌≤◌, List, [], ◌∷◌, ◌++◌, map, length, drop, get_or, add-one, drop-cons, Result, Ok, Err, OnOk, refl, sym, ap, ◌∙◌}
+use Rattle.std.proofs.Common.{◌≡◌, ℕ, suc, ◌+◌, ◌<◌, ◌≤◌, List, [], ◌∷◌, ◌++◌, map, length, drop, get_or, add-one, drop-cons, refl, sym, ap, ◌∙◌}
 use Rattle.std.specs.List.{flat_map}
 use Rattle.std.proofs.lemmas.List.{append-nil, append_assoc, map-append, drop_all}
 use Rattle.rb_core.specs.declared.layout_decl.LayItem.{LayItem}
@@ -126,7 +126,3 @@ word-added item width parts ws old middle new written is same shown one rest =
     rest ∙ ap (λ (xs : List PartDecl). middle ++ flat_map inside_of xs) same ∙ ap (λ ys. ys ++ flat_map inside_of parts) first
     ∙ append_assoc old (AWord width (map written_part parts) ∷ []) (flat_map inside_of parts)
     ∙ ap (λ ys. old ++ ys) (sym (ap (λ (x : LayItem). item_list x) is ∙ list-Word width parts))
-
-pub on-ok : {T E : Type 0} (r : Result T E) (P Q : Type 0) → (P → Q) → OnOk r P → OnOk r Q
-on-ok (Ok x) P Q go h = go h
-on-ok (Err e) P Q go h = tt

@@ -18,7 +18,7 @@ use crate::fault::AgreeFault;
 use crate::graphs::{flattening_graph, holding_graph};
 use crate::leaves::all_leaves;
 use crate::order::has_no_cycle;
-use crate::pointers::pointing;
+use crate::pointers::pointer_marks;
 use crate::rules::{Related, Rule, rules_fault};
 use crate::shapes::shapes_fault;
 use rb_core::program::Program;
@@ -31,13 +31,13 @@ use std::alloc::{AllocError, Global};
 
 // How the layouts of a program are related: their written items, pointers and graphs, found once
 // for all rules.
-fn related(alloc: Global, program: &Program, layouts: &[Layout]) -> Result<Related, AllocError>
+fn relate(alloc: Global, program: &Program, layouts: &[Layout]) -> Result<Related, AllocError>
     requires typed { IsTyped program.now }
     requires count { length layouts.now ≡ length program.now.types }
     ensures { IfOk result (IsKnown program.now layouts.now) }
 {
     let written = all_leaves(alloc, program.layouts.as_slice(), layouts.len())?;
-    let marks = pointing(alloc, layouts)?;
+    let marks = pointer_marks(alloc, layouts)?;
     let flattened = flattening_graph(alloc, layouts)?;
     let held = holding_graph(alloc, program.types.as_slice(), layouts)?;
     let flattens_in_order = has_no_cycle(alloc, flattened.as_slice())?;
@@ -104,7 +104,7 @@ fn layouts_fault(
         (rules_spots program.now.layouts layouts.now early_rules
         ++ rules_spots program.now.layouts layouts.now late_rules)) }
 {
-    let related = related(alloc, program, layouts)?;
+    let related = relate(alloc, program, layouts)?;
     if let Some(refused) = early_fault(alloc, program, layouts, &related)? {
         return Ok(Some(refused));
     }

@@ -9,7 +9,7 @@
 ghost use Rattle.std.specs.Prelude.{◌≡◌, IfOk, MatchOption, OnOk, MatchBool};
 ghost use Rattle.rb_layout.specs.Cycles.{HasNoCycle, IsCycleFrom};
 ghost use Rattle.rb_layout.specs.Graphs.{HasEdge, HasNoEdge, Leads};
-ghost use Rattle.rb_agree.specs.inner.Ways.{all_added, added, state};
+ghost use Rattle.rb_agree.specs.inner.Ways.{with_all_found, with_found, state};
 
 use rb_core::seq::Seq;
 use rb_layout::graphs::{edges_of, no_marks};
@@ -31,7 +31,7 @@ fn add(
     marks: &mut Seq<bool>,
     found: &mut Seq<Way>,
 ) -> Result<(), AllocError>
-    ensures { OnOk result (state marks.new found.new ≡ added way.now next (state marks.old found.old)) }
+    ensures { OnOk result (state marks.new found.new ≡ with_found way.now next (state marks.old found.old)) }
 {
     match marks.get(next as usize) {
         None => return Ok(()),
@@ -63,7 +63,7 @@ fn follow(
 ) -> Result<bool, AllocError>
     ensures leads { IfOk result (λ b. MatchBool b (HasEdge edges.now start) (HasNoEdge edges.now start)) }
     ensures added { IfOk result (λ b. MatchBool b
-        (Unit {0}) (state marks.new found.new ≡ all_added way.now edges.now (state marks.old found.old))) }
+        (Unit {0}) (state marks.new found.new ≡ with_all_found way.now edges.now (state marks.old found.old))) }
 {
     for next in edges {
         if *next == start {

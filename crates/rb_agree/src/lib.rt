@@ -33,7 +33,7 @@
 //! | A7 tests | `tests::tests_fault` | a leaf |
 //! | A8 splits | `splits::splits_fault` | a type |
 //! | A9 no cycle | `graphs::flattening_fault`, over `graphs::flattening_graph` | a type |
-//! | A9 no pointer | `pointers::pointer_fault`, over `pointers::pointing` | a leaf |
+//! | A9 no pointer | `pointers::pointer_fault`, over `pointers::pointer_marks` | a leaf |
 //! | A10 no cycle | `graphs::holding_fault`, over `graphs::holding_graph` | a type |
 //!
 //! Missing values and common ones are found by the search in matrices of patterns; two provenances that
@@ -47,6 +47,7 @@
 //! - `passing` spares going through a whole tree of splits for each leaf: in one walk each leaf is asked what the
 //!   splits above it ask.
 //! - `alike` spares asking a leaf for each literal beside an `else`, where one that is alike there excludes them all.
+//! - `splits` keeps the literals of a split in a set, so that they are not compared with each other.
 //! - `runs` and `search` spare looking through all parts for each open position: each part's position is looked up,
 //!   and gets its run.
 //! - `order` spares a search for a cycle from each type: one walk finds an order, and no cycle is where all edges

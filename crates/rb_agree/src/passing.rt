@@ -15,15 +15,16 @@
 //! Leaf 0 is asked for the outer 0. Below the outer 1, leaf 1 is asked for the inner 0 and leaf 2 for the
 //! inner 1, and then both for the outer 1. A leaf is asked as often as splits stand above it, where a walk
 //! of its own for each leaf goes through the whole tree each time. Below an `else`, where it is asked for
-//! each literal of the arms, a leaf that is alike to one that excludes them all is not asked again.
+//! each literal of the arms, a leaf that is alike to one that excludes them all is not asked again. One of
+//! each kind is kept for that, so that leaves of several kinds may stand there in turn.
 
-ghost use Rattle.std.specs.Prelude.{IfOk, OnOk};
+ghost use Rattle.std.specs.Prelude.{◌≡◌, IfOk, None, OnOk};
 ghost use Rattle.std.specs.Bool.{OnTrue};
 ghost use Rattle.rb_layout.specs.A7.{MeetsTest};
 ghost use Rattle.rb_layout.specs.Readable.{IsReadable};
 ghost use Rattle.rb_layout.specs.Splits.{routes_of};
 ghost use Rattle.rb_agree.specs.inner.Lists.{EachOf};
-ghost use Rattle.rb_agree.specs.inner.Passing.{AreAsked, AreWalked, CoversSpan, IsAsked, IsLike, IsOff, IsPrior, KeepsMarks, PassWhereOff, else_of, test_of};
+ghost use Rattle.rb_agree.specs.inner.Passing.{AreAsked, AreWalked, CoversSpan, IsAsked, IsLike, IsOff, IsPrior, KeepsMarks, PassWhereOff, test_of};
 ghost use Rattle.rb_agree.specs.inner.Tests.{arms_routes};
 
 use crate::alike::are_alike;
@@ -32,6 +33,7 @@ use rb_core::layout_decl::Loc;
 use rb_core::seq::Seq;
 use rb_core::types::DataDecl;
 use rb_layout::graphs::no_marks;
+use rb_layout::known_bits;
 use rb_layout::layout::{FlatArm, FlatTree, Layout, Leaf};
 use std::alloc::{AllocError, Global};
 
@@ -52,7 +54,7 @@ pub struct Asking<'a> {
 }
 
 // The span of all leaves from the first of both spans on to the last of both.
-fn joined(one: Span, other: Span) -> Span
+fn joined_span(one: Span, other: Span) -> Span
     ensures one { CoversSpan result one }
     ensures other { CoversSpan result other }
 {
@@ -80,84 +82,101 @@ fn mark(marks: &mut Seq<bool>, n: usize)
     }
 }
 
-// Whether a leaf is known to be alike at a location to the one with number `prior`, so that it
-// excludes the same there; false without a number or such a leaf.
-fn is_like(
+// Whether a leaf is known to be alike at a location to one of those with the numbers `priors`, so
+// that it excludes the same there.
+fn is_like(types: &[DataDecl], leaves: &[Leaf], leaf: &Leaf, loc: &Loc, priors: &[usize]) -> bool
+    ensures { OnTrue result (IsLike types.now leaves.now leaf.now loc.now priors.now) }
+{
+    for n in priors {
+        if let Some(one) = leaves.get(*n) {
+            if are_alike(types, one, leaf, loc) {
+                return true;
+            }
+        }
+    }
+    false
+}
+
+// Whether a leaf need not be asked: a split asks it to exclude literals, and it is alike at the
+// split's location to one of those with the numbers `priors`.
+fn is_spared(
     types: &[DataDecl],
     leaves: &[Leaf],
     leaf: &Leaf,
-    loc: &Loc,
-    prior: Option<usize>,
+    asking: &Asking,
+    priors: &[usize],
 ) -> bool
-    ensures { OnTrue result (IsLike types.now leaves.now leaf.now loc.now prior) }
+    ensures { OnTrue result ((asking.now.literal ≡ None)
+        × IsLike types.now leaves.now leaf.now asking.now.loc.now priors.now) }
 {
-    match prior {
-        None => false,
-        Some(n) => match leaves.get(n) {
-            None => false,
-            Some(one) => are_alike(types, one, leaf, loc),
-        },
+    match asking.literal {
+        Some(_) => false,
+        None => is_like(types, leaves, leaf, asking.loc, priors),
     }
 }
 
-// Whether a leaf meets what a split asks: to have a literal, or to exclude those of all arms, as
-// the leaf with number `prior`, if one is given, is known to do.
+// Whether a leaf that excludes the literals of all arms is worth a comparison with later leaves,
+// where so many are compared already: a literal takes a derivation in it, as no number is known
+// there, and comparing never comes to more than the literals. It changes no answer.
+fn is_kept(leaf: &Leaf, asking: &Asking, count: usize) -> bool
+    requires { IsReadable leaf.now }
+{
+    asking.literal.is_none() && count < asking.arms.len() && known_bits(leaf, asking.loc).is_none()
+}
+
+// Whether a leaf meets what a split asks: to have a literal, or to exclude those of all arms.
 fn meets(
     alloc: Global,
     types: &[DataDecl],
     layouts: &[Layout],
-    leaves: &[Leaf],
     leaf: &Leaf,
     asking: &Asking,
-    prior: Option<usize>,
 ) -> Result<bool, AllocError>
-    requires readable { IsReadable leaf.now }
-    requires prior { IsPrior types.now layouts.now leaves.now (else_of asking.now) prior }
+    requires { IsReadable leaf.now }
     ensures { IfOk result
         (λ b. OnTrue b (MeetsTest types.now layouts.now leaf.now (test_of asking.now))) }
 {
     let loc = asking.loc;
     match asking.literal {
         Some(number) => Ok(literal_fault(alloc, types, layouts, leaf, loc, number)?.is_none()),
-        None => {
-            if is_like(types, leaves, leaf, loc, prior) {
-                return Ok(true);
-            }
-            Ok(else_fault(alloc, types, layouts, leaf, loc, asking.arms)?.is_none())
-        }
+        None => Ok(else_fault(alloc, types, layouts, leaf, loc, asking.arms)?.is_none()),
     }
 }
 
-// Marks leaf `n` where it fails what a split asks, and answers the number of a leaf that is known
-// to exclude the literals of all arms, if there is one, as `prior` is before. Nothing changes where
-// there is no such leaf.
+// Marks leaf `n` where it fails what a split asks. The leaves with the numbers `priors` are known
+// to meet it: one that is alike to one of them is not asked, and one that is asked and meets it may
+// become one of them.
 fn ask(
     alloc: Global,
     types: &[DataDecl],
     layouts: &[Layout],
     leaves: &[Leaf],
     asking: &Asking,
-    prior: Option<usize>,
     n: usize,
+    priors: &mut Seq<usize>,
     marks: &mut Seq<bool>,
-) -> Result<Option<usize>, AllocError>
+) -> Result<(), AllocError>
     requires readable { EachOf IsReadable leaves.now }
-    requires prior { IsPrior types.now layouts.now leaves.now (else_of asking.now) prior }
+    requires priors { EachOf (IsPrior types.now layouts.now leaves.now (test_of asking.now)) priors.old }
     ensures asked { OnOk result
         (IsAsked types.now layouts.now leaves.now (test_of asking.now) n marks.old marks.new) }
-    ensures prior { IfOk result (IsPrior types.now layouts.now leaves.now (else_of asking.now)) }
+    ensures priors { OnOk result
+        (EachOf (IsPrior types.now layouts.now leaves.now (test_of asking.now)) priors.new) }
 {
     let Some(leaf) = leaves.get(n) else {
-        return Ok(prior);
+        return Ok(());
     };
-    if meets(alloc, types, layouts, leaves, leaf, asking, prior)? {
-        return match asking.literal {
-            None => Ok(Some(n)),
-            Some(_) => Ok(prior),
-        };
+    if is_spared(types, leaves, leaf, asking, priors.as_slice()) {
+        return Ok(());
     }
-    mark(marks, n);
-    Ok(prior)
+    if !meets(alloc, types, layouts, leaf, asking)? {
+        mark(marks, n);
+        return Ok(());
+    }
+    if is_kept(leaf, asking, priors.len()) {
+        priors.push(n)?;
+    }
+    Ok(())
 }
 
 // Marks those leaves of a span that fail what a split asks of them.
@@ -174,9 +193,9 @@ fn ask_all(
     ensures { OnOk result
         (AreAsked types.now layouts.now leaves.now (test_of asking.now) span marks.old marks.new) }
 {
-    let mut prior = None;
+    let mut priors = Seq::new(alloc);
     for n in span.first..span.end {
-        prior = ask(alloc, types, layouts, leaves, asking, prior, n, marks)?;
+        ask(alloc, types, layouts, leaves, asking, n, &mut priors, marks)?;
     }
     Ok(())
 }
@@ -217,7 +236,7 @@ fn walk_tree(
                         literal: None,
                     };
                     ask_all(alloc, types, layouts, leaves, &asking, under, marks)?;
-                    Ok(joined(span, under))
+                    Ok(joined_span(span, under))
                 }
             }
         }
@@ -252,7 +271,7 @@ fn walk_arms(
             literal: Some(arm.literal),
         };
         ask_all(alloc, types, layouts, leaves, &asking, under, marks)?;
-        span = joined(span, under);
+        span = joined_span(span, under);
     }
     Ok(span)
 }
@@ -262,7 +281,7 @@ fn walk_arms(
 /// # Errors
 ///
 /// Want of memory.
-pub(crate) fn failing(
+pub(crate) fn failure_marks(
     alloc: Global,
     types: &[DataDecl],
     layouts: &[Layout],

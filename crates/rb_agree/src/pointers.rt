@@ -92,7 +92,7 @@ fn leaves_point(leaves: &[Leaf]) -> bool
 /// # Errors
 ///
 /// Want of memory.
-pub fn pointing(alloc: Global, layouts: &[Layout]) -> Result<Seq<bool>, AllocError>
+pub fn pointer_marks(alloc: Global, layouts: &[Layout]) -> Result<Seq<bool>, AllocError>
     ensures { IfOk result (AreMarks layouts.now) }
 {
     let mut marks = Seq::new(alloc);
@@ -160,7 +160,7 @@ fn marked_below(marks: &[bool], prov: &Pat) -> Option<u32>
 
 /// Why a leaf fails: the first type that it flattens and of whose leaves one has a pointer part.
 /// None where there is no such type. `marks` tells of each type whether one of its leaves has a
-/// pointer part, as `pointing` finds it.
+/// pointer part, as `pointer_marks` finds it.
 pub fn pointer_fault(layouts: &[Layout], marks: &[bool], leaf: &Leaf) -> Option<Why>
     requires { AreMarks layouts.now marks.now }
     ensures { MatchOption result (FlattensNoPointer layouts.now leaf.now) (FailsNoPointer layouts.now leaf.now) }

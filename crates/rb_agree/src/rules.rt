@@ -28,10 +28,10 @@ use crate::held::held_fault;
 use crate::items::Item;
 use crate::leaves::{items_at, leaves_at};
 use crate::parts::item_fault;
-use crate::passing::failing;
+use crate::passing::failure_marks;
 use crate::pointers::pointer_fault;
 use crate::roots::root_fault;
-use crate::sharing::sharing;
+use crate::sharing::sharing_marks;
 use crate::splits::splits_fault;
 use crate::tests::tests_fault;
 use crate::values::{apart_fault, complete_fault};
@@ -184,14 +184,14 @@ fn doubts(alloc: Global, ruled: &Ruled) -> Result<Seq<bool>, AllocError>
         Rule::Roots => Ok(Seq::new(alloc)),
         Rule::Parts => Ok(Seq::new(alloc)),
         Rule::Blocks => Ok(Seq::new(alloc)),
-        Rule::Values => sharing(
+        Rule::Values => sharing_marks(
             alloc,
             ruled.program.types.as_slice(),
             ruled.ty,
             ruled.layout,
         ),
         Rule::Fields => Ok(Seq::new(alloc)),
-        Rule::Tests => failing(
+        Rule::Tests => failure_marks(
             alloc,
             ruled.program.types.as_slice(),
             ruled.layouts,

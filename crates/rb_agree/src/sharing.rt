@@ -145,7 +145,7 @@ fn distinct(alloc: Global, heads: &[Option<u32>]) -> Result<usize, AllocError> {
 // The path of a constructor in the first leaf's provenance at which the leaves have most different
 // constructors, so that it tells most of them apart; the root's where there is no leaf or no
 // constructor.
-fn telling(alloc: Global, leaves: &[Leaf]) -> Result<Seq<u32>, AllocError> {
+fn telling_path(alloc: Global, leaves: &[Leaf]) -> Result<Seq<u32>, AllocError> {
     let mut best = Seq::new(alloc);
     let Some(first) = leaves.get(0) else {
         return Ok(best);
@@ -277,7 +277,7 @@ fn shares(
 /// # Errors
 ///
 /// Want of memory.
-pub(crate) fn sharing(
+pub(crate) fn sharing_marks(
     alloc: Global,
     types: &[DataDecl],
     ty: u32,
@@ -288,7 +288,7 @@ pub(crate) fn sharing(
     ensures { IfOk result (ApartWhereOff types.now ty layout.now.leaves) }
 {
     let leaves = layout.leaves.as_slice();
-    let path = telling(alloc, leaves)?;
+    let path = telling_path(alloc, leaves)?;
     let heads = heads_in(alloc, path.as_slice(), leaves)?;
     let groups = groups(alloc, heads.as_slice())?;
     let mut marks = Seq::new(alloc);

@@ -16,6 +16,7 @@ use rb_core::seq::Seq;
 use rb_layout::evidence::Why;
 use rb_layout::layout::{FlatArm, FlatTree, Layout};
 use std::alloc::{AllocError, Global};
+use std::collections::BTreeSet;
 
 /// How many bits the last range of a location has, that behind its last step, or its only one.
 pub(crate) fn length_of(loc: &Loc) -> u64
@@ -52,15 +53,16 @@ fn wide_literal(literals: &[u64], bits: u64) -> Option<u64>
 }
 
 // The first literal that stands among those before it, too; None where there is none.
-fn twice(literals: &[u64]) -> Option<u64>
-    ensures { MatchOption result (AreDistinct literals.now) (IsTwice literals.now) }
+fn twice(alloc: Global, literals: &[u64]) -> Result<Option<u64>, AllocError>
+    ensures { IfOk result (λ found. MatchOption found (AreDistinct literals.now) (IsTwice literals.now)) }
 {
+    let mut before = BTreeSet::new(alloc);
     for k in 0..literals.len() {
-        if literals[..k].contains(&literals[k]) {
-            return Some(literals[k]);
+        if !before.insert(literals[k])? {
+            return Ok(Some(literals[k]));
         }
     }
-    None
+    Ok(None)
 }
 
 // How a split at a location with these arms fails.
@@ -77,7 +79,7 @@ fn split_fault(
     if let Some(literal) = wide_literal(literals.as_slice(), length_of(loc)) {
         return Ok(Some(Why::LiteralWide(loc.copy(alloc)?, literal)));
     }
-    if let Some(literal) = twice(literals.as_slice()) {
+    if let Some(literal) = twice(alloc, literals.as_slice())? {
         return Ok(Some(Why::LiteralTwice(loc.copy(alloc)?, literal)));
     }
     if has_else {

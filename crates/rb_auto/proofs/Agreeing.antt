@@ -16,7 +16,7 @@ use Rattle.rb_layout.specs.A10.{HoldsField}
 use Rattle.rb_layout.specs.Agreement.{Agrees}
 use Rattle.rb_layout.proofs.LayoutLists.{are_in_order}
 use Rattle.rb_auto.specs.Rooms.{kind_of}
-use Rattle.rb_auto.specs.Completed.{Completes, HaveTypedProvenances, completed}
+use Rattle.rb_auto.specs.Completed.{Completes, HaveTypedProvenances, completed_program}
 use Rattle.rb_auto.specs.Obeying.{FieldsHaveShapes, ObeysAt}
 use Rattle.rb_auto.specs.Agreeing.{AmongWritten, CompletedAgree, FlattenNoBoxed, IsWritten, WrittenObey}
 use Rattle.rb_auto.proofs.Numbering.{numbered-named, type-is-small}
@@ -55,9 +55,9 @@ module _ (kinds : List (Option Auto)) (R : ℕ → ℕ → Type 0) (others : (t 
 -- The rules ----------------------------------------------------------------------------------------------
 
 module _ (p : Program) (kinds : List (Option Auto)) (added : List LayoutDecl) (numbered : IsWellNumbered p) (typed : HaveTypedProvenances p) (completes : Completes p kinds added)
-    (obey : WrittenObey (completed p added) kinds (flat_layouts (completed p added))) (boxes : FlattenNoBoxed kinds (flat_layouts (completed p added))) where
+    (obey : WrittenObey (completed_program p added) kinds (flat_layouts (completed_program p added))) (boxes : FlattenNoBoxed kinds (flat_layouts (completed_program p added))) where
   abbrev q : Program
-  q = completed p added
+  q = completed_program p added
 
   abbrev layouts : List Layout
   layouts = flat_layouts q

@@ -1,6 +1,7 @@
 -- The tag of a derived layout is known in each of its leaves.
 use Rattle.std.proofs.Common.{◌≡◌, ℕ, zero, suc, ◌+◌, ◌-◌, ◌*◌, ◌/◌, ◌%◌, ◌^◌, ◌<◌, ◌≤◌, List, [], ◌∷◌, ◌++◌, length, map, Bool, true, Option, Some, None, refl, sym, ap, subst, ◌∙◌, arith}
 use Rattle.std.specs.Prelude.{slice_get, leb, ltb, ◌&&◌, if◌then◌else◌}
+use Rattle.std.specs.Option.{option_or}
 use Rattle.std.specs.Int.{bit_at}
 use Rattle.std.proofs.lemmas.Bool.{le-leb, lt-ltb, and_from}
 use Rattle.std.proofs.Math.Nat.{mod-eq_of_lt}
@@ -17,7 +18,7 @@ use Rattle.rb_layout.specs.declared.layout.FlatWord.{FlatWord}
 use Rattle.rb_layout.specs.declared.layout.Part.{Part}
 use Rattle.rb_layout.specs.declared.layout.Kind.{Kind}
 use Rattle.rb_layout.specs.declared.layout.Kind.TheVariants.{Const}
-use Rattle.rb_layout.specs.Locations.{Reached, constant_bit, constant_bits, known_in, or_else, range_in, reached_at, with_bit}
+use Rattle.rb_layout.specs.Locations.{Reached, constant_bit, constant_bits, known_in, range_in, reached_at, with_bit}
 use Rattle.rb_layout.specs.Splits.{Test, Is}
 use Rattle.rb_layout.specs.Flattening.{WithBlocks, in_turn, part_laid, parts_of, flat_leaf}
 use Rattle.rb_layout.specs.A7.{MeetsTest}
@@ -44,7 +45,7 @@ module _ (n tag : ℕ) (ps : List Part) where
   one-bit o lt =
       let inside : (leb 0 o && ltb o (0 + tag)) ≡ true = and_from (leb 0 o) (ltb o (0 + tag)) (le-leb 0 o (omega arith)) (lt-ltb o (0 + tag) (omega (arith, lt))) in
       let from : o - 0 ≡ o = omega arith in
-      ap (λ (b : Bool). or_else (if b then Some (bit_at n (o - 0)) else None) (constant_bit ps o)) inside ∙ ap (λ i. Some (bit_at n i)) from
+      ap (λ (b : Bool). option_or (if b then Some (bit_at n (o - 0)) else None) (constant_bit ps o)) inside ∙ ap (λ i. Some (bit_at n i)) from
 
   more : (o l : ℕ) → bit_at n o + 2 * ((n / 2 ^ (o + 1)) % 2 ^ l) ≡ (n / 2 ^ o) % 2 ^ (suc l)
   more o l =

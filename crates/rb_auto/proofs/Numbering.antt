@@ -13,17 +13,13 @@ use Rattle.rb_core.specs.declared.program.Program.{Program}
 use Rattle.rb_core.specs.declared.layout_decl.LayoutDecl.{LayoutDecl}
 use Rattle.rb_core.specs.Layouts.{provenances, is_short_layout}
 use Rattle.rb_core.specs.WellNumbered.{IsWellNumbered, con_is_numbered, is_between, is_type, is_upper, layout_is_numbered, provenance_is_numbered, type_is_numbered}
+use Rattle.rb_core.proofs.MatchingLemmas.{all_at}
 use Rattle.rb_layout.specs.Flattening.{decl_of}
 use Rattle.rb_layout.specs.A1.{IsShapeWidth}
 use Rattle.rb_auto.specs.declared.room.Room.{Room}
 use Rattle.rb_auto.specs.Fields.{cons_in, cons_of}
 use Rattle.rb_auto.specs.FieldWords.{field_words, fields_words, words_from, constructor_words}
 use Rattle.rb_auto.specs.Widths.{counted_width, shape_or, widths}
-
-all-at : {A : Type 0} (f : A → Bool) (xs : List A) (k : ℕ) (x : A) → list_all f xs ≡ true → slice_get xs k ≡ Some x → f x ≡ true
-all-at f [] k x all e = absurd cc
-all-at f (y ∷ xs) zero x all e = ap f (sym (same_Some y x e)) ∙ (and_parts (f y) (list_all f xs) all).0
-all-at f (y ∷ xs) (suc k) x all e = all-at f xs k x (and_parts (f y) (list_all f xs) all).1 e
 
 between : (a b n : ℕ) → is_between a b n ≡ true → (a ≤ n) × (n ≤ b)
 between a b n e = let h = and_parts (nat_le a n) (nat_le n b) e in (leb-true a n h.0, leb-true n b h.1)
@@ -53,7 +49,7 @@ module _ (p : Program) (numbered : IsWellNumbered p) where
   con-small c e =
       let a = and_parts (is_upper c.name) (nat_le (length c.fields) 32 && list_all (is_type p.types) c.fields) e in
       let b = and_parts (nat_le (length c.fields) 32) (list_all (is_type p.types) c.fields) a.1 in
-      record { few = leb-true (length c.fields) 32 b.0; typed = λ i ty at. all-at (is_type p.types) c.fields i ty b.1 at }
+      record { few = leb-true (length c.fields) 32 b.0; typed = λ i ty at. all_at (is_type p.types) c.fields i ty b.1 at }
 
   pub record TypeIsSmall (cons : List Con) : Type 0 where
     pub some : 1 ≤ length cons
@@ -65,17 +61,17 @@ module _ (p : Program) (numbered : IsWellNumbered p) where
       let a = and_parts (is_upper d.name) (is_between 1 256 (length d.cons) && list_all (con_is_numbered p.types) d.cons) e in
       let b = and_parts (is_between 1 256 (length d.cons)) (list_all (con_is_numbered p.types) d.cons) a.1 in
       let c = between 1 256 (length d.cons) b.0 in
-      record { some = c.0; few = c.1; each = λ k c at. con-small c (all-at (con_is_numbered p.types) d.cons k c b.1 at) }
+      record { some = c.0; few = c.1; each = λ k c at. con-small c (all_at (con_is_numbered p.types) d.cons k c b.1 at) }
 
   pub type-is-small : (t : ℕ) → t < length p.types → TypeIsSmall (cons_of p.types t)
   type-is-small t lt =
       let d = item-at p.types t lt in
-      subst (λ (o : Option DataDecl). TypeIsSmall (cons_in o)) (sym d.1) (type-small d.0 (all-at (type_is_numbered p.types) p.types t d.0 numbered.types d.1))
+      subst (λ (o : Option DataDecl). TypeIsSmall (cons_in o)) (sym d.1) (type-small d.0 (all_at (type_is_numbered p.types) p.types t d.0 numbered.types d.1))
 
   pub short-shape : (t : ℕ) (d : LayoutDecl) → decl_of p.layouts t ≡ Some d → length d.shape ≤ 8
   short-shape t d e =
       let at = declared p.layouts t d e in
-      let n = all-at (layout_is_numbered p.types) p.layouts at.1 d numbered.layouts at.2 in
+      let n = all_at (layout_is_numbered p.types) p.layouts at.1 d numbered.layouts at.2 in
       let a = and_parts (nat_lt d.ty (length p.types)) (is_between 1 8 (length d.shape) && (list_all (provenance_is_numbered p.types) (provenances d.tree) && is_short_layout d.tree)) n in
       let b = and_parts (is_between 1 8 (length d.shape)) (list_all (provenance_is_numbered p.types) (provenances d.tree) && is_short_layout d.tree) a.1 in
       (between 1 8 (length d.shape) b.0).1

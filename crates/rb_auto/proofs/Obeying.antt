@@ -33,7 +33,7 @@ use Rattle.rb_auto.specs.Fields.{HasField, IsFinite}
 use Rattle.rb_auto.specs.Items.{form_width}
 use Rattle.rb_auto.specs.Derived.{derived_layout}
 use Rattle.rb_auto.specs.Rooms.{AreRooms, AreTheRooms, kind_of}
-use Rattle.rb_auto.specs.Completed.{Completes, HaveTypedProvenances, completed, with_layouts}
+use Rattle.rb_auto.specs.Completed.{Completes, HaveTypedProvenances, completed_program, with_layouts}
 use Rattle.rb_auto.specs.Obeying.{DerivedAreOnNoCycle, DerivedFlattenNothing, DerivedObey, FieldsHaveShapes, ObeysAt, PackedHaveNoPointer}
 use Rattle.rb_auto.specs.inner.Standing.{EachDerivedLeaf, flat_derived}
 use Rattle.rb_auto.specs.inner.PackedRules.{FieldsFit}
@@ -107,30 +107,30 @@ module _ (p : Program) (kinds : List (Option Auto)) (added : List LayoutDecl) (n
   derived-shape t f =
       subst HasShape (sym f.is_decl) (λ i w e. one-width (form_width f.form) i w (form-width p kinds f.rooms t f.form f.is_form) e)
 
-  module _ (have : HaveLayouts (completed p added)) where
+  module _ (have : HaveLayouts (completed_program p added)) where
     abbrev layouts : List Layout
-    layouts = flat_layouts (completed p added)
+    layouts = flat_layouts (completed_program p added)
 
     -- the layouts stand in the types' order
-    pub layout-is : (t : ℕ) (layout : Layout) → layout_of layouts t ≡ Some layout → (d : LayoutDecl) × (decl_of decls t ≡ Some d) × (flat_layout (completed p added) d ≡ layout)
+    pub layout-is : (t : ℕ) (layout : Layout) → layout_of layouts t ≡ Some layout → (d : LayoutDecl) × (decl_of decls t ≡ Some d) × (flat_layout (completed_program p added) d ≡ layout)
     layout-is t layout e =
-        let order = are_in_order (completed p added) have in
+        let order = are_in_order (completed_program p added) have in
         let within = slice_get_within layouts t layout e in
         let count = order.count in
         let lt : t < length p.types = omega (arith, within, count) in
         let d = have t lt in
-        (d.0, d.1, same_Some (flat_layout (completed p added) d.0) layout (sym (order.each t d.0 lt d.1) ∙ e))
+        (d.0, d.1, same_Some (flat_layout (completed_program p added) d.0) layout (sym (order.each t d.0 lt d.1) ∙ e))
 
     same-layout : (t : ℕ) (f : Found t) (layout : Layout) → layout_of layouts t ≡ Some layout → flat_derived p decls f.rooms t f.form ≡ layout
     same-layout t f layout e =
         let is = layout-is t layout e in
-        ap (λ (d : LayoutDecl). flat_layout (completed p added) d) (same_Some (derived_layout p f.rooms t f.form) is.0 (sym f.is_decl ∙ is.1)) ∙ is.2
+        ap (λ (d : LayoutDecl). flat_layout (completed_program p added) d) (same_Some (derived_layout p f.rooms t f.form) is.0 (sym f.is_decl ∙ is.1)) ∙ is.2
 
     leaf-at : (t : ℕ) (f : Found t) (layout : Layout) (n : ℕ) (leaf : Leaf) → layout_of layouts t ≡ Some layout → slice_get layout.leaves n ≡ Some leaf
         → slice_get (flat_derived p decls f.rooms t f.form).leaves n ≡ Some leaf
     leaf-at t f layout n leaf at e = ap (λ (l : Layout). slice_get l.leaves n) (same-layout t f layout at) ∙ e
 
-    obeys : (t : ℕ) → t < length p.types → (f : Found t) → FieldsHaveShapes (completed p added) t → ObeysAt (completed p added) layouts t
+    obeys : (t : ℕ) → t < length p.types → (f : Found t) → FieldsHaveShapes (completed_program p added) t → ObeysAt (completed_program p added) layouts t
     obeys t lt f shapes =
         let rooms = f.rooms in
         let form = f.form in
@@ -179,7 +179,7 @@ module _ (p : Program) (kinds : List (Option Auto)) (added : List LayoutDecl) (n
         let is = layout-is t h.layout h.is_layout in
         let first = same_Some is.0 d (sym is.1 ∙ decl-first p.layouts added t d e) in
         let leaf = get-map (flat_leaf p.types decls) (leaves d.tree) h.leaf_number h.leaf
-        (ap (λ (x : LayoutDecl). slice_get (flat_layout (completed p added) x).leaves h.leaf_number) (sym first)
+        (ap (λ (x : LayoutDecl). slice_get (flat_layout (completed_program p added) x).leaves h.leaf_number) (sym first)
         ∙ ap (λ (l : Layout). slice_get l.leaves h.leaf_number) is.2 ∙ h.is_leaf) in
         let reached = typed-reaches p.types d (typed at.1 d at.2) h.leaf_number leaf.0 leaf.1 h.path s
         (ap (λ (l : Leaf). type_at (open_positions p.types l.prov) h.path) (sym leaf.2) ∙ h.is_field) in
@@ -196,7 +196,7 @@ module _ (p : Program) (kinds : List (Option Auto)) (added : List LayoutDecl) (n
 
     no-cycle : HaveTypedProvenances p → (t : ℕ) → t < length p.types → (f : Found t) (form : Form) → f.form ≡ form → IsForm p kinds f.rooms t form → HasNoCycle (HoldsField p.types layouts) t
     no-cycle typed t lt f Boxed same is =
-        let order = are_in_order (completed p added) have in
+        let order = are_in_order (completed_program p added) have in
         let at = order.each t (derived_layout p f.rooms t f.form) lt f.is_decl in
         box-is-on-no-cycle p decls f.rooms t layouts (at ∙ ap (λ (form : Form). Some (flat_derived p decls f.rooms t form)) same)
     no-cycle typed t lt f (Packed tag width) same is =

@@ -18,7 +18,7 @@ use Rattle.rb_core.specs.declared.pattern.Pat.TheOpen as P
 use Rattle.rb_core.specs.declared.pattern.Pat.TheOpen.{Pat-F}
 use Rattle.rb_core.specs.Layouts.{WrittenLeaf, leaves, provenances}
 use Rattle.rb_core.specs.Values.{fields_in, fields_of, fields_of_con}
-use Rattle.rb_core.specs.Typing.{PatternRule, Typing, also_bound, distinct_binders, field_types, fields_match, pattern_binders, pattern_params, pattern_step, same_type, subpatterns}
+use Rattle.rb_core.specs.Typing.{PatternRule, Typing, also_bound, distinct_binders, field_types, field_params, pattern_binders, pattern_params, pattern_step, same_type, subpatterns}
 use Rattle.rb_core.specs.TypedPrograms.{first_fault, layout_fault, provenance_fault}
 use Rattle.rb_core.proofs.PatternLaws.{fold-Wild, fold-Var, fold-Num, fold-Con, Each, Cases, induction}
 use Rattle.rb_core.proofs.TypingAnswers.{came, constructed, same_type-is}
@@ -92,7 +92,7 @@ module _ (types : List DataDecl) where
   con-chain at c ps each ty bound typed k o e =
       let rules = map (pattern_params types) ps in
       let step : pattern_step types (P.Con at c rules) ty ≡ Ok bound = sym (ap (λ (f : PatternRule). f ty) (fold-Con PatternRule (pattern_step types) at c ps)) ∙ typed in
-      let whole = constructed (same_type ty (Named c.ty)) (fields_match at rules (field_types types c)) _ bound step in
+      let whole = constructed (same_type ty (Named c.ty)) (field_params at rules (field_types types c)) _ bound step in
       let subs = constructed (length rules == length (field_types types c)) (subpatterns rules (field_types types c)) _ bound whole.1 in
       let fields : subpatterns rules (types_or_none (fields_of types c)) ≡ Ok bound = ap (subpatterns rules) (sym (same-types (fields_of types c))) ∙ subs.1 in
       let from = from-field ps each (types_or_none (fields_of types c)) 0 bound fields k o e in

@@ -7,7 +7,7 @@ use Rattle.std.proofs.lemmas.List.{length-append}
 use Rattle.rb_layout.specs.Cycles.{HasNoCycle, IsChain}
 use Rattle.rb_layout.specs.Graphs.{AreUnmarked, edges_of, HasEdge, HasNoEdge, Leads, mark_in, mark_of, row_in}
 use Rattle.rb_layout.proofs.GraphLemmas.{Reaches, chain-snoc, get-last, get-left, get-of, none-past, reach-more, set-here, set-keeps, set-length, set-only}
-use Rattle.rb_auto.specs.inner.Graphs.{HasCycle, State, added, added_if, all_added, state}
+use Rattle.rb_auto.specs.inner.Graphs.{HasCycle, State, with_found, added_if, with_all_found, state}
 
 -- Ways ------------------------------------------------------------------------------------------------------
 
@@ -103,26 +103,26 @@ module _ (graph : List (List ℕ)) (start : ℕ) where
   known-all n edges t here rest zero x e = subst (λ y. Known t.marks y) (same_Some n x e) here
   known-all n edges t here rest (suc k) x e = rest k x e
 
-  all-steps : (x : ℕ) (edges : List ℕ) (s : State) → Base s → IsFound x → ((k n : ℕ) → slice_get edges k ≡ Some n → Leads graph x n) → Steps s (all_added edges s) edges
+  all-steps : (x : ℕ) (edges : List ℕ) (s : State) → Base s → IsFound x → ((k n : ℕ) → slice_get edges k ≡ Some n → Leads graph x n) → Steps s (with_all_found edges s) edges
   all-steps x [] s b f leads = record { base = b; grows = grows-none s; known = λ k n e. absurd cc }
   all-steps x (n ∷ edges) s b f leads =
       let one = one-step x n s (slice_get s.marks n) refl b f (leads 0 n refl) in
-      let t = added n s in
+      let t = with_found n s in
       let rest = all-steps x edges t one.base f (λ k y e. leads (suc k) y e) in
       record {
         base = rest.base;
-        grows = grows-more s t (all_added edges t) one.grows rest.grows;
-        known = known-all n edges (all_added edges t) (known-more t (all_added edges t) rest.grows n one.known) rest.known;
+        grows = grows-more s t (with_all_found edges t) one.grows rest.grows;
+        known = known-all n edges (with_all_found edges t) (known-more t (with_all_found edges t) rest.grows n one.known) rest.known;
       }
 
   -- ---- the search
   search-next : (s t : State) (i x : ℕ) → IsSearch s i → slice_get s.found i ≡ Some x → HasNoEdge (edges_of graph x) start
-      → t ≡ all_added (edges_of graph x) s → IsSearch t (i + 1)
+      → t ≡ with_all_found (edges_of graph x) s → IsSearch t (i + 1)
   search-next s t i x h at none is =
       let f = h.base.found i x at in
       let steps = all-steps x (edges_of graph x) s h.base f (λ k n e. (k, e)) in
       let lt = slice_get_within s.found i x at in
-      let u = all_added (edges_of graph x) s in
+      let u = with_all_found (edges_of graph x) s in
       subst (λ (y : State). IsSearch y (i + 1)) (sym is) (record {
         base = steps.base;
         closed = λ k y le e.
@@ -169,11 +169,11 @@ module _ (graph : List (List ℕ)) (start : ℕ) where
         let f = h.base.found i x at in
         back (Leads graph) start f.0 x f.1 (subst (λ (ns : List ℕ). HasEdge ns start) is_edges (subst (λ y. MatchBool y (HasEdge edges start) (HasNoEdge edges start)) e leads))
 
-    pub next-branch : b ≡ false → MatchBool b (Unit {0}) (t ≡ all_added edges s) → IsSearch t (i + 1)
-    next-branch e added =
-        let all : t ≡ all_added edges s = subst (λ y. MatchBool y (Unit {0}) (t ≡ all_added edges s)) e added in
+    pub next-branch : b ≡ false → MatchBool b (Unit {0}) (t ≡ with_all_found edges s) → IsSearch t (i + 1)
+    next-branch e with_found =
+        let all : t ≡ with_all_found edges s = subst (λ y. MatchBool y (Unit {0}) (t ≡ with_all_found edges s)) e with_found in
         search-next s t i x h at (subst (λ (ns : List ℕ). HasNoEdge ns start) is_edges (subst (λ y. MatchBool y (HasEdge edges start) (HasNoEdge edges start)) e leads))
-        (all ∙ ap (λ (ns : List ℕ). all_added ns s) is_edges)
+        (all ∙ ap (λ (ns : List ℕ). with_all_found ns s) is_edges)
 
   -- ---- the beginning
   unmarked-at : (marks : List Bool) (n : ℕ) → n < length marks → ((k : ℕ) (m : Bool) → slice_get marks k ≡ Some m → m ≡ false) → slice_get marks n ≡ Some false
@@ -185,7 +185,7 @@ module _ (graph : List (List ℕ)) (start : ℕ) where
   not-marked marks y None is all e = absurd cc
   not-marked marks y (Some m) is all e = absurd (cc (all y m is, e))
 
-  pub search-init : (marks : List Bool) (t : State) → AreUnmarked (length graph) marks → start < length graph → t ≡ added start (state marks []) → IsSearch t 0
+  pub search-init : (marks : List Bool) (t : State) → AreUnmarked (length graph) marks → start < length graph → t ≡ with_found start (state marks []) → IsSearch t 0
   search-init marks t none lt is =
       let new = unmarked-at marks start (let c = none.0 in omega (arith, lt, c)) none.1 in
       let s = state marks [] in
@@ -199,9 +199,9 @@ module _ (graph : List (List ℕ)) (start : ℕ) where
         first = inl (set-here marks start false new);
       })
 
-pub added-next : (edges : List ℕ) (i : ℕ) (s : State) → i < length edges → all_added (drop i edges) s ≡ all_added (drop (i + 1) edges) (added (get_or edges i 0) s)
+pub added-next : (edges : List ℕ) (i : ℕ) (s : State) → i < length edges → with_all_found (drop i edges) s ≡ with_all_found (drop (i + 1) edges) (with_found (get_or edges i 0) s)
 added-next edges i s lt =
-    ap (λ (xs : List ℕ). all_added xs s) (drop-cons edges i 0 lt) ∙ ap (λ m. all_added (drop m edges) (added (get_or edges i 0) s)) (sym (add-one i))
+    ap (λ (xs : List ℕ). with_all_found xs s) (drop-cons edges i 0 lt) ∙ ap (λ m. with_all_found (drop m edges) (with_found (get_or edges i 0) s)) (sym (add-one i))
 
 pub not-within : (i n : ℕ) → (i < n → false ≡ true) → n ≤ i
 not-within i n h = elim (cases_lt i n) [ inl lt ↦ absurd (cc (h lt)) | inr le ↦ le ]

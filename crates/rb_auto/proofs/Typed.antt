@@ -4,7 +4,7 @@ use Rattle.rb_core.specs.declared.program.Program.{Program}
 use Rattle.rb_core.specs.declared.layout_decl.LayoutDecl.{LayoutDecl}
 use Rattle.rb_core.specs.TypedPrograms.{IsTyped, function_fault, layout_fault}
 use Rattle.rb_layout.proofs.Blocks.{get_left}
-use Rattle.rb_auto.specs.Completed.{HaveTypedProvenances, completed}
+use Rattle.rb_auto.specs.Completed.{HaveTypedProvenances, completed_program}
 use Rattle.rb_auto.proofs.Leaves.{map-get}
 use Rattle.rb_auto.proofs.Provenances.{no-fault}
 
@@ -14,5 +14,5 @@ typed-provenances p typed k d e =
     (get_left (map (layout_fault p.types) p.layouts) (map (function_fault p.types p.funs) p.funs) k (layout_fault p.types d)
     (map-get (layout_fault p.types) p.layouts k d e))
 
-pub written-provenances : (p : Program) (derived : List LayoutDecl) → HaveTypedProvenances (completed p derived) → HaveTypedProvenances p
+pub written-provenances : (p : Program) (derived : List LayoutDecl) → HaveTypedProvenances (completed_program p derived) → HaveTypedProvenances p
 written-provenances p derived typed k d e = typed k d (get_left p.layouts derived k d e)

@@ -16,7 +16,7 @@ use Rattle.rb_layout.specs.A9.{Flattens, HasPointerPart}
 use Rattle.rb_layout.specs.A10.{HoldsField}
 use Rattle.rb_layout.specs.Agreement.{Agrees}
 use Rattle.rb_auto.specs.Rooms.{kind_of}
-use Rattle.rb_auto.specs.Completed.{Completes, HaveTypedProvenances, completed}
+use Rattle.rb_auto.specs.Completed.{Completes, HaveTypedProvenances, completed_program}
 use Rattle.rb_auto.specs.Obeying.{ObeysAt}
 
 module _ (kinds : List (Option Auto)) where
@@ -44,5 +44,5 @@ FlattenNoBoxed kinds layouts = (t s : ℕ) → IsWritten kinds t → Flattens la
 abbrev pub CompletedAgree : Type 0
 CompletedAgree = (p : Program) (kinds : List (Option Auto)) (derived : List LayoutDecl)
     → IsWellNumbered p → HaveTypedProvenances p → Completes p kinds derived
-    → WrittenObey (completed p derived) kinds (flat_layouts (completed p derived))
-    → FlattenNoBoxed kinds (flat_layouts (completed p derived)) → Agrees (completed p derived)
+    → WrittenObey (completed_program p derived) kinds (flat_layouts (completed_program p derived))
+    → FlattenNoBoxed kinds (flat_layouts (completed_program p derived)) → Agrees (completed_program p derived)

@@ -23,8 +23,8 @@ pub record Completes (p : Program) (kinds : List (Option Auto)) (derived : List 
   pub alone : (t : ℕ) (kind : Auto) → kind_of kinds t ≡ Some kind → decl_of p.layouts t ≡ None
 
 -- a program completed by derived layouts: its own ones, and these after them
-abbrev pub completed : Program → List LayoutDecl → Program
-completed p derived = with_layouts p (p.layouts ++ derived)
+abbrev pub completed_program : Program → List LayoutDecl → Program
+completed_program p derived = with_layouts p (p.layouts ++ derived)
 
 -- each provenance in a program's layouts is a pattern of the layout's type
 abbrev pub HaveTypedProvenances : Program → Type 0

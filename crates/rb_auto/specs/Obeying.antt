@@ -27,7 +27,7 @@ use Rattle.rb_layout.specs.A9.{Flattens, HasPointerPart}
 use Rattle.rb_layout.specs.A10.{HoldsField}
 use Rattle.rb_auto.specs.Fields.{HasField}
 use Rattle.rb_auto.specs.Rooms.{kind_of}
-use Rattle.rb_auto.specs.Completed.{Completes, HaveTypedProvenances, completed}
+use Rattle.rb_auto.specs.Completed.{Completes, HaveTypedProvenances, completed_program}
 
 module _ (layouts : List Layout) (t : ℕ) where
   -- P holds of the layout of type t, if the type has one
@@ -59,8 +59,9 @@ FieldsHaveShapes p t = (s : ℕ) → HasField p.types t s → HasShape (decl_of 
 -- least
 abbrev pub OfEachDerived : (Program → Program → ℕ → Auto → Type 0) → Type 0
 OfEachDerived P = (p : Program) (kinds : List (Option Auto)) (derived : List LayoutDecl)
-    → IsWellNumbered p → Completes p kinds derived → HaveLayouts (completed p derived)
-    → (t : ℕ) (kind : Auto) → t < length p.types → kind_of kinds t ≡ Some kind → P p (completed p derived) t kind
+    → IsWellNumbered p → Completes p kinds derived → HaveLayouts (completed_program p derived)
+    → (t : ℕ) (kind : Auto) → t < length p.types → kind_of kinds t ≡ Some kind
+    → P p (completed_program p derived) t kind
 
 -- A1 to A8: a derived layout obeys them, where the data types of its type's fields have shapes
 abbrev pub DerivedObey : Type 0

@@ -6,7 +6,7 @@ ghost use Rattle.std.specs.Prelude.{◌≡◌, length, IsSome, slice_get};
 ghost use Rattle.rb_auto.specs.Answers.{AnswersDerived, IsDerivedAnswer, answer, packed_answer, packed_fit};
 ghost use Rattle.rb_auto.specs.Rooms.{AreTheRooms, kind_of};
 
-use crate::derived::{cons_of, derived};
+use crate::derived::{cons_of, layout_by_form};
 use crate::fault::AutoFault;
 use crate::form::Form;
 use crate::room::{Room, WORD_BITS};
@@ -35,13 +35,13 @@ fn packed_fit(
         tag: tag_bits(cons_of(program.types.as_slice(), ty).len()),
         width: bits.max(1),
     };
-    let decl = derived(alloc, program, rooms, ty, form)?;
+    let decl = layout_by_form(alloc, program, rooms, ty, form)?;
     Ok(decl)
 }
 
 // The layout of a packed type, by its room: it is refused where it reaches itself through fields or
 // needs over 64 bits. No room, or one that no packed type has, meets want of memory.
-fn packed(
+fn packed_layout(
     alloc: Global,
     program: &Program,
     rooms: &[Room],
@@ -78,9 +78,9 @@ pub fn derive_by(
 {
     match kind_of(kinds, ty) {
         None => Err(AutoFault::Memory),
-        Some(Auto::Packed) => packed(alloc, program, rooms, ty),
+        Some(Auto::Packed) => packed_layout(alloc, program, rooms, ty),
         Some(Auto::Boxed) => {
-            let decl = derived(alloc, program, rooms, ty, Form::Boxed)?;
+            let decl = layout_by_form(alloc, program, rooms, ty, Form::Boxed)?;
             Ok(decl)
         }
     }

@@ -126,7 +126,7 @@ fn tree_of(
 }
 
 /// The layout of a type in this form, where the types of its fields have these rooms.
-pub(crate) fn derived(
+pub(crate) fn layout_by_form(
     alloc: Global,
     program: &Program,
     rooms: &[Room],

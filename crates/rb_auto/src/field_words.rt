@@ -6,7 +6,7 @@ ghost use Rattle.std.specs.Prelude.{◌≡◌, ◌++◌, IfOk, OnOk, map};
 ghost use Rattle.rb_auto.specs.FieldWords.{content, field_words, words_from, constructor_words};
 ghost use Rattle.rb_auto.specs.Widths.{counted_width, widths};
 
-use crate::room::{Room, counted, room_width};
+use crate::room::{Room, counted_bits, room_width};
 use rb_core::layout_decl::PartKind;
 use rb_core::program::Program;
 use rb_core::seq::Seq;
@@ -45,7 +45,7 @@ fn add_words(field: u32, shape: &[u64], words: &mut Seq<FieldWord>) -> Result<()
         words.push(FieldWord {
             field,
             word: Some(number as u64),
-            width: counted(*width),
+            width: counted_bits(*width),
         })?;
     }
     Ok(())
@@ -59,7 +59,7 @@ fn add_shape(field: u32, shape: &[u64], words: &mut Seq<FieldWord>) -> Result<()
         return words.push(FieldWord {
             field,
             word: None,
-            width: counted(*width),
+            width: counted_bits(*width),
         });
     }
     add_words(field, shape, words)

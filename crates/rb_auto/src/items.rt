@@ -4,8 +4,8 @@
 //! `con` is its number, which stands in the tag. An `Err` is want of memory, or that the parts of a
 //! word would end past what a `u64` counts.
 
-ghost use Rattle.std.specs.Prelude.{◌≡◌, ◌∷◌, ◌++◌, [], IfOk, map, length, OnOk};
-ghost use Rattle.rb_auto.specs.Items.{block_items, boxed_parts, field_item, form_parts, form_tag, form_width, groups, group_item, leaf_items, packed_parts, part, parts_from, pointer_parts, tag_parts, whole_word};
+ghost use Rattle.std.specs.Prelude.{◌≡◌, ◌++◌, IfOk, map, length, OnOk};
+ghost use Rattle.rb_auto.specs.Items.{block_items, boxed_parts, field_item, form_parts, form_tag, form_width, groups, group_item, leaf_items, packed_parts, parts_from, whole_word};
 
 use crate::field_words::{FieldWord, content};
 use crate::form::Form;

@@ -8,7 +8,7 @@ ghost use Rattle.std.specs.Prelude.{◌≡◌, ◌++◌, IfOk, MatchBool, OnOk};
 ghost use Rattle.std.specs.List.{flat_map};
 ghost use Rattle.rb_layout.specs.Cycles.{HasNoCycle};
 ghost use Rattle.rb_layout.specs.Graphs.{HasEdge, HasNoEdge, Leads};
-ghost use Rattle.rb_auto.specs.inner.Graphs.{HasCycle, added, all_added, con_types, field_graph, named_types, state};
+ghost use Rattle.rb_auto.specs.inner.Graphs.{HasCycle, with_found, with_all_found, con_types, field_graph, named_types, state};
 
 use rb_core::seq::Seq;
 use rb_core::types::{Con, DataDecl, Ty};
@@ -59,7 +59,7 @@ pub(crate) fn field_graph(alloc: Global, types: &[DataDecl]) -> Result<Seq<Seq<u
 // Marks number `next` and adds it to those that were found, if it was not found before; nothing
 // changes where it has no mark. An `Err` is want of memory.
 fn add(next: u32, marks: &mut Seq<bool>, found: &mut Seq<u32>) -> Result<(), AllocError>
-    ensures { OnOk result (state marks.new found.new ≡ added next (state marks.old found.old)) }
+    ensures { OnOk result (state marks.new found.new ≡ with_found next (state marks.old found.old)) }
 {
     match marks.get(next as usize) {
         None => return Ok(()),
@@ -84,7 +84,7 @@ fn follow(
 ) -> Result<bool, AllocError>
     ensures leads { IfOk result (λ b. MatchBool b (HasEdge edges.now start) (HasNoEdge edges.now start)) }
     ensures added { IfOk result (λ b. MatchBool b
-        (Unit {0}) (state marks.new found.new ≡ all_added edges.now (state marks.old found.old))) }
+        (Unit {0}) (state marks.new found.new ≡ with_all_found edges.now (state marks.old found.old))) }
 {
     for next in edges {
         if *next == start {

@@ -43,7 +43,7 @@ pub(crate) fn room_width(room: Option<&Room>) -> u64
 }
 
 /// A written width as it counts: one outside 1 to 64 counts as 64.
-pub(crate) fn counted(width: u64) -> u64
+pub(crate) fn counted_bits(width: u64) -> u64
     ensures { result ≡ counted_width width }
 {
     if 1 <= width && width <= WORD_BITS {

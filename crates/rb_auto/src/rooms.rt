@@ -21,7 +21,7 @@ ghost use Rattle.rb_auto.specs.inner.Settling.{AreSettled, ExtendsSettled, IsFir
 
 use crate::derived::cons_of;
 use crate::recursion::{field_graph, is_recursive};
-use crate::room::{Room, counted, room_width};
+use crate::room::{Room, counted_bits, room_width};
 use rb_core::program::Program;
 use rb_core::seq::Seq;
 use rb_core::types::{Auto, Con, Ty};
@@ -47,7 +47,7 @@ fn shape_width(shape: &[u64]) -> Option<u64>
 {
     let mut bits: u64 = 0;
     for width in shape {
-        bits = bits.checked_add(counted(*width))?;
+        bits = bits.checked_add(counted_bits(*width))?;
     }
     Some(bits)
 }

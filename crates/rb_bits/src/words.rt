@@ -1,6 +1,6 @@
 //! A range of bits in a word: bits `o` up to `o + l`, counted from 0, the lowest.
 
-ghost use Rattle.std.specs.Prelude.{◌≡◌, ℕ, ◌+◌, ◌^◌, ◌<◌, ◌≤◌};
+ghost use Rattle.std.specs.Prelude.{◌≡◌, ℕ, ◌+◌, ◌^◌, ◌<◌};
 ghost use Rattle.std.specs.Int.{bit_at};
 ghost use Rattle.rb_bits.specs.Words.{IsRange, IsOutside, AreDisjoint, mask_of, take_of, put_of};
 

@@ -6,7 +6,7 @@ use Rattle.std.proofs.lemmas.Nat.{pow-add, pow_pos}
 use Rattle.std.specs.Prelude.{vec_capacity}
 use Rattle.rb_bits.specs.LittleEndian.{IsByteCount, from_le_bytes, to_le_bytes}
 use Rattle.rb_bytes.specs.Memory.{Memory, IsAlign, IsWidth, byte_at, empty_memory, least_multiple, place_of, size_at, lies_within, read_le, write_le, then_byte, store_of}
-use Rattle.rb_bytes.specs.Starts.{byte_by_mark, written_in, size_in, blocks_from, bytes_of, memory_of, IsKept}
+use Rattle.rb_bytes.specs.Starts.{byte_by_mark, marked_bytes, size_in, blocks_from, bytes_of, memory_of, IsKept}
 use Rattle.rb_bytes.specs.declared.fault.Full.{Full}
 use Rattle.rb_bytes.specs.declared.fault.Trap.{Trap}
 use Rattle.rb_bytes.specs.declared.fault.Trap.TheVariants.{Unwritten}
@@ -27,49 +27,49 @@ written_some : (mark byte : ℕ) → 0 < mark → byte_by_mark mark byte ≡ Som
 written_some zero byte pos = absurd (omega arith)
 written_some (suc mark) byte pos = refl
 
-pub byte_at-written_in : (marks bytes : List ℕ) (a : ℕ) → length marks ≡ length bytes → byte_at (written_in marks bytes) a ≡ byte_by_mark (get_or marks a 0) (get_or bytes a 0)
+pub byte_at-written_in : (marks bytes : List ℕ) (a : ℕ) → length marks ≡ length bytes → byte_at (marked_bytes marks bytes) a ≡ byte_by_mark (get_or marks a 0) (get_or bytes a 0)
 byte_at-written_in [] bytes a even = refl
 byte_at-written_in (mark ∷ marks) [] a even = absurd (omega arith)
 byte_at-written_in (mark ∷ marks) (byte ∷ bytes) zero even = refl
 byte_at-written_in (mark ∷ marks) (byte ∷ bytes) (suc a) even = byte_at-written_in marks bytes a (omega arith)
 
-pub byte_marked : (marks bytes : List ℕ) (a : ℕ) → length marks ≡ length bytes → 0 < get_or marks a 0 → byte_at (written_in marks bytes) a ≡ Some (get_or bytes a 0)
+pub byte_marked : (marks bytes : List ℕ) (a : ℕ) → length marks ≡ length bytes → 0 < get_or marks a 0 → byte_at (marked_bytes marks bytes) a ≡ Some (get_or bytes a 0)
 byte_marked marks bytes a even pos = byte_at-written_in marks bytes a even ∙ written_some (get_or marks a 0) (get_or bytes a 0) pos
 
-pub byte_unmarked : (marks bytes : List ℕ) (a : ℕ) → length marks ≡ length bytes → get_or marks a 0 ≡ 0 → byte_at (written_in marks bytes) a ≡ None
+pub byte_unmarked : (marks bytes : List ℕ) (a : ℕ) → length marks ≡ length bytes → get_or marks a 0 ≡ 0 → byte_at (marked_bytes marks bytes) a ≡ None
 byte_unmarked marks bytes a even none = byte_at-written_in marks bytes a even ∙ ap (λ mark. byte_by_mark mark (get_or bytes a 0)) none
 
-length-written_in : (marks bytes : List ℕ) → length marks ≡ length bytes → length (written_in marks bytes) ≡ length bytes
+length-written_in : (marks bytes : List ℕ) → length marks ≡ length bytes → length (marked_bytes marks bytes) ≡ length bytes
 length-written_in [] bytes even = even
 length-written_in (mark ∷ marks) [] even = absurd (omega arith)
 length-written_in (mark ∷ marks) (byte ∷ bytes) even = ap suc (length-written_in marks bytes (omega arith))
 
 -- a word whose bytes are all marked
 pub read_marked : (marks bytes : List ℕ) (n at : ℕ) → length marks ≡ length bytes → at + n ≤ length bytes → ((a : ℕ) → at ≤ a → a < at + n → 0 < get_or marks a 0)
-    → read_le (written_in marks bytes) n at ≡ Ok (from_le_bytes (take n (drop at bytes)))
+    → read_le (marked_bytes marks bytes) n at ≡ Ok (from_le_bytes (take n (drop at bytes)))
 read_marked marks bytes zero at even le all = refl
 read_marked marks bytes (suc n) at even le all =
     let here = byte_marked marks bytes at even (all at (omega arith) (omega arith)) in
     let rest = read_marked marks bytes n (at + 1) even (omega arith) (λ a low high. all a (omega arith) (omega arith)) in
-    ap (λ o. then_byte at o (read_le (written_in marks bytes) n (at + 1))) here
+    ap (λ o. then_byte at o (read_le (marked_bytes marks bytes) n (at + 1))) here
     ∙ ap (then_byte at (Some (get_or bytes at 0))) rest
     ∙ ap (λ xs. Ok (from_le_bytes (take (suc n) xs))) (sym (drop_more bytes at 0 (omega arith)))
 
 -- a word of which some bytes are marked, up to one that is not
 pub read_unmarked : (marks bytes : List ℕ) (n at a : ℕ) → length marks ≡ length bytes → at ≤ a → a < at + n → get_or marks a 0 ≡ 0 → ((k : ℕ) → at ≤ k → k < a → 0 < get_or marks k 0)
-    → read_le (written_in marks bytes) n at ≡ Err (Unwritten a)
+    → read_le (marked_bytes marks bytes) n at ≡ Err (Unwritten a)
 read_unmarked marks bytes zero at a even low high none before = absurd (omega arith)
 read_unmarked marks bytes (suc n) at a even low high none before =
     elim (cases_lt at a) [
       | inl lt ↦
           let here = byte_marked marks bytes at even (before at (omega arith) lt) in
           let rest = read_unmarked marks bytes n (at + 1) a even (omega arith) (omega arith) none (λ k le less. before k (omega arith) less) in
-          ap (λ o. then_byte at o (read_le (written_in marks bytes) n (at + 1))) here ∙ ap (then_byte at (Some (get_or bytes at 0))) rest
+          ap (λ o. then_byte at o (read_le (marked_bytes marks bytes) n (at + 1))) here ∙ ap (then_byte at (Some (get_or bytes at 0))) rest
       | inr le ↦
           let e : a ≡ at = omega arith in
           let here = byte_unmarked marks bytes a even none in
-          ap (λ k. then_byte at (byte_at (written_in marks bytes) k) (read_le (written_in marks bytes) n (at + 1))) (sym e)
-          ∙ ap (λ o. then_byte at o (read_le (written_in marks bytes) n (at + 1))) here ∙ ap (λ k. Err (Unwritten k)) (sym e)
+          ap (λ k. then_byte at (byte_at (marked_bytes marks bytes) k) (read_le (marked_bytes marks bytes) n (at + 1))) (sym e)
+          ∙ ap (λ o. then_byte at o (read_le (marked_bytes marks bytes) n (at + 1))) here ∙ ap (λ k. Err (Unwritten k)) (sym e)
     ]
 
 -- ---- the marks of a word
@@ -113,7 +113,7 @@ over_one at n xs ys x lt =
     ∙ append_assoc (take at xs) (x ∷ []) (ys ++ drop n (drop (at + 1) (set xs at x)))
     ∙ ap (λ zs. take at xs ++ (x ∷ (ys ++ zs))) rest
 
-written_in-set : (marks bytes : List ℕ) (at byte : ℕ) → length marks ≡ length bytes → written_in (set marks at 255) (set bytes at byte) ≡ set (written_in marks bytes) at (Some byte)
+written_in-set : (marks bytes : List ℕ) (at byte : ℕ) → length marks ≡ length bytes → marked_bytes (set marks at 255) (set bytes at byte) ≡ set (marked_bytes marks bytes) at (Some byte)
 written_in-set [] [] at byte even = refl
 written_in-set [] (b ∷ bytes) at byte even = absurd (omega arith)
 written_in-set (mark ∷ marks) [] at byte even = absurd (omega arith)
@@ -124,14 +124,14 @@ none_over : (at : ℕ) (xs : List ℕ) → over at 0 xs [] ≡ xs
 none_over at xs = take-append-drop at xs
 
 written_over : (marks bytes : List ℕ) (n at word : ℕ) → length marks ≡ length bytes → at + n ≤ length bytes
-    → written_in (over at n marks (replicate n 255)) (over at n bytes (to_le_bytes n word)) ≡ write_le (written_in marks bytes) n at word
-written_over marks bytes zero at word even le = ap (λ xs. written_in xs (over at 0 bytes [])) (none_over at marks) ∙ ap (written_in marks) (none_over at bytes)
+    → marked_bytes (over at n marks (replicate n 255)) (over at n bytes (to_le_bytes n word)) ≡ write_le (marked_bytes marks bytes) n at word
+written_over marks bytes zero at word even le = ap (λ xs. marked_bytes xs (over at 0 bytes [])) (none_over at marks) ∙ ap (marked_bytes marks) (none_over at bytes)
 written_over marks bytes (suc n) at word even le =
     let marks1 = set marks at 255 in
     let bytes1 = set bytes at (word % 256) in
     let even1 : length marks1 ≡ length bytes1 = length-set marks at 255 ∙ even ∙ sym (length-set bytes at (word % 256)) in
-    ap (λ xs. written_in xs (over at (suc n) bytes (to_le_bytes (suc n) word))) (sym (over_one at n marks (replicate n 255) 255 (omega arith)))
-    ∙ ap (written_in (over (at + 1) n marks1 (replicate n 255))) (sym (over_one at n bytes (to_le_bytes n (word / 256)) (word % 256) (omega arith)))
+    ap (λ xs. marked_bytes xs (over at (suc n) bytes (to_le_bytes (suc n) word))) (sym (over_one at n marks (replicate n 255) 255 (omega arith)))
+    ∙ ap (marked_bytes (over (at + 1) n marks1 (replicate n 255))) (sym (over_one at n bytes (to_le_bytes n (word / 256)) (word % 256) (omega arith)))
     ∙ written_over marks1 bytes1 n (at + 1) (word / 256) even1 (rw length-set (omega arith))
     ∙ ap (λ xs. write_le xs n (at + 1) (word / 256)) (written_in-set marks bytes at (word % 256) even)
 
@@ -140,10 +140,10 @@ part_long xs at n le = length-take-le n (drop at xs) (rw length-drop (omega arit
 
 -- the marks become the greatest number, and the bytes the low part of the word
 pub write_is : (marks bytes : List ℕ) (n at word : ℕ) → length marks ≡ length bytes → at + n ≤ length bytes
-    → written_in (over at n marks (to_le_bytes n (2 ^ (8 * n) - 1))) (over at n bytes (to_le_bytes n (word % 2 ^ (8 * n)))) ≡ write_le (written_in marks bytes) n at word
+    → marked_bytes (over at n marks (to_le_bytes n (2 ^ (8 * n) - 1))) (over at n bytes (to_le_bytes n (word % 2 ^ (8 * n)))) ≡ write_le (marked_bytes marks bytes) n at word
 write_is marks bytes n at word even le =
-    ap (λ xs. written_in (over at n marks xs) (over at n bytes (to_le_bytes n (word % 2 ^ (8 * n))))) (full_marks n)
-    ∙ ap (λ xs. written_in (over at n marks (replicate n 255)) (over at n bytes xs)) (low_bytes n word)
+    ap (λ xs. marked_bytes (over at n marks xs) (over at n bytes (to_le_bytes n (word % 2 ^ (8 * n))))) (full_marks n)
+    ∙ ap (λ xs. marked_bytes (over at n marks (replicate n 255)) (over at n bytes xs)) (low_bytes n word)
     ∙ written_over marks bytes n at word even le
 
 -- ---- the memory that they spell
@@ -168,10 +168,10 @@ write_le-front xs ys (suc n) at word le =
     ∙ write_le-front (set xs at (Some (word % 256))) ys n (at + 1) (word / 256) (rw length-set (omega arith))
 
 pub byte_none : (c : Inside) → IsKept c → (a : ℕ) → get_or c.marks.items a 0 ≡ 0 → byte_at (bytes_of c) a ≡ None
-byte_none c kept a none = byte_at-padded (written_in c.marks.items c.bytes.items) (c.limit - length c.bytes.items) a ∙ byte_unmarked c.marks.items c.bytes.items a kept.even.0 none
+byte_none c kept a none = byte_at-padded (marked_bytes c.marks.items c.bytes.items) (c.limit - length c.bytes.items) a ∙ byte_unmarked c.marks.items c.bytes.items a kept.even.0 none
 
 pub byte_some : (c : Inside) → IsKept c → (a : ℕ) → 0 < get_or c.marks.items a 0 → byte_at (bytes_of c) a ≡ Some (get_or c.bytes.items a 0)
-byte_some c kept a pos = byte_at-padded (written_in c.marks.items c.bytes.items) (c.limit - length c.bytes.items) a ∙ byte_marked c.marks.items c.bytes.items a kept.even.0 pos
+byte_some c kept a pos = byte_at-padded (marked_bytes c.marks.items c.bytes.items) (c.limit - length c.bytes.items) a ∙ byte_marked c.marks.items c.bytes.items a kept.even.0 pos
 
 -- the size that stands at an address
 pub start_here : (sizes : List ℕ) (a d : ℕ) → a < length sizes → byte_at (map size_in sizes) a ≡ size_in (get_or sizes a d)
@@ -224,11 +224,11 @@ resized_is to more len xs xs' count same resized =
 pub below_place : (c : Inside) → IsKept c → (align at : ℕ) → IsAlign align → at ≡ least_multiple c.next align → length c.bytes.items ≤ at
 below_place c kept align at aligns is = omega (arith, kept.below, aligned_from c.next align (align_positive align aligns), is)
 
-nothing_more : (n : ℕ) → written_in (replicate n 0) (replicate n 0) ≡ replicate n None
+nothing_more : (n : ℕ) → marked_bytes (replicate n 0) (replicate n 0) ≡ replicate n None
 nothing_more zero = refl
 nothing_more (suc n) = ap (λ xs. None ∷ xs) (nothing_more n)
 
-written_in-grown : (marks bytes : List ℕ) (more : ℕ) → length marks ≡ length bytes → written_in (marks ++ replicate more 0) (bytes ++ replicate more 0) ≡ written_in marks bytes ++ replicate more None
+written_in-grown : (marks bytes : List ℕ) (more : ℕ) → length marks ≡ length bytes → marked_bytes (marks ++ replicate more 0) (bytes ++ replicate more 0) ≡ marked_bytes marks bytes ++ replicate more None
 written_in-grown [] [] more even = nothing_more more
 written_in-grown [] (byte ∷ bytes) more even = absurd (omega arith)
 written_in-grown (mark ∷ marks) [] more even = absurd (omega arith)
@@ -284,11 +284,11 @@ module _ (c c' : Inside) (kept : IsKept c) (size align at : ℕ) (pos : 0 < size
   same_bytes =
       let rest : more + (c'.limit - length c'.bytes.items) ≡ c.limit - length c.bytes.items = omega (arith, long_bytes, limit', fits, count) in
       let none = replicate (c'.limit - length c'.bytes.items) None in
-      ap (λ xs. written_in xs c'.bytes.items ++ none) marks'
-      ∙ ap (λ xs. written_in (c.marks.items ++ replicate more 0) xs ++ none) bytes'
+      ap (λ xs. marked_bytes xs c'.bytes.items ++ none) marks'
+      ∙ ap (λ xs. marked_bytes (c.marks.items ++ replicate more 0) xs ++ none) bytes'
       ∙ ap (λ xs. xs ++ none) (written_in-grown c.marks.items c.bytes.items more kept.even.0)
-      ∙ append_assoc (written_in c.marks.items c.bytes.items) (replicate more None) none
-      ∙ ap (λ xs. written_in c.marks.items c.bytes.items ++ xs) (replicate-append-replicate more (c'.limit - length c'.bytes.items) None ∙ ap (λ n. replicate n None) rest)
+      ∙ append_assoc (marked_bytes c.marks.items c.bytes.items) (replicate more None) none
+      ∙ ap (λ xs. marked_bytes c.marks.items c.bytes.items ++ xs) (replicate-append-replicate more (c'.limit - length c'.bytes.items) None ∙ ap (λ n. replicate n None) rest)
 
   placed_memory : memory_of c' ≡ record (memory_of c) { next = at + size; blocks = blocks_from (map size_in c.sizes.items) 0 ++ (at, size) ∷ [] }
   placed_memory =
@@ -312,7 +312,7 @@ module _ (c c' : Inside) (kept : IsKept c) (size align at : ℕ) (pos : 0 < size
 
 -- ---- bytes written
 module _ (c c' : Inside) (kept : IsKept c) (at n word : ℕ) (le : at + n ≤ length c.bytes.items)
-    (value : written_in c'.marks.items c'.bytes.items ≡ write_le (written_in c.marks.items c.bytes.items) n at word)
+    (value : marked_bytes c'.marks.items c'.bytes.items ≡ write_le (marked_bytes c.marks.items c.bytes.items) n at word)
     (marks' : length c'.marks.items ≡ length c.marks.items) (bytes' : length c'.bytes.items ≡ length c.bytes.items) (sizes' : c'.sizes.items ≡ c.sizes.items)
     (room' : (c.limit ≤ vec_capacity c'.bytes) × (c.limit ≤ vec_capacity c'.marks) × (c.limit ≤ vec_capacity c'.sizes))
     (blocks' : c'.blocks ≡ c.blocks) (next' : c'.next ≡ c.next) (limit' : c'.limit ≡ c.limit) where
@@ -321,8 +321,8 @@ module _ (c c' : Inside) (kept : IsKept c) (at n word : ℕ) (le : at + n ≤ le
       let rest = replicate (c.limit - length c.bytes.items) None in
       let blocks : blocks_from (map size_in c'.sizes.items) 0 ≡ blocks_from (map size_in c.sizes.items) 0 = ap (λ xs. blocks_from (map size_in xs) 0) sizes' in
       let bytes : bytes_of c' ≡ write_le (bytes_of c) n at word =
-      ap (λ m. written_in c'.marks.items c'.bytes.items ++ replicate m None) (omega (arith, bytes', limit'))
-      ∙ ap (λ xs. xs ++ rest) value ∙ sym (write_le-front (written_in c.marks.items c.bytes.items) rest n at word (rw (length-written_in c.marks.items c.bytes.items kept.even.0) le)) in cc
+      ap (λ m. marked_bytes c'.marks.items c'.bytes.items ++ replicate m None) (omega (arith, bytes', limit'))
+      ∙ ap (λ xs. xs ++ rest) value ∙ sym (write_le-front (marked_bytes c.marks.items c.bytes.items) rest n at word (rw (length-written_in c.marks.items c.bytes.items kept.even.0) le)) in cc
 
   pub store_kept : IsKept c'
   store_kept = record {

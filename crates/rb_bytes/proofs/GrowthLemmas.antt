@@ -1,9 +1,9 @@
 -- A memory that grows, and where blocks that can be loaded from lie.
 use Rattle.std.proofs.Common.{◌≡◌, ℕ, ◌<◌, ◌≤◌, List, [], ◌∷◌, ◌++◌, Ok, refl, sym, ap, ◌∙◌, arith, append_assoc}
 use Rattle.std.proofs.lemmas.List.{append-nil}
-use Rattle.rb_bytes.specs.Memory.{Memory, IsGood, byte_at, load_of}
+use Rattle.rb_bytes.specs.Memory.{Memory, IsGood, byte_at, load_of, most_region}
 use Rattle.rb_bytes.specs.Laws.{Extends, KeepsLoads}
-use Rattle.rb_bytes.specs.Growth.{IsWhole, AreWhole, Grown, IsGrowth}
+use Rattle.rb_bytes.specs.Growth.{IsWhole, AreWhole, Grown, GrowthLaws}
 use Rattle.rb_bytes.proofs.MemoryLemmas.{written_below, within_next, load_ok, load_extends}
 
 pub Grown-extends : (m m' : Memory) (bs : List (ℕ × ℕ)) (p : ℕ) → IsGood m → Grown m m' bs p → Extends m m'
@@ -52,11 +52,11 @@ Grown-trans m m1 m2 bs cs p q g h = record {
 pub Grown-loads : (m m' : Memory) (bs : List (ℕ × ℕ)) (p : ℕ) → IsGood m → Grown m m' bs p → KeepsLoads m m'
 Grown-loads m m' bs p good g = λ b o w r is. load_extends m m' b o w r (Grown-extends m m' bs p good g) is
 
-pub growth_is : IsGrowth
+pub growth_is : GrowthLaws
 growth_is = record { none = Grown-refl; twice = Grown-trans; extends = Grown-extends; loads = Grown-loads }
 
 -- an address that is loaded from is small, so that no sum or product with it wraps round
-pub address_small : (m : Memory) (base offset width r : ℕ) → IsGood m → load_of m base offset width ≡ Ok r → base ≤ 16777216
+pub address_small : (m : Memory) (base offset width r : ℕ) → IsGood m → load_of m base offset width ≡ Ok r → base ≤ most_region
 address_small m base offset width r good is =
     let within = within_next m base _ good (load_ok m base offset width r is).0 in
     omega (arith, within, good.next, good.limit)

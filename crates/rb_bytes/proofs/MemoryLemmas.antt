@@ -6,7 +6,7 @@ use Rattle.std.proofs.lemmas.Bool.Decides.{leb_tells}
 use Rattle.std.proofs.lemmas.List.{length-replicate}
 use Rattle.std.proofs.Math.Nat.{one-le-pow}
 use Rattle.rb_bits.specs.LittleEndian.{from_le_bytes}
-use Rattle.rb_bytes.specs.Memory.{Memory, IsGood, IsAlign, IsSize, IsWidth, byte_at, empty_memory, least_multiple, place_of, size_at, lies_within, read_le, write_le, load_of, store_of}
+use Rattle.rb_bytes.specs.Memory.{Memory, IsGood, IsAlign, IsSize, IsWidth, byte_at, empty_memory, least_multiple, place_of, size_at, lies_within, read_le, write_le, load_of, store_of, least_region, most_region}
 use Rattle.rb_bytes.specs.Laws.{Extends, AreApart, Spells, IsLeastMultiple, IsFirstUnwritten, ChangesOnly, IsPlaced, IsStored, IsLoaded}
 use Rattle.rb_bytes.specs.declared.fault.Full.{Full}
 use Rattle.rb_bytes.specs.declared.fault.Trap.{Trap}
@@ -24,7 +24,7 @@ none_written zero a = refl
 none_written (suc n) zero = refl
 none_written (suc n) (suc a) = none_written n a
 
-pub empty_good : (limit : ℕ) → 64 ≤ limit → limit ≤ 16777216 → IsGood (empty_memory limit)
+pub empty_good : (limit : ℕ) → least_region ≤ limit → limit ≤ most_region → IsGood (empty_memory limit)
 empty_good limit low high = record {
   blocks = omega arith;
   next = (omega arith, low);

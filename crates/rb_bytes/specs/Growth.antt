@@ -27,7 +27,7 @@ pub record Grown (old new : Memory) (blocks : List (ℕ × ℕ)) (p : ℕ) : Typ
 
 -- The laws of growing. A good memory has grown by no block. One that grew by some blocks and then by others has grown
 -- by all of them. A good memory that grows keeps its blocks, what was written, and what could be loaded.
-pub record IsGrowth : Type 0 where
+pub record GrowthLaws : Type 0 where
   pub none : (m : Memory) → IsGood m → Grown m m [] m.next
   pub twice : (a b c : Memory) (bs cs : List (ℕ × ℕ)) (p q : ℕ) → Grown a b bs p → Grown b c cs q
       → Grown a c (bs ++ cs) q

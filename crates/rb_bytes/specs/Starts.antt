@@ -11,10 +11,10 @@ byte_by_mark zero byte = None
 byte_by_mark (suc mark) byte = Some byte
 
 -- the bytes of all addresses, by their marks; as long as the shorter of the two lists
-abbrev pub written_in : List ℕ → List ℕ → List (Option ℕ)
-written_in [] bytes = []
-written_in (mark ∷ marks) [] = []
-written_in (mark ∷ marks) (byte ∷ bytes) = byte_by_mark mark byte ∷ written_in marks bytes
+abbrev pub marked_bytes : List ℕ → List ℕ → List (Option ℕ)
+marked_bytes [] bytes = []
+marked_bytes (mark ∷ marks) [] = []
+marked_bytes (mark ∷ marks) (byte ∷ bytes) = byte_by_mark mark byte ∷ marked_bytes marks bytes
 
 -- the size of the block that begins at an address; 0 says that none does
 abbrev pub size_in : ℕ → Option ℕ
@@ -30,7 +30,7 @@ blocks_from (Some size ∷ starts) at = (at, size) ∷ blocks_from starts (at + 
 
 -- the bytes of all addresses up to the limit; nothing is written behind the last block, where the lists end
 abbrev pub bytes_of : Inside → List (Option ℕ)
-bytes_of c = written_in c.marks.items c.bytes.items ++ replicate (c.limit - length c.bytes.items) None
+bytes_of c = marked_bytes c.marks.items c.bytes.items ++ replicate (c.limit - length c.bytes.items) None
 
 -- the memory that these lists and numbers stand for
 abbrev pub memory_of : Inside → Memory

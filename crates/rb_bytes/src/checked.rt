@@ -1,9 +1,9 @@
 //! A memory that tests each load and store.
 
-ghost use Rattle.std.specs.Prelude.{◌≡◌, ℕ, ◌≤◌, ◌<◌, ◌+◌, get_or, length, map, IfOk, IfSome, true, nat_le, find};
+ghost use Rattle.std.specs.Prelude.{◌≡◌, ℕ, ◌≤◌, ◌<◌, ◌+◌, get_or, length, IfOk, IfSome, true, nat_le, find};
 ghost use Rattle.rb_bits.specs.LittleEndian.{IsByteCount};
 ghost use Rattle.rb_bytes.specs.Memory.{IsGood, least_region, most_region, read_le, write_le, empty_memory, size_at, lies_within, byte_at};
-ghost use Rattle.rb_bytes.specs.Starts.{written_in};
+ghost use Rattle.rb_bytes.specs.Starts.{marked_bytes};
 
 use crate::fault::{Full, Trap};
 use crate::memory::{ByteMemory, LEAST_REGION};
@@ -59,7 +59,7 @@ fn read_word(marks: &[u8], bytes: &[u8], at: u64, count: u64) -> Result<u64, Tra
     requires even { length marks.now ≡ length bytes.now }
     requires count { IsByteCount count }
     requires within { at + count ≤ length bytes.now }
-    ensures { result ≡ read_le (written_in marks.now bytes.now) count at }
+    ensures { result ≡ read_le (marked_bytes marks.now bytes.now) count at }
 {
     if !are_written(marks, at, count) {
         for i in at..at + count {
@@ -77,8 +77,8 @@ fn write_word(marks: &mut [u8], bytes: &mut [u8], at: u64, count: u64, word: u64
     requires even { length marks.old ≡ length bytes.old }
     requires count { IsByteCount count }
     requires within { at + count ≤ length bytes.old }
-    ensures { written_in marks.new bytes.new
-        ≡ write_le (written_in marks.old bytes.old) count at word }
+    ensures { marked_bytes marks.new bytes.new
+        ≡ write_le (marked_bytes marks.old bytes.old) count at word }
 {
     let bits = 8 * count as u32;
     store_le(

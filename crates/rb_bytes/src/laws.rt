@@ -3,10 +3,10 @@
 //! a base is. [`crate::memory::ByteMemory`] gives each method's answer by the same definitions, so
 //! that these laws hold of every call of any memory.
 
-ghost use Rattle.std.specs.Prelude.{◌≡◌, ℕ, ◌^◌, ◌≤◌, Ok};
+ghost use Rattle.std.specs.Prelude.{◌≡◌, ℕ, ◌≤◌, Ok};
 ghost use Rattle.rb_bytes.specs.Memory.{Memory, most_region, IsGood, IsWidth, IsSize, IsAlign, place_of, load_of, store_of};
 ghost use Rattle.rb_bytes.specs.Laws.{IsPlaced, IsStored, IsLoaded};
-ghost use Rattle.rb_bytes.specs.Growth.{IsGrowth};
+ghost use Rattle.rb_bytes.specs.Growth.{GrowthLaws};
 
 /// A place, of a size and an alignment that blocks have, leaves a good memory good, and keeps all
 /// that was placed, written and could be loaded. A block that fits stands at the least multiple of
@@ -37,7 +37,7 @@ pub fn loads_are_spelled()
 /// was written, and what could be loaded. To grow by some blocks and then by others is to grow by
 /// all of them, and a good memory has grown by none.
 pub fn growth_keeps_all()
-    ensures { IsGrowth }
+    ensures { GrowthLaws }
 {}
 
 /// The base of a load that succeeds in a good memory is not above the address at which a region ends

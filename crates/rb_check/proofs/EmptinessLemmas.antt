@@ -5,6 +5,7 @@ use Rattle.std.proofs.Math.Bool.{or-true}
 use Rattle.std.proofs.Math.Pow.{pow_pos}
 use Rattle.std.specs.Prelude.{slice_get, nat_lt, MatchOption}
 use Rattle.std.specs.List.{list_any, list_all}
+use Rattle.std.proofs.lemmas.Bool.{and_parts}
 use Rattle.std.proofs.lemmas.Bool.Decides.{nat_tests}
 use Rattle.rb_core.specs.declared.types.Ty.{Ty}
 use Rattle.rb_core.specs.declared.types.Ty.TheVariants.{Int, Named}
@@ -41,10 +42,6 @@ mark_of-set (m ∷ ms) zero zero P here before e = here
 mark_of-set (m ∷ ms) zero (suc s) P here before e = before (suc s) e
 mark_of-set (m ∷ ms) (suc t) zero P here before e = before zero e
 mark_of-set (m ∷ ms) (suc t) (suc s) P here before e = mark_of-set ms t s (λ n. P (suc n)) here (λ u. before (suc u)) e
-
-both : (a b : Bool) → (a && b) ≡ true → (a ≡ true) × (b ≡ true)
-both true b e = (refl, e)
-both false b e = cc
 
 -- some item passes, at its place
 pub record SomeItem {A : Type 0} (test : A → Bool) (xs : List A) : Type 0 where
@@ -97,8 +94,8 @@ module _ (types : List DataDecl) (marks : List Bool) where
       let rest : Values ts = field_values sound ts e in
       record { values = Num 0 ∷ rest.values; fit = ap (λ b. b && all_of_types (of_types rest.values) ts) (zero_fits bits) ∙ rest.fit }
   field_values sound (Named u ∷ ts) e =
-      let here : HasValue types u = sound u (both (mark_of marks u) (list_all (is_marked marks) ts) e).0 in
-      let rest : Values ts = field_values sound ts (both (mark_of marks u) (list_all (is_marked marks) ts) e).1 in
+      let here : HasValue types u = sound u (and_parts (mark_of marks u) (list_all (is_marked marks) ts) e).0 in
+      let rest : Values ts = field_values sound ts (and_parts (mark_of marks u) (list_all (is_marked marks) ts) e).1 in
       record { values = here.0 ∷ rest.values; fit = ap (λ b. b && all_of_types (of_types rest.values) ts) here.1 ∙ rest.fit }
 
   -- a type with a constructor from marked types has a value
@@ -122,7 +119,7 @@ module _ (types : List DataDecl) (marks : List Bool) where
   fields_are_marked [] (t ∷ ts) each e = cc
   fields_are_marked (v ∷ vs) [] each e = cc
   fields_are_marked (v ∷ vs) (t ∷ ts) each e =
-      let here = both (is_of_type types v t) (all_of_types (of_types vs) ts) e in
+      let here = and_parts (is_of_type types v t) (all_of_types (of_types vs) ts) e in
       rw (each.0 t here.0) (fields_are_marked vs ts each.1 here.1)
 
   module _ (settled : IsSettled types marks) where

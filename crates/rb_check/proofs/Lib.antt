@@ -6,7 +6,6 @@ pub mod EmptinessLemmas
 pub mod ExpressionLemmas
 pub mod PatternLemmas
 pub mod ProgramLemmas
-pub mod ScopeLemmas
 pub mod SiteLemmas
 pub mod SiteTypes
 pub mod WidthLemmas

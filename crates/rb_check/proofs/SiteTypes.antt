@@ -1,9 +1,9 @@
 -- The matches of a well numbered program: each scrutinee has a type of the program, and each match has
 -- fewer clauses than 32 bits number.
-use Rattle.std.proofs.Common.{◌≡◌, ℕ, zero, suc, ◌<◌, ◌^◌, List, [], ◌∷◌, ◌++◌, map, length, Bool, true, false, ◌&&◌, ◌==◌, Option, Some, None, refl, sym, ap, ◌∙◌, subst}
+use Rattle.std.proofs.Common.{◌≡◌, ℕ, ◌<◌, ◌^◌, List, [], ◌∷◌, ◌++◌, map, length, Bool, true, false, ◌==◌, Option, Some, None, refl, sym, ◌∙◌, subst}
 use Rattle.std.specs.Prelude.{slice_get, nat_lt, nat_le, unwrap_or, if◌then◌else◌, is_some}
 use Rattle.std.specs.List.{list_all, flat_map}
-use Rattle.std.proofs.lemmas.Bool.{lt-ltb, ltb-true}
+use Rattle.std.proofs.lemmas.Bool.{lt-ltb, ltb-true, and_parts}
 use Rattle.std.proofs.lemmas.List.{length-map}
 use Rattle.std.proofs.lemmas.Option.{slice_get_within}
 use Rattle.rb_core.specs.declared.types.Ty.{Ty}
@@ -23,31 +23,22 @@ use Rattle.rb_core.specs.declared.expression.Clause.{Clause}
 use Rattle.rb_core.specs.declared.expression.Expr.{Expr}
 use Rattle.rb_core.specs.declared.expression.Expr as X
 use Rattle.rb_core.specs.declared.expression.Expr.TheOpen as E
-use Rattle.rb_core.specs.declared.expression.Expr.TheOpen.{Expr-F}
-use Rattle.rb_core.specs.declared.expression.Expr.TheFolds.{fold-Clause, fold-roll-Expr, fold_out-Clause}
 use Rattle.rb_core.specs.Values.{fields_in, fields_of_con}
 use Rattle.rb_core.specs.Typing.{binder_of, bound_type, field_types, operand_wanted, operator_type, result_of, result_type}
 use Rattle.rb_core.specs.Inference.{all_binders, binders, first_clause_type, inferred_type, clause_inferred, with_binder}
 use Rattle.rb_core.specs.Coverage.{branch_sites, function_sites, part_sites, sites, sites_of}
-use Rattle.rb_core.specs.WellNumbered.{Within, numbered_clause_step, expression_is_numbered, expression_step, function_is_numbered, is_constructor, is_lower, is_type, param_is_numbered, vars_of}
+use Rattle.rb_core.specs.WellNumbered.{Within, expression_is_numbered, function_is_numbered, is_constructor, is_lower, is_type, param_is_numbered, vars_of}
 use Rattle.rb_core.specs.TypedPrograms.{IsTyped}
 use Rattle.rb_core.proofs.PatternLaws as PL
 use Rattle.rb_core.proofs.ExpressionLaws as EL
 use Rattle.rb_core.proofs.CoverageForms.{branch, part, sites-Clause, sites-Num, sites-Var, sites-Call, sites-Build, sites-Binary, sites-To, sites-Let, sites-Match}
 use Rattle.rb_core.proofs.InferenceAgreement.{binders-Wild, binders-Var, binders-Num, binders-Con}
 use Rattle.rb_core.proofs.InferenceForms.{clause_inferred-is, inferred-Num, inferred-Var, inferred-Call, inferred-Build, inferred-Binary, inferred-To, inferred-Let, inferred-Match}
+use Rattle.rb_core.proofs.MatchingLemmas.{all_at}
+use Rattle.rb_core.proofs.NumberedForms.{body_numbered, clause_numbered, numbered-is}
 use Rattle.rb_matrix.specs.Search.{AreInhabited, AreTypesIn, IsTypeIn}
 use Rattle.rb_matrix.proofs.Inhabited.{con-types}
 use Rattle.rb_check.specs.inner.Covering.{AreNumberedSites}
-
-both : (a b : Bool) → (a && b) ≡ true → (a ≡ true) × (b ≡ true)
-both true b e = (refl, e)
-both false b e = cc
-
-all_at : {A : Type 0} (test : A → Bool) (xs : List A) (i : ℕ) (x : A) → list_all test xs ≡ true → slice_get xs i ≡ Some x → test x ≡ true
-all_at test [] i x all e = cc
-all_at test (y ∷ ys) zero x all e = let here : y ≡ x = cc in ap test (sym here) ∙ (both (test y) (list_all test ys) all).0
-all_at test (y ∷ ys) (suc i) x all e = all_at test ys i x (both (test y) (list_all test ys) all).1 e
 
 module _ (types : List DataDecl) where
   -- each binder has a type of the program
@@ -69,7 +60,7 @@ module _ (types : List DataDecl) where
 
   params_bound : (ps : List Param) → list_all (param_is_numbered types) ps ≡ true → AreBound (map binder_of ps)
   params_bound [] h = tt
-  params_bound (p ∷ ps) h = let all = both (is_type types p.ty) (list_all (param_is_numbered types) ps) h in (all.0, params_bound ps all.1)
+  params_bound (p ∷ ps) h = let all = and_parts (is_type types p.ty) (list_all (param_is_numbered types) ps) h in (all.0, params_bound ps all.1)
 
   constructor-in : (c : ConRef) → is_constructor types c ≡ true → IsTypeIn types (Named c.ty)
   constructor-in c e = of_type (slice_get types c.ty) refl e
@@ -137,10 +128,10 @@ module _ (types : List DataDecl) where
       function-parts : (f : Fun) → function_is_numbered types funs f ≡ true
           → AreBound (map binder_of f.params) × IsTypeIn types f.result × (expression_is_numbered types funs f.body (map (λ p. p.var) f.params) ≡ true)
       function-parts f e =
-          let named = both (is_lower f.name) _ e in
-          let counted = both (nat_le (length f.params) 32) _ named.1 in
-          let params = both (list_all (param_is_numbered types) f.params) _ counted.1 in
-          let body = both (is_type types f.result) _ params.1 in
+          let named = and_parts (is_lower f.name) _ e in
+          let counted = and_parts (nat_le (length f.params) 32) _ named.1 in
+          let params = and_parts (list_all (param_is_numbered types) f.params) _ counted.1 in
+          let body = and_parts (is_type types f.result) _ params.1 in
           (params_bound f.params params.0, body.0, body.1)
 
       result-in : (g : ℕ) → IsTypeIn types (result_type funs g)
@@ -153,21 +144,11 @@ module _ (types : List DataDecl) where
       abbrev numbered : Expr → Within
       numbered = expression_is_numbered types funs
 
-      abbrev clause_numbered : Clause → Within
-      clause_numbered = fold-Clause Within Within (expression_step types funs) (numbered_clause_step types)
-
-      abbrev opened : (e : Expr-F Expr Clause) (xs : List ℕ) → numbered (X.roll-Expr e) xs ≡ expression_step types funs (X.map-Expr Expr Clause Within Within numbered clause_numbered e) xs
-      opened e xs = ap (λ (w : Within). w xs) (fold-roll-Expr Within Within (expression_step types funs) (numbered_clause_step types) e)
-
-      -- the body of a numbered clause
-      clause-body : (c : Clause) (xs : List ℕ) → clause_numbered c xs ≡ true → numbered c.body (vars_of c.pat ++ xs) ≡ true
-      clause-body c xs e = (both _ (numbered c.body (vars_of c.pat ++ xs)) (sym (ap (λ (w : Within). w xs) (fold_out-Clause Within Within (expression_step types funs) (numbered_clause_step types) c)) ∙ e)).1
-
       abbrev all_numbered : List Expr → List ℕ → Type 0
       all_numbered es xs = list_all (λ (w : Within). w xs) (map numbered es) ≡ true
 
       abbrev clauses_numbered : List Clause → List ℕ → Type 0
-      clauses_numbered cs xs = list_all (λ (w : Within). w xs) (map clause_numbered cs) ≡ true
+      clauses_numbered cs xs = list_all (λ (w : Within). w xs) (map (clause_numbered types funs) cs) ≡ true
 
       abbrev inferred : Expr → Option Ty → List Binder → Ty
       inferred = inferred_type types funs
@@ -181,10 +162,10 @@ module _ (types : List DataDecl) where
           → IsTypeIn types (first_clause_type types (map (clause_inferred types funs) cs) t scope)
       first_clause-in [] each xs t scope n h s = refl
       first_clause-in (c ∷ cs) each xs t scope n h s =
-          let here = both (clause_numbered c xs) _ n in
+          let here = and_parts (clause_numbered types funs c xs) _ n in
           let bound = both_bound scope (binders types c.pat t) s (pattern-binds c.pat t h) in
           subst (λ (b : Pat × (Option Ty → List Binder → Ty)). IsTypeIn types (b.1 None (scope ++ binders types b.0 t))) (sym (clause_inferred-is types funs c))
-          (each.0 (vars_of c.pat ++ xs) None (scope ++ binders types c.pat t) (clause-body c xs here.0) tt bound)
+          (each.0 (vars_of c.pat ++ xs) None (scope ++ binders types c.pat t) (body_numbered types funs c xs here.0) tt bound)
 
       type-in : (e : Expr) → HasType e
       unfolding X.roll-Expr denote.Hole.Carrier.roll
@@ -193,22 +174,22 @@ module _ (types : List DataDecl) where
         var = λ at x xs wanted scope e w s. subst (IsTypeIn types) (sym (inferred-Var types funs wanted scope at x)) (variable-in (Int 64) x scope refl s);
         call = λ at g es each xs wanted scope e w s. subst (IsTypeIn types) (sym (inferred-Call types funs wanted scope at g es)) (result-in g);
         build = λ at c es each xs wanted scope e w s.
-            subst (IsTypeIn types) (sym (inferred-Build types funs wanted scope at c es)) (constructor-in c (both (is_constructor types c) _ (sym (opened (E.Build at c es) xs) ∙ e)).0);
+            subst (IsTypeIn types) (sym (inferred-Build types funs wanted scope at c es)) (constructor-in c (and_parts (is_constructor types c) _ (sym (numbered-is types funs (E.Build at c es) xs) ∙ e)).0);
         binary = λ at op a b ha hb xs wanted scope e w s.
-            let parts = both (numbered a xs) (numbered b xs) (sym (opened (E.Binary at op a b) xs) ∙ e) in
+            let parts = and_parts (numbered a xs) (numbered b xs) (sym (numbered-is types funs (E.Binary at op a b) xs) ∙ e) in
             subst (IsTypeIn types) (sym (inferred-Binary types funs wanted scope at op a b))
             (operator-in op _ (wanted_or (operand_wanted op wanted) _ (operand-wanted op wanted w) (ha xs None scope parts.0 tt s)));
         to = λ at bits a ha xs wanted scope e w s.
-            subst (IsTypeIn types) (sym (inferred-To types funs wanted scope at bits a)) (both _ (numbered a xs) (sym (opened (E.To at bits a) xs) ∙ e)).0;
+            subst (IsTypeIn types) (sym (inferred-To types funs wanted scope at bits a)) (and_parts _ (numbered a xs) (sym (numbered-is types funs (E.To at bits a) xs) ∙ e)).0;
         bound = λ at x t a b ha hb xs wanted scope e w s.
-            let parts = both (is_type types t) _ (sym (opened (E.Let at x t a b) xs) ∙ e) in
-            let rest = both (numbered a xs) (numbered b (x ∷ xs)) parts.1 in
+            let parts = and_parts (is_type types t) _ (sym (numbered-is types funs (E.Let at x t a b) xs) ∙ e) in
+            let rest = and_parts (numbered a xs) (numbered b (x ∷ xs)) parts.1 in
             subst (IsTypeIn types) (sym (inferred-Let types funs wanted scope at x t a b))
             (hb (x ∷ xs) wanted (with_binder scope x t) rest.1 w (both_bound scope _ s (parts.0, tt)));
         choice = λ at e cs he hcs xs wanted scope n w s.
-            let parts = both (numbered e xs) _ (sym (opened (E.Match at e cs) xs) ∙ n) in
-            let more = both _ _ parts.1 in
-            let last = both _ _ more.1 in
+            let parts = and_parts (numbered e xs) _ (sym (numbered-is types funs (E.Match at e cs) xs) ∙ n) in
+            let more = and_parts _ _ parts.1 in
+            let last = and_parts _ _ more.1 in
             subst (IsTypeIn types) (sym (inferred-Match types funs wanted scope at e cs))
             (wanted_or wanted _ w (first_clause-in cs hcs xs (inferred e None scope) scope last.1 (he xs None scope parts.0 tt s) s));
       })
@@ -222,22 +203,22 @@ module _ (types : List DataDecl) where
           → AreNumberedSites types (flat_map (part_sites scope) (map (part types funs) es))
       parts-numbered [] each xs scope n s = tt
       parts-numbered (e ∷ es) each xs scope n s =
-          let all = both (numbered e xs) _ n in
+          let all = and_parts (numbered e xs) _ n in
           both_numbered (sites types funs e scope) _ (each.0 xs scope all.0 s) (parts-numbered es each.1 xs scope all.1 s)
 
       branches-numbered : (cs : List Clause) → EL.EachBody HasSites cs → (xs : List ℕ) (t : Ty) (scope : List Binder) → clauses_numbered cs xs → IsTypeIn types t → AreBound scope
           → AreNumberedSites types (flat_map (branch_sites types t scope) (map (branch types funs) cs))
       branches-numbered [] each xs t scope n h s = tt
       branches-numbered (c ∷ cs) each xs t scope n h s =
-          let all = both (clause_numbered c xs) _ n in
+          let all = and_parts (clause_numbered types funs c xs) _ n in
           let within = scope ++ binders types c.pat t in
           let bound = both_bound scope (binders types c.pat t) s (pattern-binds c.pat t h) in
           both_numbered (branch_sites types t scope (branch types funs c)) _
-          (subst (AreNumberedSites types) (sym (sites-Clause types funs c within)) (each.0 (vars_of c.pat ++ xs) within (clause-body c xs all.0) bound))
+          (subst (AreNumberedSites types) (sym (sites-Clause types funs c within)) (each.0 (vars_of c.pat ++ xs) within (body_numbered types funs c xs all.0) bound))
           (branches-numbered cs each.1 xs t scope all.1 h s)
 
-      clause-count : (cs : List Clause) → nat_lt (length (map clause_numbered cs)) (2 ^ 32) ≡ true → length (map (λ (b : Clause × (List Binder → List Site)). b.0.pat) (map (branch types funs) cs)) < 2 ^ 32
-      clause-count cs e = let few = ltb-true (length (map clause_numbered cs)) (2 ^ 32) e in simp length-map (simp length-map at few)
+      clause-count : (cs : List Clause) → nat_lt (length (map (clause_numbered types funs) cs)) (2 ^ 32) ≡ true → length (map (λ (b : Clause × (List Binder → List Site)). b.0.pat) (map (branch types funs) cs)) < 2 ^ 32
+      clause-count cs e = let few = ltb-true (length (map (clause_numbered types funs) cs)) (2 ^ 32) e in simp length-map (simp length-map at few)
 
       sites-numbered : (e : Expr) → HasSites e
       unfolding X.roll-Expr denote.Hole.Carrier.roll
@@ -245,28 +226,28 @@ module _ (types : List DataDecl) where
         num = λ at n xs scope e s. subst (AreNumberedSites types) (sym (sites-Num types funs at n scope)) tt;
         var = λ at x xs scope e s. subst (AreNumberedSites types) (sym (sites-Var types funs at x scope)) tt;
         call = λ at g es each xs scope e s.
-            let parts = both _ _ (sym (opened (E.Call at g es) xs) ∙ e) in
-            let more = both _ _ parts.1 in
+            let parts = and_parts _ _ (sym (numbered-is types funs (E.Call at g es) xs) ∙ e) in
+            let more = and_parts _ _ parts.1 in
             subst (AreNumberedSites types) (sym (sites-Call types funs at g es scope)) (parts-numbered es each xs scope more.1 s);
         build = λ at c es each xs scope e s.
-            let parts = both (is_constructor types c) _ (sym (opened (E.Build at c es) xs) ∙ e) in
-            let more = both _ _ parts.1 in
+            let parts = and_parts (is_constructor types c) _ (sym (numbered-is types funs (E.Build at c es) xs) ∙ e) in
+            let more = and_parts _ _ parts.1 in
             subst (AreNumberedSites types) (sym (sites-Build types funs at c es scope)) (parts-numbered es each xs scope more.1 s);
         binary = λ at op a b ha hb xs scope e s.
-            let parts = both (numbered a xs) (numbered b xs) (sym (opened (E.Binary at op a b) xs) ∙ e) in
+            let parts = and_parts (numbered a xs) (numbered b xs) (sym (numbered-is types funs (E.Binary at op a b) xs) ∙ e) in
             subst (AreNumberedSites types) (sym (sites-Binary types funs at op a b scope)) (both_numbered _ _ (ha xs scope parts.0 s) (hb xs scope parts.1 s));
         to = λ at bits a ha xs scope e s.
-            let parts = both _ (numbered a xs) (sym (opened (E.To at bits a) xs) ∙ e) in
+            let parts = and_parts _ (numbered a xs) (sym (numbered-is types funs (E.To at bits a) xs) ∙ e) in
             subst (AreNumberedSites types) (sym (sites-To types funs at bits a scope)) (ha xs scope parts.1 s);
         bound = λ at x t a b ha hb xs scope e s.
-            let parts = both (is_type types t) _ (sym (opened (E.Let at x t a b) xs) ∙ e) in
-            let rest = both (numbered a xs) (numbered b (x ∷ xs)) parts.1 in
+            let parts = and_parts (is_type types t) _ (sym (numbered-is types funs (E.Let at x t a b) xs) ∙ e) in
+            let rest = and_parts (numbered a xs) (numbered b (x ∷ xs)) parts.1 in
             subst (AreNumberedSites types) (sym (sites-Let types funs at x t a b scope))
             (both_numbered _ _ (ha xs scope rest.0 s) (hb (x ∷ xs) (with_binder scope x t) rest.1 (both_bound scope _ s (parts.0, tt))));
         choice = λ at e cs he hcs xs scope n s.
-            let parts = both (numbered e xs) _ (sym (opened (E.Match at e cs) xs) ∙ n) in
-            let more = both _ _ parts.1 in
-            let last = both _ _ more.1 in
+            let parts = and_parts (numbered e xs) _ (sym (numbered-is types funs (E.Match at e cs) xs) ∙ n) in
+            let more = and_parts _ _ parts.1 in
+            let last = and_parts _ _ more.1 in
             let t = inferred e None scope in
             let ty : IsTypeIn types t = type-in e xs None scope parts.0 tt s in
             subst (AreNumberedSites types) (sym (sites-Match types funs at e cs scope))
@@ -276,7 +257,7 @@ module _ (types : List DataDecl) where
       functions-numbered : (fs : List Fun) → list_all (function_is_numbered types funs) fs ≡ true → AreNumberedSites types (flat_map (function_sites types funs) fs)
       functions-numbered [] h = tt
       functions-numbered (f ∷ fs) h =
-          let all = both (function_is_numbered types funs f) _ h in
+          let all = and_parts (function_is_numbered types funs f) _ h in
           let parts = function-parts f all.0 in
           both_numbered (function_sites types funs f) _ (sites-numbered f.body _ (map binder_of f.params) parts.2 parts.0) (functions-numbered fs all.1)
 

@@ -5,17 +5,18 @@ ghost use Rattle.std.specs.Prelude.{◌≡◌, ◌<◌, List, [], ◌∷◌, ◌
 ghost use Rattle.rb_core.specs.declared.types.DataDecl.{DataDecl};
 ghost use Rattle.rb_core.specs.declared.types.Ty.TheVariants.{Named};
 ghost use Rattle.rb_core.specs.declared.program.Fun.{Fun};
-ghost use Rattle.rb_core.specs.Typing.{and_then, arguments, clause_rule, clauses, field_types, as_wanted, integer_operand, operands, operator_type, params_of, param_types, result_type, rule_of, type_of, variable_type};
-ghost use Rattle.rb_check.specs.inner.Answers.{AnswersTyping, binders_of_params, wanted_types};
+ghost use Rattle.rb_core.specs.Typing.{and_then, arguments, clause_rule, clauses_typing, field_types, as_wanted, integer_operand, operands_typing, operator_type, params_of, param_types, result_type, rule_of, type_of};
+ghost use Rattle.rb_check.specs.inner.Answers.{AnswersTyping, wanted_types};
 
 use crate::pattern::bind_whole;
 use crate::types::{fit, integer, type_number};
 use rb_core::expression::{Clause, Expr, Op};
 use rb_core::inference::{type_of_call, type_of_operator, types_of_fields, wanted_of_operand};
 use rb_core::program::{Param, Program};
-use rb_core::seq::Seq;
+use rb_core::scope::Scope;
 use rb_core::types::{ConRef, Ty};
-use rb_core::typing::TypeFault;
+use rb_core::typing::{Binder, TypeFault};
+use std::alloc::Global;
 
 /// The types that are wanted of arguments: those of a function's parameters, or of fields.
 #[derive(Clone, Copy)]
@@ -54,46 +55,43 @@ impl<'a> Wanted<'a> {
 /// The first fault of typing, `Mismatch`, `Arity` or `VariableTwice`; or want of memory.
 #[cycle(typing)]
 pub fn type_expression(
+    alloc: Global,
     program: &Program,
     expr: &Expr,
     wanted: Option<Ty>,
-    scope: &mut Seq<Param>,
+    scope: &mut Scope,
 ) -> Result<Ty, TypeFault>
     ensures answers { AnswersTyping result
-        (type_of program.now.types program.now.funs expr.now wanted (binders_of_params scope.old)) }
+        (type_of program.now.types program.now.funs expr.now wanted scope.old) }
     ensures scope { OnOk result (scope.new ≡ scope.old) }
 {
     match expr {
         Expr::Num(at, n) => type_number(*at, *n, wanted),
-        Expr::Var(at, var) => fit(*at, wanted, variable_type(*var, scope.as_slice())),
+        Expr::Var(at, var) => fit(*at, wanted, scope.variable_type(*var)),
         Expr::Call(at, fun, parts) => {
             let parts = parts.as_slice();
-            type_call(program, *at, *fun, parts, wanted, scope)
+            type_call(alloc, program, *at, *fun, parts, wanted, scope)
         }
         Expr::Build(at, con, parts) => {
             let parts = parts.as_slice();
-            type_build(program, *at, *con, parts, wanted, scope)
+            type_build(alloc, program, *at, *con, parts, wanted, scope)
         }
         Expr::Binary(at, op, a, b) => {
             let a = a.get();
             let b = b.get();
-            type_binary(program, *at, *op, a, b, wanted, scope)
+            type_binary(alloc, program, *at, *op, a, b, wanted, scope)
         }
         Expr::To(at, bits, a) => {
-            type_integer(program, a.get(), None, scope)?;
+            type_integer(alloc, program, a.get(), None, scope)?;
             fit(*at, wanted, Ty::Int(*bits))
         }
-        Expr::Let(at, var, ty, a, b) => {
-            let param = Param {
-                at: *at,
-                var: *var,
-                ty: *ty,
-            };
-            type_let(program, param, a.get(), b.get(), wanted, scope)
+        Expr::Let(_, var, ty, a, b) => {
+            let binder = Binder { var: *var, ty: *ty };
+            type_let(alloc, program, binder, a.get(), b.get(), wanted, scope)
         }
         Expr::Match(_, scrutinee, cases) => {
             let cases = cases.as_slice();
-            type_match(program, scrutinee.get(), cases, wanted, scope)
+            type_match(alloc, program, scrutinee.get(), cases, wanted, scope)
         }
     }
 }
@@ -101,20 +99,22 @@ pub fn type_expression(
 // The type of a call of the function with this number.
 #[cycle(typing)]
 fn type_call(
+    alloc: Global,
     program: &Program,
     at: u32,
     fun: u32,
     parts: &[Expr],
     wanted: Option<Ty>,
-    scope: &mut Seq<Param>,
+    scope: &mut Scope,
 ) -> Result<Ty, TypeFault>
     ensures answers { AnswersTyping result (and_then
         (arguments at (map (rule_of program.now.types program.now.funs) parts.now)
-        (param_types program.now.funs fun) (binders_of_params scope.old))
+        (param_types program.now.funs fun) scope.old)
         (λ typed. as_wanted at wanted (result_type program.now.funs fun))) }
     ensures scope { OnOk result (scope.new ≡ scope.old) }
 {
     type_arguments(
+        alloc,
         program,
         at,
         parts,
@@ -127,21 +127,22 @@ fn type_call(
 // The type of a construction.
 #[cycle(typing)]
 fn type_build(
+    alloc: Global,
     program: &Program,
     at: u32,
     con: ConRef,
     parts: &[Expr],
     wanted: Option<Ty>,
-    scope: &mut Seq<Param>,
+    scope: &mut Scope,
 ) -> Result<Ty, TypeFault>
     ensures answers { AnswersTyping result (and_then
         (arguments at (map (rule_of program.now.types program.now.funs) parts.now)
-        (field_types program.now.types con) (binders_of_params scope.old))
+        (field_types program.now.types con) scope.old)
         (λ typed. as_wanted at wanted (Named con.ty))) }
     ensures scope { OnOk result (scope.new ≡ scope.old) }
 {
     let fields = types_of_fields(program.types.as_slice(), con);
-    type_arguments(program, at, parts, Wanted::Fields(fields), scope)?;
+    type_arguments(alloc, program, at, parts, Wanted::Fields(fields), scope)?;
     fit(at, wanted, Ty::Named(con.ty))
 }
 
@@ -149,22 +150,23 @@ fn type_build(
 // `Arity` at the token `at` else.
 #[cycle(typing)]
 fn type_arguments(
+    alloc: Global,
     program: &Program,
     at: u32,
     parts: &[Expr],
     wanted: Wanted,
-    scope: &mut Seq<Param>,
+    scope: &mut Scope,
 ) -> Result<(), TypeFault>
     ensures answers { AnswersTyping result
         (arguments at (map (rule_of program.now.types program.now.funs) parts.now)
-        (wanted_types wanted.entry) (binders_of_params scope.old)) }
+        (wanted_types wanted.entry) scope.old) }
     ensures scope { OnOk result (scope.new ≡ scope.old) }
 {
     if parts.len() != wanted.len() {
         return Err(TypeFault::Arity(at, wanted.len() as u64, parts.len() as u64));
     }
     for (i, part) in parts.iter().enumerate() {
-        type_expression(program, part, Some(wanted.at(i)), scope)?;
+        type_expression(alloc, program, part, Some(wanted.at(i)), scope)?;
     }
     Ok(())
 }
@@ -172,62 +174,64 @@ fn type_arguments(
 // The type of an operator's result.
 #[cycle(typing)]
 fn type_binary(
+    alloc: Global,
     program: &Program,
     at: u32,
     op: Op,
     a: &Expr,
     b: &Expr,
     wanted: Option<Ty>,
-    scope: &mut Seq<Param>,
+    scope: &mut Scope,
 ) -> Result<Ty, TypeFault>
     ensures answers { AnswersTyping result (and_then
-        (operands op (rule_of program.now.types program.now.funs a.now)
-        (rule_of program.now.types program.now.funs b.now) wanted (binders_of_params scope.old))
+        (operands_typing op (rule_of program.now.types program.now.funs a.now)
+        (rule_of program.now.types program.now.funs b.now) wanted scope.old)
         (λ t. as_wanted at wanted (operator_type op t))) }
     ensures scope { OnOk result (scope.new ≡ scope.old) }
 {
-    let first = type_integer(program, a, wanted_of_operand(op, wanted), scope)?;
-    let second = type_expression(program, b, Some(first), scope)?;
+    let first = type_integer(alloc, program, a, wanted_of_operand(op, wanted), scope)?;
+    let second = type_expression(alloc, program, b, Some(first), scope)?;
     fit(at, wanted, type_of_operator(op, second))
 }
 
 // The type of an expression that has to be an integer: `Mismatch` where it is of a data type.
 #[cycle(typing)]
 fn type_integer(
+    alloc: Global,
     program: &Program,
     expr: &Expr,
     wanted: Option<Ty>,
-    scope: &mut Seq<Param>,
+    scope: &mut Scope,
 ) -> Result<Ty, TypeFault>
     ensures answers { AnswersTyping result
-        (integer_operand (rule_of program.now.types program.now.funs expr.now) wanted
-        (binders_of_params scope.old)) }
+        (integer_operand (rule_of program.now.types program.now.funs expr.now) wanted scope.old) }
     ensures scope { OnOk result (scope.new ≡ scope.old) }
 {
-    let found = type_expression(program, expr, wanted, scope)?;
+    let found = type_expression(alloc, program, expr, wanted, scope)?;
     integer(first_token(expr), found)
 }
 
-// The type of a `let` that binds `param`.
+// The type of a `let` that binds `binder`.
 #[cycle(typing)]
 fn type_let(
+    alloc: Global,
     program: &Program,
-    param: Param,
+    binder: Binder,
     a: &Expr,
     b: &Expr,
     wanted: Option<Ty>,
-    scope: &mut Seq<Param>,
+    scope: &mut Scope,
 ) -> Result<Ty, TypeFault>
     ensures answers { AnswersTyping result (and_then
-        (type_of program.now.types program.now.funs a.now (Some param.ty) (binders_of_params scope.old))
+        (type_of program.now.types program.now.funs a.now (Some binder.ty) scope.old)
         (λ t. type_of program.now.types program.now.funs b.now wanted
-        (binders_of_params scope.old ++ record { var = param.var; ty = param.ty } ∷ []))) }
+        (scope.old ++ binder ∷ []))) }
     ensures scope { OnOk result (scope.new ≡ scope.old) }
 {
-    type_expression(program, a, Some(param.ty), scope)?;
+    type_expression(alloc, program, a, Some(binder.ty), scope)?;
     let depth = scope.len();
-    scope.push(param)?;
-    let found = type_expression(program, b, wanted, scope)?;
+    scope.push(binder)?;
+    let found = type_expression(alloc, program, b, wanted, scope)?;
     scope.truncate(depth);
     Ok(found)
 }
@@ -235,39 +239,39 @@ fn type_let(
 // The type of a match: that of its first clause, which is wanted of the others.
 #[cycle(typing)]
 fn type_match(
+    alloc: Global,
     program: &Program,
     scrutinee: &Expr,
     cases: &[Clause],
     wanted: Option<Ty>,
-    scope: &mut Seq<Param>,
+    scope: &mut Scope,
 ) -> Result<Ty, TypeFault>
     ensures answers { AnswersTyping result (and_then
-        (type_of program.now.types program.now.funs scrutinee.now None (binders_of_params scope.old))
-        (λ t. clauses (map (clause_rule program.now.types program.now.funs) cases.now) t wanted
-        (binders_of_params scope.old))) }
+        (type_of program.now.types program.now.funs scrutinee.now None scope.old)
+        (λ t. clauses_typing (map (clause_rule program.now.types program.now.funs) cases.now) t wanted scope.old)) }
     ensures scope { OnOk result (scope.new ≡ scope.old) }
 {
-    let scrutinee = type_expression(program, scrutinee, None, scope)?;
-    type_clauses(program, scrutinee, cases, wanted, scope)
+    let scrutinee = type_expression(alloc, program, scrutinee, None, scope)?;
+    type_clauses(alloc, program, scrutinee, cases, wanted, scope)
 }
 
 // The type of the clauses of a match on a scrutinee of this type.
 #[cycle(typing)]
 fn type_clauses(
+    alloc: Global,
     program: &Program,
     scrutinee: Ty,
     cases: &[Clause],
     wanted: Option<Ty>,
-    scope: &mut Seq<Param>,
+    scope: &mut Scope,
 ) -> Result<Ty, TypeFault>
-    ensures answers { AnswersTyping result (clauses
-        (map (clause_rule program.now.types program.now.funs) cases.now) scrutinee wanted
-        (binders_of_params scope.old)) }
+    ensures answers { AnswersTyping result (clauses_typing
+        (map (clause_rule program.now.types program.now.funs) cases.now) scrutinee wanted scope.old) }
     ensures scope { OnOk result (scope.new ≡ scope.old) }
 {
     let mut found = wanted;
     for case in cases {
-        found = Some(type_clause(program, scrutinee, case, found, scope)?);
+        found = Some(type_clause(alloc, program, scrutinee, case, found, scope)?);
     }
     Ok(found.unwrap_or(Ty::Int(64)))
 }
@@ -275,20 +279,20 @@ fn type_clauses(
 // The type of a clause's body, within the scope and what its pattern binds at the scrutinee's type.
 #[cycle(typing)]
 fn type_clause(
+    alloc: Global,
     program: &Program,
     scrutinee: Ty,
     case: &Clause,
     wanted: Option<Ty>,
-    scope: &mut Seq<Param>,
+    scope: &mut Scope,
 ) -> Result<Ty, TypeFault>
     ensures answers { AnswersTyping result
-        (clause_rule program.now.types program.now.funs case.now scrutinee wanted
-        (binders_of_params scope.old)) }
+        (clause_rule program.now.types program.now.funs case.now scrutinee wanted scope.old) }
     ensures scope { OnOk result (scope.new ≡ scope.old) }
 {
     let depth = scope.len();
-    bind_whole(program.types.as_slice(), &case.pat, scrutinee, scope)?;
-    let found = type_expression(program, &case.body, wanted, scope)?;
+    bind_whole(alloc, program.types.as_slice(), &case.pat, scrutinee, scope)?;
+    let found = type_expression(alloc, program, &case.body, wanted, scope)?;
     scope.truncate(depth);
     Ok(found)
 }
@@ -308,18 +312,6 @@ fn first_token(expr: &Expr) -> u32
         Expr::Let(at, _, _, _, _) => *at,
         Expr::Match(at, _, _) => *at,
     }
-}
-
-// The type of the innermost parameter or variable with this number, which is looked for from the innermost on outwards.
-fn variable_type(var: u32, scope: &[Param]) -> Ty
-    ensures { result ≡ variable_type var (binders_of_params scope.now) }
-{
-    for i in (0..scope.len()).rev() {
-        if scope[i].var == var {
-            return scope[i].ty;
-        }
-    }
-    Ty::Int(64)
 }
 
 // The parameters of the function with this number; none where there is no such function.

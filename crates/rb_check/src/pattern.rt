@@ -1,22 +1,24 @@
 //! Patterns: the variables that one binds at a type.
 
-ghost use Rattle.std.specs.Prelude.{◌≡◌, ◌==◌, length, map, take, drop, OnOk};
+ghost use Rattle.std.specs.Prelude.{◌≡◌, ◌==◌, length, map, take, OnOk};
 ghost use Rattle.std.specs.List.{list_any};
-ghost use Rattle.rb_core.specs.Typing.{also_bound, fields_match, pattern_binders, pattern_params, first_repeat};
-ghost use Rattle.rb_check.specs.inner.Answers.{LeavesTyping, binders_of_params, within};
+ghost use Rattle.rb_core.specs.Typing.{also_bound, field_params, pattern_binders, pattern_params, first_repeat};
+ghost use Rattle.rb_check.specs.inner.Answers.{LeavesTyping, within};
 ghost use Rattle.rb_check.specs.inner.Below.{ParamsBelow};
 
 use crate::types::{can_hold, number_type};
 use rb_core::inference::types_of_fields;
 use rb_core::pattern::Pat;
 use rb_core::program::Param;
+use rb_core::scope::Scope;
 use rb_core::seq::Seq;
 use rb_core::types::{DataDecl, Ty};
 use rb_core::typing::TypeFault;
+use std::alloc::Global;
 
 /// The token of the first variable that stands before in the list, too. Where numbers rise, as those
 /// of a file's binders do, only a variable that does stand before is sought there.
-pub fn repeated(params: &[Param]) -> Option<u32>
+pub fn repeated_param(params: &[Param]) -> Option<u32>
     ensures { result ≡ first_repeat params.now }
 {
     let mut above = 0;
@@ -49,33 +51,24 @@ fn stands_in(params: &[Param], var: u32) -> bool
 /// # Errors
 ///
 /// The first `Mismatch` or `Arity` in the pattern, else `VariableTwice` at the first variable that stands
-/// there a second time; or want of memory.
+/// there a second time; or want of memory, where the scope may have some of them.
 pub fn bind_whole(
+    alloc: Global,
     types: &[DataDecl],
     pattern: &Pat,
     ty: Ty,
-    scope: &mut Seq<Param>,
+    scope: &mut Scope,
 ) -> Result<(), TypeFault>
-    ensures binds { LeavesTyping result (binders_of_params scope.new)
-        (within (binders_of_params scope.old) (pattern_binders types.now pattern.now ty)) }
+    ensures binds { LeavesTyping result scope.new (within scope.old (pattern_binders types.now pattern.now ty)) }
     ensures kept { OnOk result (take (length scope.old) scope.new ≡ scope.old) }
 {
-    let depth = scope.len();
-    bind_pattern(types, pattern, ty, scope)?;
-    match repeated_from(scope.as_slice(), depth) {
-        None => Ok(()),
-        Some(at) => Err(TypeFault::VariableTwice(at)),
+    let mut bound = Seq::new(alloc);
+    bind_pattern(types, pattern, ty, &mut bound)?;
+    if let Some(at) = repeated_param(bound.as_slice()) {
+        return Err(TypeFault::VariableTwice(at));
     }
-}
-
-// The token of the first variable from `start` on that stands before from there, too.
-fn repeated_from(params: &[Param], start: usize) -> Option<u32>
-    ensures { result ≡ first_repeat (drop start params.now) }
-{
-    match params.get(start..) {
-        None => None,
-        Some(params) => repeated(params),
-    }
+    scope.push_params(bound.as_slice())?;
+    Ok(())
 }
 
 /// Adds the variables that a pattern binds at a type to `bound`, from left to right.
@@ -134,7 +127,7 @@ fn bind_fields(
     bound: &mut Seq<Param>,
 ) -> Result<(), TypeFault>
     ensures binds { LeavesTyping result bound.new (also_bound bound.old
-        (fields_match at (map (pattern_params types.now) subpatterns.now) fields.now)) }
+        (field_params at (map (pattern_params types.now) subpatterns.now) fields.now)) }
 {
     if subpatterns.len() != fields.len() {
         return Err(TypeFault::Arity(at, fields.len() as u64, subpatterns.len() as u64));

@@ -6,10 +6,10 @@ ghost use Rattle.rb_core.specs.TypedPrograms.{first_fault, function_fault, layou
 ghost use Rattle.rb_check.specs.inner.Answers.{AnswersFault, arm_fault};
 
 use crate::expression::type_expression;
-use crate::pattern::{bind_whole, repeated};
+use crate::pattern::{bind_whole, repeated_param};
 use rb_core::layout_decl::{Arm, LayTree, LayoutDecl};
 use rb_core::program::{Fun, Program};
-use rb_core::seq::Seq;
+use rb_core::scope::Scope;
 use rb_core::types::{DataDecl, Ty};
 use rb_core::typing::TypeFault;
 use std::alloc::Global;
@@ -44,8 +44,8 @@ fn check_tree(alloc: Global, types: &[DataDecl], ty: u32, tree: &LayTree) -> Res
 {
     match tree {
         LayTree::Leaf(_, provenance, _) => {
-            let mut bound = Seq::new(alloc);
-            bind_whole(types, provenance, Ty::Named(ty), &mut bound)
+            let mut bound = Scope::new(alloc);
+            bind_whole(alloc, types, provenance, Ty::Named(ty), &mut bound)
         }
         LayTree::Split(_, arms, other) => {
             check_arms(alloc, types, ty, arms.as_slice())?;
@@ -83,10 +83,10 @@ fn check_functions(alloc: Global, program: &Program, funs: &[Fun]) -> Result<(),
 fn check_function(alloc: Global, program: &Program, fun: &Fun) -> Result<(), TypeFault>
     ensures { AnswersFault result (function_fault program.now.types program.now.funs fun.now) }
 {
-    if let Some(at) = repeated(fun.params.as_slice()) {
+    if let Some(at) = repeated_param(fun.params.as_slice()) {
         return Err(TypeFault::VariableTwice(at));
     }
-    let mut scope = fun.params.copy(alloc)?;
-    type_expression(program, &fun.body, Some(fun.result), &mut scope)?;
+    let mut scope = Scope::of_params(alloc, fun.params.as_slice())?;
+    type_expression(alloc, program, &fun.body, Some(fun.result), &mut scope)?;
     Ok(())
 }

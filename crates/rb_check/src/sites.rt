@@ -3,13 +3,13 @@
 ghost use Rattle.std.specs.Prelude.{◌≡◌, ◌++◌, [], ◌∷◌, map, IfOk, OnOk};
 ghost use Rattle.std.specs.List.{flat_map};
 ghost use Rattle.rb_core.specs.Coverage.{function_sites, sites, sites_of};
-ghost use Rattle.rb_core.specs.Typing.{binder_of};
 ghost use Rattle.rb_check.specs.inner.Covering.{argument_sites, body_sites};
 
 use rb_core::expression::{Clause, Expr};
 use rb_core::inference::{bind_types, infer};
 use rb_core::pattern::Pat;
-use rb_core::program::{Fun, Param, Program};
+use rb_core::program::{Fun, Program};
+use rb_core::scope::Scope;
 use rb_core::seq::Seq;
 use rb_core::site::Site;
 use rb_core::types::Ty;
@@ -40,24 +40,9 @@ fn add_function(
 ) -> Result<(), AllocError>
     ensures { OnOk result (found.new ≡ found.old ++ function_sites program.now.types program.now.funs fun.now) }
 {
-    let mut scope = binders_of(alloc, fun.params.as_slice())?;
+    let mut scope = Scope::of_params(alloc, fun.params.as_slice())?;
     add_sites(alloc, program, &fun.body, &mut scope, found)?;
     Ok(())
-}
-
-// The binders of a function's parameters, in order, which are the outermost of its body.
-fn binders_of(alloc: Global, params: &[Param]) -> Result<Seq<Binder>, AllocError>
-    ensures { IfOk result (λ scope. scope ≡ map binder_of params.now) }
-{
-    let mut scope = Seq::new(alloc);
-    for param in params {
-        let binder = Binder {
-            var: param.var,
-            ty: param.ty,
-        };
-        scope.push(binder)?;
-    }
-    Ok(scope)
 }
 
 // Adds the matches of an expression within a scope, which is lent for more binders.
@@ -66,7 +51,7 @@ fn add_sites(
     alloc: Global,
     program: &Program,
     expr: &Expr,
-    scope: &mut Seq<Binder>,
+    scope: &mut Scope,
     found: &mut Seq<Site>,
 ) -> Result<(), AllocError>
     ensures added { OnOk result (found.new ≡ found.old ++ sites program.now.types program.now.funs expr.now scope.old) }
@@ -120,7 +105,7 @@ fn add_arguments(
     alloc: Global,
     program: &Program,
     parts: &[Expr],
-    scope: &mut Seq<Binder>,
+    scope: &mut Scope,
     found: &mut Seq<Site>,
 ) -> Result<(), AllocError>
     ensures added { OnOk result (found.new ≡ found.old
@@ -140,7 +125,7 @@ fn add_under(
     program: &Program,
     binder: Binder,
     body: &Expr,
-    scope: &mut Seq<Binder>,
+    scope: &mut Scope,
     found: &mut Seq<Site>,
 ) -> Result<(), AllocError>
     ensures added { OnOk result (found.new ≡ found.old
@@ -161,7 +146,7 @@ fn add_bodies(
     program: &Program,
     ty: Ty,
     clauses: &[Clause],
-    scope: &mut Seq<Binder>,
+    scope: &mut Scope,
     found: &mut Seq<Site>,
 ) -> Result<(), AllocError>
     ensures added { OnOk result (found.new ≡ found.old
@@ -181,7 +166,7 @@ fn add_body(
     program: &Program,
     ty: Ty,
     clause: &Clause,
-    scope: &mut Seq<Binder>,
+    scope: &mut Scope,
     found: &mut Seq<Site>,
 ) -> Result<(), AllocError>
     ensures added { OnOk result (found.new ≡ found.old

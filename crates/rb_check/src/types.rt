@@ -1,7 +1,7 @@
 //! Single types: what holds a number, and whether a found type is the wanted one.
 
 ghost use Rattle.std.specs.Prelude.{◌≡◌, ◌≤◌};
-ghost use Rattle.rb_core.specs.Typing.{as_wanted, type_holds, integer, least_width, number, number_type};
+ghost use Rattle.rb_core.specs.Typing.{as_wanted, type_holds, integer, least_width, number_typing, number_type};
 ghost use Rattle.rb_check.specs.inner.Answers.{AnswersTyping};
 
 use rb_core::types::Ty;
@@ -44,7 +44,7 @@ pub fn can_hold(ty: Ty, n: u64) -> bool
 ///
 /// `Mismatch` where values of the wanted type may not be that number.
 pub fn type_number(at: u32, n: u64, wanted: Option<Ty>) -> Result<Ty, TypeFault>
-    ensures { AnswersTyping result (number at n wanted) }
+    ensures { AnswersTyping result (number_typing at n wanted) }
 {
     match wanted {
         None => Ok(Ty::Int(64)),

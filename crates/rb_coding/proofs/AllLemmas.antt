@@ -1,6 +1,7 @@
 -- Several values, encoded in turn.
 use Rattle.std.proofs.Common.{◌≡◌, ℕ, zero, suc, ◌+◌, ◌<◌, ◌≤◌, inl, inr, length, map, take, get_or, List, [], ◌∷◌, ◌++◌, Bool, true, Some, Ok, Err, refl, sym, subst, ap, ◌∙◌, arith, append_assoc, append-nil}
 use Rattle.std.specs.Prelude.{slice_get, if◌then◌else◌}
+use Rattle.std.proofs.lemmas.Bool.{and_parts}
 use Rattle.std.proofs.lemmas.Grind.{flat_map-append}
 use Rattle.std.proofs.lemmas.Bool.Decides.{leb_tells}
 use Rattle.std.proofs.lemmas.Option.{same_Some}
@@ -18,7 +19,6 @@ use Rattle.rb_layout.specs.declared.layout.Layout.{Layout}
 use Rattle.rb_layout.specs.Flattening.{flat_layouts}
 use Rattle.rb_rel.specs.Placing.{Laid, Fits, Over, Request, block_before, lay, requests_of, requests_at}
 use Rattle.rb_rel.specs.Answers.{making_of, all_makings}
-use Rattle.rb_rel.proofs.Lists.{both}
 use Rattle.rb_coding.specs.declared.fault.EncodeFault.{EncodeFault}
 use Rattle.rb_coding.specs.declared.fault.EncodeFault.TheVariants.{Full, Memory as NoMemory}
 use Rattle.rb_coding.specs.Encoding.{laid_before, IsEncoded, AreEncoded, StandApart}
@@ -117,13 +117,13 @@ pub lengths : (types : List DataDecl) (vs : List Value) (ts : List Ty) → all_o
 lengths types [] [] e = refl
 lengths types [] (t ∷ ts) e = absurd cc
 lengths types (v ∷ vs) [] e = absurd cc
-lengths types (v ∷ vs) (t ∷ ts) e = ap suc (lengths types vs ts (both (is_of_type types v t) (all_of_types (map (is_of_type types) vs) ts) e).1)
+lengths types (v ∷ vs) (t ∷ ts) e = ap suc (lengths types vs ts (and_parts (is_of_type types v t) (all_of_types (map (is_of_type types) vs) ts) e).1)
 
 pub typed_nth : (types : List DataDecl) (vs : List Value) (ts : List Ty) → all_of_types (map (is_of_type types) vs) ts ≡ true → (i : ℕ) (v : Value) (t : Ty) → slice_get vs i ≡ Some v → slice_get ts i ≡ Some t → is_of_type types v t ≡ true
 typed_nth types [] ts e i v t a b = absurd cc
 typed_nth types (u ∷ vs) [] e i v t a b = absurd cc
-typed_nth types (u ∷ vs) (s ∷ ts) e zero v t a b = ap (λ x. is_of_type types x t) (sym (same_Some u v a)) ∙ ap (is_of_type types u) (sym (same_Some s t b)) ∙ (both (is_of_type types u s) (all_of_types (map (is_of_type types) vs) ts) e).0
-typed_nth types (u ∷ vs) (s ∷ ts) e (suc i) v t a b = typed_nth types vs ts (both (is_of_type types u s) (all_of_types (map (is_of_type types) vs) ts) e).1 i v t a b
+typed_nth types (u ∷ vs) (s ∷ ts) e zero v t a b = ap (λ x. is_of_type types x t) (sym (same_Some u v a)) ∙ ap (is_of_type types u) (sym (same_Some s t b)) ∙ (and_parts (is_of_type types u s) (all_of_types (map (is_of_type types) vs) ts) e).0
+typed_nth types (u ∷ vs) (s ∷ ts) e (suc i) v t a b = typed_nth types vs ts (and_parts (is_of_type types u s) (all_of_types (map (is_of_type types) vs) ts) e).1 i v t a b
 
 pub record EncodingAll (p : Program) (ts : List Ty) (vs : List Value) (old m : Memory) (ws : List ℕ) (i : ℕ) : Type 0 where
   pub bs : List (ℕ × ℕ)

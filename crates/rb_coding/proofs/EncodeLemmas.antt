@@ -4,7 +4,7 @@ use Rattle.std.specs.Prelude.{slice_get, slice_index, slice_index_or, ◌^◌}
 use Rattle.std.specs.List.{flat_map}
 use Rattle.std.proofs.lemmas.Grind.{flat_map-append}
 use Rattle.std.proofs.lemmas.List.{length-append}
-use Rattle.std.proofs.lemmas.Bool.{cases_lt}
+use Rattle.std.proofs.lemmas.Bool.{cases_lt, and_parts}
 use Rattle.std.proofs.lemmas.Option.{same_Some, slice_get_within}
 use Rattle.rb_core.specs.declared.value.Value.{Value, Num, Con}
 use Rattle.rb_core.specs.declared.types.Ty.{Ty}
@@ -29,7 +29,7 @@ use Rattle.rb_rel.specs.Answers.{making_of, in_turn}
 use Rattle.rb_rel.specs.Relation.{Represents, number}
 use Rattle.rb_rel.proofs.Existence.{PartIs, con_log, declared_type, makings, part_is}
 use Rattle.rb_rel.proofs.Growth.{Represents-kept}
-use Rattle.rb_rel.proofs.Lists.{both, got}
+use Rattle.rb_rel.proofs.Lists.{got}
 use Rattle.rb_rel.proofs.Makings.{making-Num}
 use Rattle.rb_rel.specs.Storing.{address_at, with_blocks}
 use Rattle.rb_coding.specs.Packing.{word_made}
@@ -44,7 +44,7 @@ use Rattle.rb_coding.specs.inner.Nodes.{subs_of, node_at}
 use Rattle.rb_coding.proofs.GrowLemmas.{progress_none, progress_trans, progress_fits, stop_after, stop_wider, stopped_over}
 use Rattle.rb_coding.proofs.OnlyLemmas.{good_only, progress_only, filled_only}
 use Rattle.rb_coding.proofs.LeafShowing.{Chosen, chosen, chosen_in, placeable, open_below, leaf_shown}
-use Rattle.rb_coding.proofs.PostLemmas.{TN, value_of, type_of, pairs, tposts, tposts-Num, tposts-Con, Typed, typed_all, Shape, construction, shape_of, At, at_get, each_at, Sized, path_below, nodes_are, count_typed, some_typed, length-mapped, layered, get_mid}
+use Rattle.rb_coding.proofs.PostLemmas.{TN, value_of, type_of, pairs, tposts, tposts-Num, tposts-Con, Typed, typed_all, Shape, construction, shape_of, At, at_get, each_at, Sized, path_below, nodes_are, some_typed, length-mapped, layered, get_mid}
 use Rattle.rb_coding.proofs.PostLemmas as P
 use Rattle.rb_coding.proofs.WaitLemmas.{at_mapped, sized_take, take_end}
 
@@ -91,7 +91,7 @@ module _ (p : Program) (typed : IsTyped p) (agrees : Agrees p) where
   all_ask [] each ts e = refl
   all_ask (v ∷ vs) each [] e = absurd cc
   all_ask (v ∷ vs) each (t ∷ ts) e =
-      let b = both (is_of_type types v t) (all_of_types (map (is_of_type types) vs) ts) e in
+      let b = and_parts (is_of_type types v t) (all_of_types (map (is_of_type types) vs) ts) e in
       flat_map-append (requests_at layouts) (making_of types v t) (in_turn (makings p typed agrees vs) ts)
       ∙ ap (λ rs. rs ++ requests_of layouts (in_turn (makings p typed agrees vs) ts)) (each.0 t b.0)
       ∙ ap (λ rs. nodes_requests layouts (tposts types v t) ++ rs) (all_ask vs each.1 ts b.1)

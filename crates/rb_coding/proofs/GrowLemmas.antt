@@ -18,7 +18,7 @@ use Rattle.rb_rel.specs.Storing.{number_of, with_words, with_block, with_blocks,
 use Rattle.rb_rel.proofs.Storing.{IsBlock, filled_grown}
 use Rattle.rb_coding.specs.Encoding.{laid_before}
 use Rattle.rb_coding.specs.inner.Filling.{behind_all, Progress, Stopped}
-use Rattle.rb_coding.specs.Packing.{put_into, made_of}
+use Rattle.rb_coding.specs.Packing.{put_into, word_of_parts}
 
 behind_more : (bs cs : List (ℕ × ℕ)) (l : Laid) → behind_all bs (behind_all cs l) ≡ behind_all (bs ++ cs) l
 behind_more [] cs l = refl
@@ -183,11 +183,11 @@ number_same subs ats ats' l (Bits path a) s = refl
 number_same subs ats ats' l (Word path j) s = refl
 number_same subs ats ats' l (Pointer align c) s = ap (λ a. a / align) (s align c refl)
 
-pub made_same : (subs : List ℕ → List ℕ) (ats ats' : ℕ → ℕ) (ps : List Part) → ((k : ℕ) (p : Part) → slice_get ps k ≡ Some p → (align c : ℕ) → p.kind ≡ Pointer align c → ats c ≡ ats' c) → made_of subs ats ps ≡ made_of subs ats' ps
+pub made_same : (subs : List ℕ → List ℕ) (ats ats' : ℕ → ℕ) (ps : List Part) → ((k : ℕ) (p : Part) → slice_get ps k ≡ Some p → (align c : ℕ) → p.kind ≡ Pointer align c → ats c ≡ ats' c) → word_of_parts subs ats ps ≡ word_of_parts subs ats' ps
 made_same subs ats ats' [] s = refl
 made_same subs ats ats' (p ∷ ps) s =
     ap (λ w. put_into w p.o p.l (number_of subs ats p.l p.kind)) (made_same subs ats ats' ps (λ k q e. s (suc k) q e))
-    ∙ ap (put_into (made_of subs ats' ps) p.o p.l) (number_same subs ats ats' p.l p.kind (s 0 p refl))
+    ∙ ap (put_into (word_of_parts subs ats' ps) p.o p.l) (number_same subs ats ats' p.l p.kind (s 0 p refl))
 
 pub address_is_index : (bs : List (ℕ × ℕ)) (b : ℕ) → address_at bs b ≡ slice_index (map (λ (x : ℕ × ℕ). x.0) bs) b
 address_is_index [] b = refl

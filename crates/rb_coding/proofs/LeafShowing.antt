@@ -37,7 +37,7 @@ use Rattle.rb_rel.specs.Storing.{address_at, number_of, with_blocks}
 use Rattle.rb_rel.proofs.Lists.{get-mapped}
 use Rattle.rb_rel.proofs.Packing.{packed}
 use Rattle.rb_coding.specs.inner.Filling.{ArePlaceable, Progress}
-use Rattle.rb_coding.specs.Packing.{put_into, made_of, word_made}
+use Rattle.rb_coding.specs.Packing.{put_into, word_of_parts, word_made}
 use Rattle.rb_coding.proofs.GrowLemmas.{fill_same, progress_fits}
 
 -- Parts that fit are made in their places -----------------------------------------------------------
@@ -59,11 +59,11 @@ put_fits w o l part some inside fits =
     let low : take_of part 0 l ≡ part = ap (λ k. k % 2 ^ l) (let z : part / 1 ≡ part = omega arith in z) ∙ mod-eq_of_lt fits in
     ap (λ x. test w o l part x (ltb 64 l) (ltb (64 - l) o)) a ∙ ap (λ x. test w o l part false x (ltb (64 - l) o)) b ∙ ap (λ x. test w o l part false false x) c ∙ ap (put_of w o l) low
 
-made_packed : (ss : List ℕ → List ℕ) (ats : ℕ → ℕ) (ps : List Part) → ((k : ℕ) (p : Part) → slice_get ps k ≡ Some p → (1 ≤ p.l) × (p.o + p.l ≤ 64) × (number_of ss ats p.l p.kind < 2 ^ p.l)) → made_of ss ats ps ≡ packed ss ats ps
+made_packed : (ss : List ℕ → List ℕ) (ats : ℕ → ℕ) (ps : List Part) → ((k : ℕ) (p : Part) → slice_get ps k ≡ Some p → (1 ≤ p.l) × (p.o + p.l ≤ 64) × (number_of ss ats p.l p.kind < 2 ^ p.l)) → word_of_parts ss ats ps ≡ packed ss ats ps
 made_packed ss ats [] fit = refl
 made_packed ss ats (p ∷ ps) fit =
     let f = fit 0 p refl in
-    put_fits (made_of ss ats ps) p.o p.l (number_of ss ats p.l p.kind) f.0 f.1 f.2 ∙ ap (λ w. put_of w p.o p.l (number_of ss ats p.l p.kind)) (made_packed ss ats ps (λ k q e. fit (suc k) q e))
+    put_fits (word_of_parts ss ats ps) p.o p.l (number_of ss ats p.l p.kind) f.0 f.1 f.2 ∙ ap (λ w. put_of w p.o p.l (number_of ss ats p.l p.kind)) (made_packed ss ats ps (λ k q e. fit (suc k) q e))
 
 map_same : (f g : FlatWord → ℕ) (xs : List FlatWord) → ((j : ℕ) (x : FlatWord) → slice_get xs j ≡ Some x → f x ≡ g x) → map f xs ≡ map g xs
 map_same f g [] s = refl

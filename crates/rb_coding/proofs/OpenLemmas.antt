@@ -1,7 +1,7 @@
 -- The words of a value of a data type are opened: its leaf is found, its blocks are loaded, and the plan
 -- of its provenance is added.
-use Rattle.std.proofs.Common.{◌≡◌, ℕ, List, [], ◌++◌, false, Some, None, Result, Ok, Err, sym, subst, ap, ◌∙◌}
-use Rattle.std.specs.Prelude.{slice_get, OnOk}
+use Rattle.std.proofs.Common.{◌≡◌, ℕ, List, [], ◌++◌, false, Some, None, sym, subst, ap, ◌∙◌}
+use Rattle.std.specs.Prelude.{slice_get}
 use Rattle.std.proofs.lemmas.Option.{same_Some}
 use Rattle.rb_core.specs.declared.value.Value.{Value}
 use Rattle.rb_core.specs.declared.types.Ty.TheVariants.{Named}
@@ -27,10 +27,6 @@ use Rattle.rb_coding.specs.inner.Todo.{IsOpened}
 use Rattle.rb_coding.proofs.FieldWords.{opens_gathered}
 use Rattle.rb_coding.proofs.LeadLemmas.{leads_to}
 use Rattle.rb_coding.proofs.PlanForms.{no_leaf}
-
-pub on_ok : {A E : Type 0} (r : Result A E) (P Q : Type 0) → (P → Q) → OnOk r P → OnOk r Q
-on_ok (Ok a) P Q f h = f h
-on_ok (Err e) P Q f h = h
 
 module _ (p : Program) (typed : IsTyped p) (agrees : Agrees p) (m : Memory) (good : IsGood m) (t : ℕ) (ws : List ℕ) (layout : Layout) (is_layout : slice_get (flat_layouts p) t ≡ Some layout) where
   abbrev View : Value → Type 0

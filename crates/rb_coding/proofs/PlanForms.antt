@@ -2,6 +2,7 @@
 -- plan of a value's leaf opens the words of the value.
 use Rattle.std.proofs.Common.{◌≡◌, ℕ, zero, suc, ◌+◌, ◌*◌, ◌<◌, ◌≤◌, length, map, drop, List, [], ◌∷◌, ◌++◌, true, false, Some, None, refl, sym, subst, ap, ◌∙◌, arith, append_assoc, append-nil}
 use Rattle.std.specs.Prelude.{slice_get}
+use Rattle.std.proofs.lemmas.Bool.{and_parts}
 use Rattle.std.proofs.lemmas.Option.{same_Some, slice_get_past}
 use Rattle.rb_core.specs.declared.value.Value.{Value}
 use Rattle.rb_core.specs.declared.types.Ty.{Ty}
@@ -26,7 +27,7 @@ use Rattle.rb_rel.proofs.Agreeing.{lawful}
 use Rattle.rb_rel.specs.Provenances.{fits_type, is_named}
 use Rattle.rb_rel.proofs.Leading.{leads}
 use Rattle.rb_rel.proofs.Leaves.{leaf_matches}
-use Rattle.rb_rel.proofs.Lists.{both, get-left, get-right, get-mapped}
+use Rattle.rb_rel.proofs.Lists.{get-left, get-right, get-mapped}
 use Rattle.rb_rel.proofs.Opens.{fits-Con, opens-Con, opens-Wild, opens-Var, fitting}
 use Rattle.rb_rel.proofs.Represented.{opened}
 use Rattle.rb_coding.specs.Decoding.{AreOf}
@@ -185,14 +186,14 @@ module _ (types : List DataDecl) where
   field_fits : (ps : List Pat) (ts : List Ty) (i : ℕ) (q : Pat) → all_of_types (map (fits_type types) ps) ts ≡ true → slice_get ps i ≡ Some q → (t : Ty) × (slice_get ts i ≡ Some t) × (fits_type types q t ≡ true)
   field_fits [] ts i q f a = absurd cc
   field_fits (x ∷ ps) [] i q f a = absurd cc
-  field_fits (x ∷ ps) (t ∷ ts) zero q f a = (t, refl, ap (λ (z : Pat). fits_type types z t) (sym (same_Some x q a)) ∙ (both (fits_type types x t) (all_of_types (map (fits_type types) ps) ts) f).0)
-  field_fits (x ∷ ps) (t ∷ ts) (suc i) q f a = field_fits ps ts i q (both (fits_type types x t) (all_of_types (map (fits_type types) ps) ts) f).1 a
+  field_fits (x ∷ ps) (t ∷ ts) zero q f a = (t, refl, ap (λ (z : Pat). fits_type types z t) (sym (same_Some x q a)) ∙ (and_parts (fits_type types x t) (all_of_types (map (fits_type types) ps) ts) f).0)
+  field_fits (x ∷ ps) (t ∷ ts) (suc i) q f a = field_fits ps ts i q (and_parts (fits_type types x t) (all_of_types (map (fits_type types) ps) ts) f).1 a
 
   -- each subpattern of one that fits has a field, and fits its type
   pub fits_field : (at : ℕ) (c : ConRef) (ps : List Pat) (ty : Ty) (i : ℕ) (q : Pat) → fits_type types (ConPat at c ps) ty ≡ true → slice_get ps i ≡ Some q
       → (t : Ty) × (slice_get (types_or_none (fields_of types c)) i ≡ Some t) × (fits_type types q t ≡ true)
   fits_field at c ps ty i q f a =
-      let b = both (is_named c.ty ty) (are_of (map (fits_type types) ps) (fields_of types c)) (sym (fits-Con types at c ps ty) ∙ f) in
+      let b = and_parts (is_named c.ty ty) (are_of (map (fits_type types) ps) (fields_of types c)) (sym (fits-Con types at c ps ty) ∙ f) in
       field_fits ps (types_or_none (fields_of types c)) i q (fitting types (map (fits_type types) ps) (fields_of types c) b.1) a
 
 -- Plans over words that agree -----------------------------------------------------------------------

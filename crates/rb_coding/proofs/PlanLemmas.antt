@@ -1,6 +1,7 @@
 -- The steps of a provenance put the value that it matches on the stack.
 use Rattle.std.proofs.Common.{◌≡◌, ℕ, suc, ◌+◌, ◌-◌, ◌*◌, ◌^◌, ◌<◌, ◌≤◌, ◌==◌, ◌&&◌, ◌⊎◌, inl, inr, length, map, take, drop, List, [], ◌∷◌, ◌++◌, true, Some, refl, sym, subst, ap, ◌∙◌, arith, append_assoc, append-nil}
 use Rattle.std.specs.Prelude.{slice_get}
+use Rattle.std.proofs.lemmas.Bool.{and_parts}
 use Rattle.std.proofs.lemmas.List.{length-append}
 use Rattle.std.proofs.lemmas.Option.{same_Some}
 use Rattle.rb_core.specs.declared.value.Value.{Value, Num, Con, out-Value}
@@ -22,7 +23,7 @@ use Rattle.rb_bytes.specs.Memory.{Memory}
 use Rattle.rb_layout.specs.Positions.{Open, below, opens_below, opens_of, types_or_none}
 use Rattle.rb_rel.specs.Relation.{number}
 use Rattle.rb_rel.specs.Provenances.{fits_type, is_named}
-use Rattle.rb_rel.proofs.Lists.{both, get-left, get-right, get-mapped}
+use Rattle.rb_rel.proofs.Lists.{get-left, get-right, get-mapped}
 use Rattle.rb_rel.proofs.Opens.{fits-Con, fits-Num, opens-Con, opens-Wild, opens-Var, fitting}
 use Rattle.rb_rel.proofs.Reading.{same_nat}
 use Rattle.rb_coding.specs.Decoding.{AreOf}
@@ -95,8 +96,8 @@ module _ (p : Program) (m : Memory) (ss : List ℕ → List ℕ) where
   fields_run (q ∷ ps) each [] vs i v path av f pv shown done = absurd cc
   fields_run (q ∷ ps) each (t ∷ ts) [] i v path av f pv shown done = absurd cc
   fields_run (q ∷ ps) each (t ∷ ts) (x ∷ vs) i v path av f pv shown done =
-      let bf = both (fits_type types q t) (all_of_types (map (fits_type types) ps) ts) f in
-      let bv = both (matches_of q x) (all_pass (map matches_of ps) vs) pv in
+      let bf = and_parts (fits_type types q t) (all_of_types (map (fits_type types) ps) ts) f in
+      let bv = and_parts (matches_of q x) (all_pass (map matches_of ps) vs) pv in
       let z : i + 0 ≡ i = omega arith in
       let hv : sub_at (Some v) i ≡ Some x = ap (sub_at (Some v)) (sym z) ∙ av 0 in
       let shift : (j : ℕ) → i + 1 + j ≡ i + suc j = λ j. omega arith in
@@ -113,7 +114,7 @@ module _ (p : Program) (m : Memory) (ss : List ℕ → List ℕ) where
   passed [] [] e = refl
   passed [] (v ∷ vs) e = absurd cc
   passed (q ∷ ps) [] e = absurd cc
-  passed (q ∷ ps) (v ∷ vs) e = ap suc (passed ps vs (both (matches_of q v) (all_pass (map matches_of ps) vs) e).1)
+  passed (q ∷ ps) (v ∷ vs) e = ap suc (passed ps vs (and_parts (matches_of q v) (all_pass (map matches_of ps) vs) e).1)
 
   con_plans : (at : ℕ) (c : ConRef) (ps : List Pat) → Each Plans ps → Plans (ConPat at c ps)
   con_plans at c ps each ty v path fits hit shown done = elim (view v) [
@@ -121,9 +122,9 @@ module _ (p : Program) (m : Memory) (ss : List ℕ → List ℕ) where
     | inr b ↦
         let vs = b.1 in
         let h : ((c.con == b.0) && all_pass (map matches_of ps) vs) ≡ true = sym (ap (is_con c.con (map matches_of ps)) (ap out-Value b.2 ∙ outs-Con b.0 vs)) ∙ sym (matches-Con v at c ps) ∙ hit in
-        let t = both (c.con == b.0) (all_pass (map matches_of ps) vs) h in
+        let t = and_parts (c.con == b.0) (all_pass (map matches_of ps) vs) h in
         let k = same_nat c.con b.0 t.0 in
-        let bf = both (is_named c.ty ty) (are_of (map (fits_type types) ps) (fields_of types c)) (sym (fits-Con types at c ps ty) ∙ fits) in
+        let bf = and_parts (is_named c.ty ty) (are_of (map (fits_type types) ps) (fields_of types c)) (sym (fits-Con types at c ps ty) ∙ fits) in
         let layer : out-Value v ≡ V.Con b.0 vs = ap out-Value b.2 ∙ outs-Con b.0 vs in
         let zs : (j : ℕ) → 0 + j ≡ j = λ j. omega arith in
         let run = fields_run ps each (types_or_none (fields_of types c)) vs 0 v path (λ j. ap (sub_at (Some v)) (zs j) ∙ ap (λ (l : Value-F Value). slice_get (subs_in l) j) layer)

@@ -2,6 +2,7 @@
 use Rattle.std.proofs.Common.{◌≡◌, ℕ, zero, suc, ◌+◌, ◌-◌, ◌<◌, ◌≤◌, inl, inr, length, map, take, drop, List, [], ◌∷◌, ◌++◌, true, Option, Some, None, refl, sym, subst, ap, ◌∙◌, arith, append_assoc, append-nil}
 use Rattle.std.specs.Prelude.{slice_get, slice_index, nat_lt, ◌^◌}
 use Rattle.std.specs.List.{flat_map}
+use Rattle.std.proofs.lemmas.Bool.{and_parts}
 use Rattle.std.proofs.lemmas.Grind.{common_steps}
 use Rattle.std.proofs.lemmas.List.{map-append, length-append}
 use Rattle.std.proofs.lemmas.Option.{same_Some}
@@ -17,7 +18,7 @@ use Rattle.rb_core.specs.Values.{is_of_type, all_of_types, are_of, fields_in, su
 use Rattle.rb_core.proofs.ValueLaws.{Each, induction, subs-Con, subs-Num, is_of_type-Num, is_of_type-Con}
 use Rattle.rb_layout.specs.Positions.{types_or_none}
 use Rattle.rb_rel.proofs.Existence.{sub_types, PartIs}
-use Rattle.rb_rel.proofs.Lists.{both, get-append-at}
+use Rattle.rb_rel.proofs.Lists.{get-append-at}
 use Rattle.rb_values.specs.Nodes.{at, posts, IsLayer}
 use Rattle.rb_values.specs.declared.nodes.Layer.{Layer}
 use Rattle.rb_values.specs.declared.nodes.Layer.TheVariants as L
@@ -113,18 +114,18 @@ module _ (types : List DataDecl) where
   pair_values : (vs : List Value) (ts : List Ty) → all_of_types (map (is_of_type types) vs) ts ≡ true → map value_of (pairs vs ts) ≡ vs
   pair_values [] ts e = refl
   pair_values (v ∷ vs) [] e = absurd cc
-  pair_values (v ∷ vs) (t ∷ ts) e = ap (λ xs. v ∷ xs) (pair_values vs ts (both (is_of_type types v t) (all_of_types (map (is_of_type types) vs) ts) e).1)
+  pair_values (v ∷ vs) (t ∷ ts) e = ap (λ xs. v ∷ xs) (pair_values vs ts (and_parts (is_of_type types v t) (all_of_types (map (is_of_type types) vs) ts) e).1)
 
   pair_types : (vs : List Value) (ts : List Ty) → all_of_types (map (is_of_type types) vs) ts ≡ true → map type_of (pairs vs ts) ≡ ts
   pair_types [] [] e = refl
   pair_types [] (t ∷ ts) e = absurd cc
   pair_types (v ∷ vs) [] e = absurd cc
-  pair_types (v ∷ vs) (t ∷ ts) e = ap (λ xs. t ∷ xs) (pair_types vs ts (both (is_of_type types v t) (all_of_types (map (is_of_type types) vs) ts) e).1)
+  pair_types (v ∷ vs) (t ∷ ts) e = ap (λ xs. t ∷ xs) (pair_types vs ts (and_parts (is_of_type types v t) (all_of_types (map (is_of_type types) vs) ts) e).1)
 
   pair_typed : (vs : List Value) (ts : List Ty) → all_of_types (map (is_of_type types) vs) ts ≡ true → AllTyped (pairs vs ts)
   pair_typed [] ts e = tt
   pair_typed (v ∷ vs) [] e = absurd cc
-  pair_typed (v ∷ vs) (t ∷ ts) e = let b = both (is_of_type types v t) (all_of_types (map (is_of_type types) vs) ts) e in (b.0, pair_typed vs ts b.1)
+  pair_typed (v ∷ vs) (t ∷ ts) e = let b = and_parts (is_of_type types v t) (all_of_types (map (is_of_type types) vs) ts) e in (b.0, pair_typed vs ts b.1)
 
   num_con_layer : (n k : ℕ) (vs : List Value) → Num n ≡ Con k vs → ⊥
   num_con_layer n k vs e = let h : V.Num n ≡ V.Con k vs = sym (outs-Num n) ∙ ap out-Value e ∙ outs-Con k vs in cc
@@ -189,7 +190,7 @@ module _ (types : List DataDecl) where
   all_firsts [] each ts e = refl
   all_firsts (v ∷ vs) each [] e = absurd cc
   all_firsts (v ∷ vs) each (t ∷ ts) e =
-      let b = both (is_of_type types v t) (all_of_types (map (is_of_type types) vs) ts) e in
+      let b = and_parts (is_of_type types v t) (all_of_types (map (is_of_type types) vs) ts) e in
       map-append value_of (tposts v t) (typed_all (pairs vs ts)) ∙ ap (λ xs. xs ++ map value_of (typed_all (pairs vs ts))) (each.0 t b.0) ∙ ap (λ xs. posts v ++ xs) (all_firsts vs each.1 ts b.1)
 
   con_firsts : (k s : ℕ) (vs : List Value) → Each Firsts vs → (ts : List Ty) → fields_in (slice_get types s) k ≡ Some ts → all_of_types (map (is_of_type types) vs) ts ≡ true → map value_of (tposts (Con k vs) (Named s)) ≡ posts (Con k vs)
@@ -260,7 +261,7 @@ module _ (types : List DataDecl) where
   at_among [] each ts e i x is = absurd cc
   at_among (v ∷ vs) each [] e i x is = absurd cc
   at_among (v ∷ vs) each (t ∷ ts) e i x is =
-      let b = both (is_of_type types v t) (all_of_types (map (is_of_type types) vs) ts) e in
+      let b = and_parts (is_of_type types v t) (all_of_types (map (is_of_type types) vs) ts) e in
       elim (get-append-at (tposts v t) (typed_all (pairs vs ts)) i x is) [
         | inl h ↦ at_widen [] (tposts v t) (typed_all (pairs vs ts)) i i x.0 x.1 (omega arith) (each.0 t b.0 i x h)
         | inr h ↦

@@ -15,11 +15,11 @@ put_into w o l part =
 
 -- the word that parts make, each in its place, and 0 elsewhere: `subs` has the words of the field at a path, and
 -- `ats` the address of each block by number
-abbrev pub made_of : (List ℕ → List ℕ) → (ℕ → ℕ) → List Part → ℕ
-made_of subs ats [] = 0
-made_of subs ats (p ∷ ps) = put_into (made_of subs ats ps) p.o p.l (number_of subs ats p.l p.kind)
+abbrev pub word_of_parts : (List ℕ → List ℕ) → (ℕ → ℕ) → List Part → ℕ
+word_of_parts subs ats [] = 0
+word_of_parts subs ats (p ∷ ps) = put_into (word_of_parts subs ats ps) p.o p.l (number_of subs ats p.l p.kind)
 
 -- the word that the parts of a flat word make, where `subs` has the words of the field at a path, and `ats` the
 -- address of each block by number
 abbrev pub word_made : (List ℕ → List ℕ) → (ℕ → ℕ) → FlatWord → ℕ
-word_made subs ats f = made_of subs ats f.parts
+word_made subs ats f = word_of_parts subs ats f.parts

@@ -4,8 +4,8 @@
 //! field is named by its path, a list of field numbers, outermost first; where addresses are wanted
 //! the path counts for nothing. An entry is a place in the table, and the number for it.
 
-ghost use Rattle.std.specs.Prelude.{◌≡◌, ◌∷◌, [], IfOk, replicate, slice_index_or, slice_set};
-ghost use Rattle.rb_coding.specs.inner.Gathering.{count_at, entry, field_words, put_blocks, put_entry, put_part, put_parts, put_words};
+ghost use Rattle.std.specs.Prelude.{◌≡◌, [], IfOk, replicate, slice_index_or, slice_set};
+ghost use Rattle.rb_coding.specs.inner.Gathering.{count_at, entry, field_words, put_blocks, put_parts, put_words};
 
 use crate::bits::{put_into, take_from};
 use crate::lookup::item;

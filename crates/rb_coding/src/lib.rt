@@ -32,8 +32,8 @@
 //! since those of the last field stand right before the construction, and those of each field
 //! before them.
 //!
-//! [`bits`], [`lookup`], [`paths`] and [`splits::under`] are public for readers of words that come by
-//! them otherwise.
+//! [`bits`], [`lookup`] and [`splits::under`] are public for readers of words that come by them
+//! otherwise.
 #![tactic(auto)]
 
 pub mod bits;
@@ -47,7 +47,6 @@ mod loading;
 pub mod lookup;
 mod node;
 mod pack;
-pub mod paths;
 mod plan;
 mod posts;
 pub mod splits;

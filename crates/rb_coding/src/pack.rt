@@ -6,7 +6,7 @@
 ghost use Rattle.std.specs.Prelude.{◌≡◌, ◌/◌, slice_index, map, IfOk};
 ghost use Rattle.rb_rel.specs.Storing.{number_of};
 ghost use Rattle.rb_coding.specs.inner.Nodes.{subs_of};
-ghost use Rattle.rb_coding.specs.Packing.{made_of, word_made};
+ghost use Rattle.rb_coding.specs.Packing.{word_of_parts, word_made};
 
 use crate::bits::{put_into, take_from};
 use crate::table::Table;
@@ -26,7 +26,7 @@ fn address(addresses: &[u64], block: u32) -> u64
 }
 
 // An address in steps of an alignment, as a pointer holds it; 0 where the alignment is 0.
-fn scaled(address: u64, align: u64) -> u64
+fn scaled_address(address: u64, align: u64) -> u64
     ensures { result ≡ address / align }
 {
     if align == 0 { 0 } else { address / align }
@@ -42,7 +42,7 @@ fn number_of(part: &Part, nodes: &Nodes, node: usize, table: &Table, addresses: 
         Kind::Const(c) => *c,
         Kind::Bits(path, a) => take_from(table.word(nodes, node, path.as_slice(), 0), *a, part.l),
         Kind::Word(path, j) => table.word(nodes, node, path.as_slice(), *j),
-        Kind::Pointer(align, block) => scaled(address(addresses, *block), *align),
+        Kind::Pointer(align, block) => scaled_address(address(addresses, *block), *align),
     }
 }
 
@@ -54,7 +54,7 @@ pub(crate) fn pack(
     table: &Table,
     addresses: &[u64],
 ) -> u64
-    ensures { result ≡ made_of (subs_of table.now nodes.now node) (slice_index addresses.now) parts.now }
+    ensures { result ≡ word_of_parts (subs_of table.now nodes.now node) (slice_index addresses.now) parts.now }
 {
     let mut word = 0;
     for k in (0..parts.len()).rev() {

@@ -12,13 +12,13 @@ ghost use Rattle.rb_coding.specs.inner.Opening.{steps_of, words_of};
 
 use crate::gather::field_words;
 use crate::node::one_word;
-use crate::paths::path_below;
 use crate::todo::Step;
 use rb_core::inference::types_of_fields;
 use rb_core::pattern::Pat;
 use rb_core::seq::Seq;
 use rb_core::types::{DataDecl, Ty};
 use rb_layout::layout::{Layout, Leaf};
+use rb_layout::paths::path_below;
 use std::alloc::{AllocError, Global};
 
 /// A value that is opened: the types and layouts that it is over, its leaf, its root words, and the

@@ -3,8 +3,7 @@
 //! node is that of the whole. A size is how many nodes the value of a node has. A path is a list of
 //! field numbers, outermost first.
 
-ghost use Rattle.std.specs.Prelude.{◌≡◌, ◌-◌, ◌<◌, length, slice_index};
-ghost use Rattle.rb_core.specs.Values.{subs};
+ghost use Rattle.std.specs.Prelude.{◌≡◌, ◌-◌, ◌<◌, slice_index};
 ghost use Rattle.rb_values.specs.Nodes.{at, IsLayer};
 ghost use Rattle.rb_coding.specs.inner.Nodes.{arity_of, field_node, node_at, start_of, subs_of};
 

@@ -2,14 +2,11 @@
 use Rattle.std.proofs.Common.{◌≡◌, ◌≤◌, ◌<◌, ◌^◌, ℕ, List, refl, sym, ap, subst, ◌∙◌, arith, Bool, true, false, ◌&&◌, nat_le, if◌then◌else◌, Some, None, leb-true, le-leb}
 use Rattle.std.specs.Fmt.{decimal}
 use Rattle.std.specs.Str.Parse.{digits_value}
+use Rattle.std.proofs.lemmas.Bool.{and_parts}
 use Rattle.std.proofs.lemmas.Fmt.{decimal_injective}
 use Rattle.rb_core.specs.Decimal.{is_numeral, number_in}
 use Rattle.rb_core.proofs.Decimals.{numeral_spelled, numeral-decimal, value-decimal}
 use Rattle.rb_command.specs.Command.{IsBetween}
-
-pub both : (a b : Bool) → (a && b) ≡ true → (a ≡ true) × (b ≡ true)
-both true b e = (refl, e)
-both false b e = absurd (cc e)
 
 if-some : (c : Bool) (v n : ℕ) → (if c then Some v else None) ≡ Some n → (c ≡ true) × (v ≡ n)
 if-some true v n e = (refl, cc)
@@ -20,8 +17,8 @@ module _ (low high : ℕ) (small : high < 2 ^ 64) where
   spelled w n e =
       let v = digits_value 10 w in
       let c : ((is_numeral w && (nat_le low v && nat_le v high)) ≡ true) × (v ≡ n) = if-some (is_numeral w && (nat_le low v && nat_le v high)) v n e in
-      let d : (is_numeral w ≡ true) × ((nat_le low v && nat_le v high) ≡ true) = both (is_numeral w) (nat_le low v && nat_le v high) c.0 in
-      let r : (nat_le low v ≡ true) × (nat_le v high ≡ true) = both (nat_le low v) (nat_le v high) d.1 in
+      let d : (is_numeral w ≡ true) × ((nat_le low v && nat_le v high) ≡ true) = and_parts (is_numeral w) (nat_le low v && nat_le v high) c.0 in
+      let r : (nat_le low v ≡ true) × (nat_le v high ≡ true) = and_parts (nat_le low v) (nat_le v high) d.1 in
       let least : low ≤ v = leb-true low v r.0 in
       let most : v ≤ high = leb-true v high r.1 in
       let text : decimal v ≡ w = numeral_spelled w d.0 (omega (arith, most, small)) in

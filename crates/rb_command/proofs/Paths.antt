@@ -3,13 +3,14 @@ use Rattle.std.proofs.Common.{◌≡◌, ◌<◌, ◌-◌, ◌^◌, ◌==◌, �
 use Rattle.std.specs.Char.{is_ascii_digit}
 use Rattle.std.specs.Fmt.{decimal}
 use Rattle.std.specs.List.{All, list_all}
+use Rattle.std.proofs.lemmas.Bool.{and_parts}
 use Rattle.std.proofs.lemmas.Fmt.{digits_decimal, decimal_nonempty}
 use Rattle.std.proofs.lemmas.Grind.{common_steps}
 use Rattle.std.proofs.lemmas.List.Elements.{All-nil, All-cons, All-head, All-tail}
 use Rattle.rb_core.proofs.Decimals.{own}
 use Rattle.rb_command.specs.Path.{AreSteps, steps_text, path_text}
 use Rattle.rb_command.specs.inner.Parsing.{step_in, first_step, steps_from, path_in}
-use Rattle.rb_command.proofs.Numbered.{both, spelled, read}
+use Rattle.rb_command.proofs.Numbered.{spelled, read}
 
 -- Steps ---------------------------------------------------------------------------------------
 
@@ -48,7 +49,7 @@ over_free digits (u ∷ us) vs h =
 digits_free : (us : List ℕ) → list_all is_ascii_digit us ≡ true → AreFree us
 digits_free [] h = All-nil (λ b. (b == 46) ≡ false)
 digits_free (u ∷ us) h =
-    let b = both (is_ascii_digit u) (list_all is_ascii_digit us) h in
+    let b = and_parts (is_ascii_digit u) (list_all is_ascii_digit us) h in
     All-cons (λ b. (b == 46) ≡ false) u us (no_point u b.0) (digits_free us b.1)
 
 number_free : (n : ℕ) → n < 2 ^ 32 → AreFree (decimal n)

@@ -4,6 +4,7 @@ use Rattle.std.proofs.lemmas.Bool.Decides.{nat_tests}
 use Rattle.std.proofs.lemmas.List.{length-map}
 use Rattle.std.specs.Prelude.{slice_get, nat_eq, nat_le}
 use Rattle.std.specs.List.{flat_map, list_all}
+use Rattle.std.proofs.lemmas.Bool.{and_parts}
 use Rattle.rb_core.specs.declared.types.Ty.{Ty}
 use Rattle.rb_core.specs.declared.types.Ty.TheVariants.{Int, Named}
 use Rattle.rb_core.specs.declared.types.DataDecl.{DataDecl}
@@ -17,7 +18,7 @@ use Rattle.rb_core.specs.Limits.{most_parameters, most_words}
 use Rattle.rb_core.specs.Typing.{binder_of}
 use Rattle.rb_core.specs.TypedPrograms.{IsTyped}
 use Rattle.rb_core.specs.WellNumbered.{is_between, is_distinct, is_lower, is_type, layout_is_numbered, param_is_numbered, provenance_is_numbered}
-use Rattle.rb_core.proofs.NumberedForms.{body_typed, both, function_numbered}
+use Rattle.rb_core.proofs.NumberedForms.{body_typed, function_numbered}
 use Rattle.rb_target.proofs.Names.{lower_name}
 use Rattle.rb_layout.specs.declared.agreed.LaidOut.{LaidOut}
 use Rattle.rb_layout.specs.declared.layout.Layout.{Layout}
@@ -42,11 +43,11 @@ short_decl : (types : List DataDecl) (ds : List LayoutDecl) (k : ℕ) (d : Layou
 short_decl types [] k d h at = cc
 short_decl types (x ∷ ds) zero d h at =
     let is : x ≡ d = cc at in
-    let here = (both (layout_is_numbered types x) (list_all (layout_is_numbered types) ds) h).0 in
-    let shape = (both (is_between 1 most_words (length x.shape)) (list_all (provenance_is_numbered types) (provenances x.tree) && is_short_layout x.tree) (both _ _ here).1).0 in
-    let few = (both (nat_le 1 (length x.shape)) (nat_le (length x.shape) most_words) shape).1 in
+    let here = (and_parts (layout_is_numbered types x) (list_all (layout_is_numbered types) ds) h).0 in
+    let shape = (and_parts (is_between 1 most_words (length x.shape)) (list_all (provenance_is_numbered types) (provenances x.tree) && is_short_layout x.tree) (and_parts _ _ here).1).0 in
+    let few = (and_parts (nat_le 1 (length x.shape)) (nat_le (length x.shape) most_words) shape).1 in
     subst (λ (y : LayoutDecl). length y.shape ≤ 8) is (let le : length x.shape ≤ 8 = grind (arith, nat_tests, few) in le)
-short_decl types (x ∷ ds) (suc k) d h at = short_decl types ds k d (both (layout_is_numbered types x) (list_all (layout_is_numbered types) ds) h).1 at
+short_decl types (x ∷ ds) (suc k) d h at = short_decl types ds k d (and_parts (layout_is_numbered types x) (list_all (layout_is_numbered types) ds) h).1 at
 
 module _ (p : Program) (typed : IsTyped p) (a1 : A1 p) where
   few_at : (t : ℕ) (o : Option Layout) → layout_of (flat_layouts p) t ≡ o → shape_length o ≤ 8
@@ -100,10 +101,10 @@ module _ (agreed : LaidOut) (typed : IsTyped agreed.covered.program) (covered : 
   pub fun_ready : (g : ℕ) (f : Fun) → slice_get p.funs g ≡ Some f → FunIsReady plan g f
   fun_ready g f at =
       let well = function_numbered p typed g f at in
-      let name = both (is_lower f.name) _ well in
-      let params = both (nat_le (length f.params) most_parameters) _ name.1 in
-      let rest = both (list_all (param_is_numbered p.types) f.params) _ params.1 in
-      let body = both (is_type p.types f.result) _ rest.1 in
+      let name = and_parts (is_lower f.name) _ well in
+      let params = and_parts (nat_le (length f.params) most_parameters) _ name.1 in
+      let rest = and_parts (list_all (param_is_numbered p.types) f.params) _ params.1 in
+      let body = and_parts (is_type p.types f.result) _ rest.1 in
       let few : length f.params ≤ 32 = (let h = params.0 in grind (arith, nat_tests, h)) in
       let same = length-map f.params (λ p. p.ty) in
       let words = words_few plan (λ t. subst (λ l. word_count l t ≤ 8) (sym are.0) (few_words p typed are.1.a1 t)) (types_of f) in

@@ -25,7 +25,7 @@ use Rattle.rb_core.specs.declared.expression.Expr.TheOpen as E
 use Rattle.rb_core.specs.declared.expression.Expr.TheFolds.{fold-roll-Expr, fold_out-Clause}
 use Rattle.rb_core.specs.Matching.{bindings, matches_of}
 use Rattle.rb_core.specs.declared.typing.TypeFault.TheVariants.{Arity}
-use Rattle.rb_core.specs.Typing.{Typing, and_then, bound_type, clause_rule, clauses, each_argument, field_types, as_wanted, integer, integer_operand, operand_wanted, operator_type, param_types, pattern_binders, result_type, rule_of, type_of}
+use Rattle.rb_core.specs.Typing.{Typing, and_then, bound_type, clause_rule, clauses_typing, each_argument, field_types, as_wanted, integer, integer_operand, operand_wanted, operator_type, param_types, pattern_binders, result_type, rule_of, type_of}
 use Rattle.rb_core.specs.Inference.{Inference, binders, clause_inferred, first_clause_type, inferred_type, match_type, operands_type, width_of, with_binder}
 use Rattle.rb_core.specs.Coverage.{branch_sites, part_sites, site_of, sites}
 use Rattle.rb_core.specs.Meaning.{Calls, Meaning, PartsOutcome, after, all_of, at_end, at_part, construction_outcome, clause_meaning, operation_outcome, cut_to, first_of, first_wanted, later_wanted, meaning_of, parts_after, value_outcome, then_do, then_with, value_or}
@@ -178,14 +178,14 @@ module _ (types : List DataDecl) (funs : List Fun) where
       (each.0 (Some t) s s' (λ x i. h x (first_part e es x i))) (λ found. each_same es each.1 ts s s' (λ x i. h x (later_parts e es x i)))
 
   clauses_same : (cs : List Clause) → EachBody SameTyping cs → (t : Ty) (wanted : Option Ty) (s s' : List Binder) → ScopesAgree (clause_variables cs) s s'
-      → clauses (map (clause_rule types funs) cs) t wanted s ≡ clauses (map (clause_rule types funs) cs) t wanted s'
+      → clauses_typing (map (clause_rule types funs) cs) t wanted s ≡ clauses_typing (map (clause_rule types funs) cs) t wanted s'
   clauses_same [] each t wanted s s' h = refl
   clauses_same (c ∷ cs) each t wanted s s' h =
       let body = λ (bs : List Binder). each.0 wanted (s ++ bs) (s' ++ bs) (scopes_more _ s s' bs (λ x i. h x (first_body c cs x i))) in
       let here : clause_rule types funs c t wanted s ≡ clause_rule types funs c t wanted s' = type-Clause types funs c.pat c.body t wanted s
       ∙ then_same (pattern_binders types c.pat t) (pattern_binders types c.pat t) (λ bs. type_of types funs c.body wanted (s ++ bs)) (λ bs. type_of types funs c.body wanted (s' ++ bs)) refl body
       ∙ sym (type-Clause types funs c.pat c.body t wanted s') in
-      then_same (clause_rule types funs c t wanted s) (clause_rule types funs c t wanted s') (λ found. clauses (map (clause_rule types funs) cs) t (Some found) s) (λ found. clauses (map (clause_rule types funs) cs) t (Some found) s')
+      then_same (clause_rule types funs c t wanted s) (clause_rule types funs c t wanted s') (λ found. clauses_typing (map (clause_rule types funs) cs) t (Some found) s) (λ found. clauses_typing (map (clause_rule types funs) cs) t (Some found) s')
       here (λ found. clauses_same cs each.1 t (Some found) s s' (λ x i. h x (later_bodies c cs x i)))
 
   pub same_typing : (e : Expr) → SameTyping e
@@ -210,7 +210,7 @@ module _ (types : List DataDecl) (funs : List Fun) where
         (ha (Some t) s s' (λ y i. h y (left (variables_in a) (variables_in b) _ (variables-Let at x t a b) y i)))
         (λ u. hb wanted _ _ (scopes_more _ s s' (record { var = x; ty = t } ∷ []) (λ y i. h y (right (variables_in a) (variables_in b) _ (variables-Let at x t a b) y i)))) ∙ sym (type-Let types funs at x t a b wanted s');
     choice = λ at e cs he hcs wanted s s' h. type-Match types funs at e cs wanted s
-        ∙ then_same (type_of types funs e None s) (type_of types funs e None s') (λ t. clauses (map (clause_rule types funs) cs) t wanted s) (λ t. clauses (map (clause_rule types funs) cs) t wanted s')
+        ∙ then_same (type_of types funs e None s) (type_of types funs e None s') (λ t. clauses_typing (map (clause_rule types funs) cs) t wanted s) (λ t. clauses_typing (map (clause_rule types funs) cs) t wanted s')
         (he None s s' (λ x i. h x (left (variables_in e) (clause_variables cs) _ (variables-Match at e cs) x i)))
         (λ t. clauses_same cs hcs t wanted s s' (λ x i. h x (right (variables_in e) (clause_variables cs) _ (variables-Match at e cs) x i))) ∙ sym (type-Match types funs at e cs wanted s');
   })

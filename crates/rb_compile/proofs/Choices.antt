@@ -15,7 +15,7 @@ use Rattle.rb_core.specs.declared.outcome.Outcome.{Outcome}
 use Rattle.rb_core.specs.Clauses.{PatternIsTyped, pat_of, wanted_of}
 use Rattle.rb_core.specs.Inference.{binders, inferred_type}
 use Rattle.rb_core.specs.Matching.{bindings, chosen_clause, matches_of, next_clause}
-use Rattle.rb_core.specs.Meaning.{Calls, after, clause_meaning, first_of, meaning_of, spent, then_do}
+use Rattle.rb_core.specs.Meaning.{Calls, after, clause_meaning, first_of, meaning_of, spent_outcome, then_do}
 use Rattle.rb_core.specs.Values.{is_of_type}
 use Rattle.rb_core.proofs.MeaningForms.{meaning-Match}
 use Rattle.rb_core.proofs.NumberedForms.{numbered-Match}
@@ -38,7 +38,7 @@ use Rattle.rb_fragment.specs.declared.held.Local.{Local}
 use Rattle.rb_fragment.specs.Plan.{Plan, Rep}
 use Rattle.rb_fragment.specs.Owing.{Does}
 use Rattle.rb_fragment.specs.Adding.{Adds}
-use Rattle.rb_fragment.specs.Arms.{AreHoles, AreOfOneWay, CodeArm, ArmsAre, ArmsIn, CanClose, closed, whole_match}
+use Rattle.rb_fragment.specs.Arms.{AreHoles, AreOfOneWay, CodeArm, ArmsAre, ArmsIn, CanClose, with_targets, whole_match}
 use Rattle.rb_fragment.specs.Fragments.{Comes, Fragment}
 use Rattle.rb_fragment.specs.Holding.{AreGiven, Holds, scope_of}
 use Rattle.rb_fragment.specs.Pieces.{Branches}
@@ -175,7 +175,7 @@ module _ (plan : Plan) (f at : ℕ) (cs : List Clause) (wanted : Option Ty) (ls 
         (branches_frame plan b.slots b c holes most Taken Chosen Any stays choice)
 
     abbrev outcome_of : Option Clause → ℕ → ℕ → Outcome
-    outcome_of None k left = spent
+    outcome_of None k left = spent_outcome
     outcome_of (Some x) k left = meaning_of plan.program calls f x.body (wanted_of k wanted (Some t)) (scope_of ls ++ binders plan.program.types x.pat s) left (env ++ bindings x.pat v)
 
     abbrev outcome : ℕ → ℕ → Outcome
@@ -272,7 +272,7 @@ can_close count b c q holes joins starts holes_are are = record {
 pub match_grows : (a b e q : Sheet) (n : ℕ) (holes joins : List Hole) (starts : List ℕ) → Grows a.code b.code → Grows b.code e.code → AreHoles (length b.code) n e.code holes → ArmsAre n e q joins starts
     → Grows a.code (whole_match q holes starts joins).code
 match_grows a b e q n holes joins starts g1 g2 holes_are are =
-    let inner = closed q holes starts in
+    let inner = with_targets q holes starts in
     let ends = length q.code ∷ [] in
     let len = closed_length inner joins ends ∙ closed_length q holes starts in
     record {

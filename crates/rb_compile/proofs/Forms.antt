@@ -17,7 +17,7 @@ use Rattle.rb_core.proofs.NumberedForms.{numbered-Let}
 use Rattle.rb_core.proofs.TypedForms.{typed-Num, typed-Let}
 use Rattle.rb_target.specs.declared.instr.Instr.{Instr}
 use Rattle.rb_target.specs.declared.instr.Instr.TheVariants.{Const}
-use Rattle.rb_target.specs.Sheet.{Sheet, pushed, with_slot}
+use Rattle.rb_target.specs.Sheet.{Sheet, with_more, with_slot}
 use Rattle.rb_target.specs.Growth.{Grows}
 use Rattle.rb_target.proofs.Growing.{Grows-append}
 use Rattle.rb_rel.specs.Relation.{number}
@@ -56,18 +56,18 @@ one_grows old new i t held is = subst (λ (b : Sheet). Grows old.code b.code) (s
 
 -- what is promised of one instruction is promised of what is it
 pub one_is : (plan : Plan) (f : ℕ) (e : Expr) (wanted : Option Ty) (ls : List Local) (old mid new : Sheet) (i : Instr) (t : Ty) (held : Held) → IsOne mid i t new held
-    → EmitsExpr plan f e wanted ls old (pushed (with_slot mid) i) (record { ty = t; slots = mid.slots ∷ [] }) → EmitsExpr plan f e wanted ls old new held
+    → EmitsExpr plan f e wanted ls old (with_more (with_slot mid) i) (record { ty = t; slots = mid.slots ∷ [] }) → EmitsExpr plan f e wanted ls old new held
 one_is plan f e wanted ls old mid new i t held is h =
     subst (λ (b : Sheet). EmitsExpr plan f e wanted ls old b held) (sym is.0)
-    (subst (λ (k : Held). EmitsExpr plan f e wanted ls old (pushed (with_slot mid) i) k) (sym is.1) h)
+    (subst (λ (k : Held). EmitsExpr plan f e wanted ls old (with_more (with_slot mid) i) k) (sym is.1) h)
 
 -- Numbers
 
 module _ (plan : Plan) (a : Sheet) (n bits : ℕ) (small : n < 2 ^ 64) (fits : n < 2 ^ bits) where
-  const_adds : Adds plan a (pushed (with_slot a) (Const a.slots n))
+  const_adds : Adds plan a (with_more (with_slot a) (Const a.slots n))
   const_adds = Adds-one plan a (Const a.slots n) (0, omega arith, refl) (record { bounded = small; slots_fit = omega arith; targets = tt; calls = tt })
 
-  pub number_emits : (ls : List Local) → Emits plan (λ calls left env. value_outcome (Num n) left) ls a (pushed (with_slot a) (Const a.slots n)) (Int bits) (a.slots ∷ [])
+  pub number_emits : (ls : List Local) → Emits plan (λ calls left env. value_outcome (Num n) left) ls a (with_more (with_slot a) (Const a.slots n)) (Int bits) (a.slots ∷ [])
   number_emits ls = record {
     adds = const_adds;
     given = (omega arith, tt);
@@ -84,8 +84,8 @@ number_expr plan f at n wanted ls a b held small is =
     let h = typed-Num plan.program.types plan.program.funs at n wanted (scope_of ls) t small ready.typed in
     let e = number_emits plan a n h.0 small h.2 ls in (
       h.3,
-      subst (λ u. Emits plan (meant plan f (X.Num at n) wanted ls) ls a (pushed (with_slot a) (Const a.slots n)) u (a.slots ∷ [])) (sym h.1)
-          (same_emits plan (meant plan f (X.Num at n) wanted ls) (λ calls left env. value_outcome (Num n) left) ls a (pushed (with_slot a) (Const a.slots n)) (Int h.0) (a.slots ∷ [])
+      subst (λ u. Emits plan (meant plan f (X.Num at n) wanted ls) ls a (with_more (with_slot a) (Const a.slots n)) u (a.slots ∷ [])) (sym h.1)
+          (same_emits plan (meant plan f (X.Num at n) wanted ls) (λ calls left env. value_outcome (Num n) left) ls a (with_more (with_slot a) (Const a.slots n)) (Int h.0) (a.slots ∷ [])
           (λ calls left env. meaning-Num plan.program calls f wanted (scope_of ls) left env at n) e),
     ))
 

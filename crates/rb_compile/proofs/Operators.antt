@@ -3,6 +3,7 @@ use Rattle.std.proofs.Common.{◌≡◌, ℕ, zero, suc, ◌+◌, ◌%◌, ◌^�
 use Rattle.std.proofs.Math.Nat.{mod-lt, div-one}
 use Rattle.std.proofs.lemmas.Bool.Decides.{nat_tests}
 use Rattle.std.specs.Prelude.{slice_index, unwrap_or, nat_le}
+use Rattle.std.proofs.lemmas.Bool.{and_parts}
 use Rattle.rb_core.specs.declared.value.Value.{Value, Num}
 use Rattle.rb_core.specs.declared.types.Ty.{Ty}
 use Rattle.rb_core.specs.declared.types.Ty.TheVariants.{Int}
@@ -16,7 +17,7 @@ use Rattle.rb_core.specs.Inference.{width_of}
 use Rattle.rb_core.specs.WellNumbered.{is_between}
 use Rattle.rb_core.specs.Meaning.{Calls, operation_outcome, cut_to, number_of, op_value, then_do}
 use Rattle.rb_core.proofs.MeaningForms.{meaning-Binary, meaning-To}
-use Rattle.rb_core.proofs.NumberedForms.{both, numbered-Binary, numbered-To}
+use Rattle.rb_core.proofs.NumberedForms.{numbered-Binary, numbered-To}
 use Rattle.rb_core.proofs.OperatorLaws.{op_fits, number_of-Num}
 use Rattle.rb_core.proofs.TypedForms.{typed-Binary, typed-To}
 use Rattle.rb_bits.specs.Words.{take_of}
@@ -24,7 +25,7 @@ use Rattle.rb_target.specs.declared.instr.Instr.{Instr}
 use Rattle.rb_target.specs.declared.instr.Instr.TheVariants.{Alu, Take}
 use Rattle.rb_target.specs.Meaning.{alu_of, slots_at}
 use Rattle.rb_target.specs.Operators.{alu_op_of}
-use Rattle.rb_target.specs.Sheet.{Sheet, pushed, with_slot}
+use Rattle.rb_target.specs.Sheet.{Sheet, with_more, with_slot}
 use Rattle.rb_target.proofs.Operating.{same_operator}
 use Rattle.rb_rel.specs.Relation.{number}
 use Rattle.rb_fragment.specs.declared.held.Held.{Held}
@@ -74,7 +75,7 @@ module _ (plan : Plan) (ea eb : Calls → ℕ → List Binding → Outcome) (op 
   instr = Alu (alu_op_of op) (stated_width (Int bits)) c.slots (slice_index xs 0) (slice_index ys 0)
 
   abbrev after : Sheet
-  after = pushed (with_slot c) instr
+  after = with_more (with_slot c) instr
 
   last : (calls : Calls) (clean : Bool) (v w : Value)
       → Fragment plan clean calls c after (λ s m. Rep plan m clean (Int bits) v (slots_at s xs) × Rep plan m clean (Int bits) w (slots_at s ys)) (operation_outcome op (width_of (Int bits)) v w) t (c.slots ∷ [])
@@ -158,14 +159,14 @@ module _ (plan : Plan) (f at : ℕ) (op : Op) (ea eb : Expr) (wanted : Option Ty
       (λ calls left env. meaning-Binary plan.program calls f wanted (scope_of ls) left env at op ea eb
       ∙ ap (λ u. then_do (meant plan f ea (operand_wanted op wanted) ls calls left env) (λ v rest. then_do (meant plan f eb (Some u) ls calls rest env) (operation_outcome op (width_of u) v))) p.1) all in (
         ap (operator_type op) is ∙ p.5,
-        subst (λ u. Emits plan (meant plan f (X.Binary at op ea eb) wanted ls) ls a (pushed (with_slot c) (Alu (alu_op_of op) (stated_width u) c.slots (slice_index hx.slots 0) (slice_index hy.slots 0))) t (c.slots ∷ [])) (sym is) named,
+        subst (λ u. Emits plan (meant plan f (X.Binary at op ea eb) wanted ls) ls a (with_more (with_slot c) (Alu (alu_op_of op) (stated_width u) c.slots (slice_index hx.slots 0) (slice_index hy.slots 0))) t (c.slots ∷ [])) (sym is) named,
       ))
 
 -- Low bits
 
 between : (a b n : ℕ) → is_between a b n ≡ true → (a ≤ n) × (n ≤ b)
 between a b n e =
-    let h = both (nat_le a n) (nat_le n b) e in
+    let h = and_parts (nat_le a n) (nat_le n b) e in
     let lo : a ≤ n = grind (arith, nat_tests, h.0) in let hi : n ≤ b = grind (arith, nat_tests, h.1) in (lo, hi)
 
 low_word : (n bits : ℕ) → take_of n 0 bits ≡ n % 2 ^ bits
@@ -179,7 +180,7 @@ module _ (plan : Plan) (ea : Calls → ℕ → List Binding → Outcome) (n bits
   abbrev cut : Instr
   cut = Take b.slots (slice_index xs 0) 0 bits
 
-  cut_does : (calls : Calls) (clean : Bool) (v : Value) → Fragment plan clean calls b (pushed (with_slot b) cut) (λ s m. Rep plan m clean (Int n) v (slots_at s xs)) (cut_to bits v) (Int bits) (b.slots ∷ [])
+  cut_does : (calls : Calls) (clean : Bool) (v : Value) → Fragment plan clean calls b (with_more (with_slot b) cut) (λ s m. Rep plan m clean (Int n) v (slots_at s xs)) (cut_to bits v) (Int bits) (b.slots ∷ [])
   cut_does calls clean v = one plan clean calls b cut (λ s m. Rep plan m clean (Int n) v (slots_at s xs)) (cut_to bits v) (Int bits)
       (λ next callee pc s u pre.
       let x = Rep-int plan clean u.memory n v (slots_at s xs) pre in
@@ -190,16 +191,16 @@ module _ (plan : Plan) (ea : Calls → ℕ → List Binding → Outcome) (n bits
       let same : word ≡ result = low_word (slice_index s (slice_index xs 0)) bits ∙ ap (λ k. k % 2 ^ bits) (sx ∙ sym vx) in
       (Num result, word, refl, refl, subst (λ k. Rep plan u.memory clean (Int bits) (Num result) (k ∷ [])) (sym same) (number bits result (mod-lt (number_of v) (pow_pos bits)))))
 
-  cut_emits : AreGiven plan a.slots ls → Emits plan ea ls a b (Int n) xs → Emits plan (λ calls left env. then_do (ea calls left env) (cut_to bits)) ls a (pushed (with_slot b) cut) (Int bits) (b.slots ∷ [])
+  cut_emits : AreGiven plan a.slots ls → Emits plan ea ls a b (Int n) xs → Emits plan (λ calls left env. then_do (ea calls left env) (cut_to bits)) ls a (with_more (with_slot b) cut) (Int bits) (b.slots ∷ [])
   cut_emits given first =
       let x_low : slice_index xs 0 < b.slots + 1 = (let h = first_below b.slots xs first.given first.count in omega (arith, h)) in
-      let adds : Adds plan b (pushed (with_slot b) cut) = Adds-one plan b cut (0, omega arith, refl) (record { bounded = (low, omega (arith, high)); slots_fit = (omega arith, x_low); targets = tt; calls = tt }) in
+      let adds : Adds plan b (with_more (with_slot b) cut) = Adds-one plan b cut (0, omega arith, refl) (record { bounded = (low, omega (arith, high)); slots_fit = (omega arith, x_low); targets = tt; calls = tt }) in
       record {
-        adds = Adds-trans plan a b (pushed (with_slot b) cut) first.adds adds;
+        adds = Adds-trans plan a b (with_more (with_slot b) cut) first.adds adds;
         given = (omega arith, tt);
         count = refl;
         origin = λ y h. elim h [ inl e ↦ inl (omega (arith, e, first.adds.more)) | inr e ↦ absurd e ];
-        does = λ calls clean env. seq plan clean calls a b (pushed (with_slot b) cut) (Int n) (Int bits) xs (b.slots ∷ []) (λ s m. Holds plan clean s m ls env) (λ v s m. Rep plan m clean (Int n) v (slots_at s xs))
+        does = λ calls clean env. seq plan clean calls a b (with_more (with_slot b) cut) (Int n) (Int bits) xs (b.slots ∷ []) (λ s m. Holds plan clean s m ls env) (λ v s m. Rep plan m clean (Int n) v (slots_at s xs))
             (λ left. ea calls left env) (cut_to bits) first.adds adds (first.does calls clean env) (λ v. cut_does calls clean v) (λ v s s' m m' ext keeps rep pre. rep);
       }
 
@@ -215,7 +216,7 @@ to_expr plan f at bits ea wanted ls a b d hx held first it =
     let A = first (Int p.0) (record { sound = ready.sound; typed = p.1; within = ready.within; numbered = wn.1; given = ready.given; ready_sites = ready-To plan f at bits ea (scope_of ls) ready.ready_sites }) in
     let all = cut_emits plan (meant plan f ea None ls) p.0 bits ls a b hx.slots range.0 range.1 ready.given A.1 in (
       p.2,
-      subst (λ u. Emits plan (meant plan f (X.To at bits ea) wanted ls) ls a (pushed (with_slot b) i) u (b.slots ∷ [])) p.2
-          (same_emits plan (meant plan f (X.To at bits ea) wanted ls) (λ calls left env. then_do (meant plan f ea None ls calls left env) (cut_to bits)) ls a (pushed (with_slot b) i) (Int bits) (b.slots ∷ [])
+      subst (λ u. Emits plan (meant plan f (X.To at bits ea) wanted ls) ls a (with_more (with_slot b) i) u (b.slots ∷ [])) p.2
+          (same_emits plan (meant plan f (X.To at bits ea) wanted ls) (λ calls left env. then_do (meant plan f ea None ls calls left env) (cut_to bits)) ls a (with_more (with_slot b) i) (Int bits) (b.slots ∷ [])
           (λ calls left env. meaning-To plan.program calls f wanted (scope_of ls) left env at bits ea) all),
     ))

@@ -12,7 +12,7 @@ use Rattle.rb_core.specs.declared.expression.Expr as X
 use Rattle.rb_core.specs.Typing.{each_argument, field_types, param_types, params_of, result_of, rule_of, type_of}
 use Rattle.rb_core.specs.Values.{fields_of}
 use Rattle.rb_core.specs.WellNumbered.{all_within, expression_is_numbered}
-use Rattle.rb_core.specs.Meaning.{Calls, Meaning, all_of, construction_outcome, meaning_of, spent, then_with}
+use Rattle.rb_core.specs.Meaning.{Calls, Meaning, all_of, construction_outcome, meaning_of, spent_outcome, then_with}
 use Rattle.rb_core.proofs.MeaningForms.{meaning-Build, meaning-Call}
 use Rattle.rb_core.proofs.NumberedForms.{numbered-Build, numbered-Call, numbered_part}
 use Rattle.rb_core.proofs.TypedForms.{typed-Build, typed-Call, typed_argument}
@@ -23,7 +23,7 @@ use Rattle.rb_fragment.specs.declared.held.Local.{Local}
 use Rattle.rb_fragment.specs.Plan.{Plan, types_of, words_needed}
 use Rattle.rb_fragment.specs.Slots.{slots_from}
 use Rattle.rb_fragment.specs.Holding.{AreGiven, held_type, scope_of}
-use Rattle.rb_fragment.specs.Fragments.{AnyValues, Emits, EmitsAll, calling}
+use Rattle.rb_fragment.specs.Fragments.{AnyValues, Emits, EmitsAll, with_call}
 use Rattle.rb_fragment.proofs.Arguments.{applied}
 use Rattle.rb_fragment.proofs.Calling.{call_applies}
 use Rattle.rb_fragment.proofs.Holds.{AreGiven-more}
@@ -104,7 +104,7 @@ module _ (plan : Plan) (f : ℕ) (es : List Expr) (ts : List Ty) (ls : List Loca
 
   pub kinds_are : map held_type hs ≡ ts
   kinds_are =
-      let none : Calls = λ g l vs. spent in
+      let none : Calls = λ g l vs. spent_outcome in
       let count : length hs ≡ length ts = sym (all_emits.count none) ∙ length-map es (meaning_of plan.program none f) ∙ many in
       all_emits.kinds ∙ take_all (length hs) ts (omega (arith, count))
 
@@ -115,11 +115,11 @@ module _ (plan : Plan) (f at g : ℕ) (es : List Expr) (wanted : Option Ty) (ls 
   params_are = ap (λ o. map (λ p. p.ty) (params_of o)) is
 
   pub call_expr : (a b c : Sheet) (hs : List Held) (held : Held) → EmitsFirst plan f (length es) es (types_of fun) ls a b hs
-      → held ≡ record { ty = fun.result; slots = slots_from b.slots (words_needed plan fun.result) } → c ≡ calling plan b g fun hs → EmitsExpr plan f (X.Call at g es) wanted ls a c held
+      → held ≡ record { ty = fun.result; slots = slots_from b.slots (words_needed plan fun.result) } → c ≡ with_call plan b g fun hs → EmitsExpr plan f (X.Call at g es) wanted ls a c held
   call_expr a b c hs held first held_is code_is =
       let ds = slots_from b.slots (words_needed plan fun.result) in
       subst (λ (k : Sheet). EmitsExpr plan f (X.Call at g es) wanted ls a k held) (sym code_is)
-      (subst (λ (h : Held). EmitsExpr plan f (X.Call at g es) wanted ls a (calling plan b g fun hs) h) (sym held_is) (λ t ready.
+      (subst (λ (h : Held). EmitsExpr plan f (X.Call at g es) wanted ls a (with_call plan b g fun hs) h) (sym held_is) (λ t ready.
       let types = plan.program.types in let funs = plan.program.funs in
       let tc = typed-Call types funs at g es wanted (scope_of ls) t ready.typed in
       let nc = numbered-Call types funs at g es ready.within ready.numbered in
@@ -129,10 +129,10 @@ module _ (plan : Plan) (f at g : ℕ) (es : List Expr) (wanted : Option Ty) (ls 
       let all = all_emits plan f es (types_of fun) ls a b hs ready.sound ready.within ready.given long typed nc.1 sites first in
       let kinds = kinds_are plan f es (types_of fun) ls a b hs ready.sound ready.within ready.given long typed nc.1 sites first in
       let result : fun.result ≡ t = sym (ap result_of is) ∙ tc.2 in
-      let e = applied plan (types_of fun) ls AnyValues (λ calls. map (meaning_of plan.program calls f) es) (λ calls vs left. calls g left vs) a b (calling plan b g fun hs) hs fun.result ds all (call_applies plan b g fun hs is kinds all.given) in (
+      let e = applied plan (types_of fun) ls AnyValues (λ calls. map (meaning_of plan.program calls f) es) (λ calls vs left. calls g left vs) a b (with_call plan b g fun hs) hs fun.result ds all (call_applies plan b g fun hs is kinds all.given) in (
         result,
-        subst (λ u. Emits plan (meant plan f (X.Call at g es) wanted ls) ls a (calling plan b g fun hs) u ds) result
-            (same_emits plan (meant plan f (X.Call at g es) wanted ls) (λ calls left env. then_with (all_of (map (meaning_of plan.program calls f) es) (types_of fun) (scope_of ls) [] left env) (λ vs rest. calls g rest vs)) ls a (calling plan b g fun hs) fun.result ds
+        subst (λ u. Emits plan (meant plan f (X.Call at g es) wanted ls) ls a (with_call plan b g fun hs) u ds) result
+            (same_emits plan (meant plan f (X.Call at g es) wanted ls) (λ calls left env. then_with (all_of (map (meaning_of plan.program calls f) es) (types_of fun) (scope_of ls) [] left env) (λ vs rest. calls g rest vs)) ls a (with_call plan b g fun hs) fun.result ds
             (λ calls left env. meaning-Call plan.program calls f wanted (scope_of ls) left env at g es
             ∙ ap (λ ts. then_with (all_of (map (meaning_of plan.program calls f) es) ts (scope_of ls) [] left env) (λ vs rest. calls g rest vs)) params_are) e),
       )))

@@ -2,6 +2,7 @@
 use Rattle.std.proofs.Common.{◌≡◌, ℕ, ◌==◌, Bool, true, false, List, [], ◌∷◌, map, refl, sym, ap, ◌∙◌, arith}
 use Rattle.std.proofs.lemmas.Grind.{common_steps}
 use Rattle.std.specs.Prelude.{◌&&◌, if◌then◌else◌}
+use Rattle.std.proofs.lemmas.Bool.{and_parts}
 use Rattle.rb_core.specs.declared.value.Value.{Value, out-Value}
 use Rattle.rb_core.specs.declared.value.Value.TheOpen as V
 use Rattle.rb_core.specs.declared.value.Value.TheOpen.{Value-F}
@@ -9,25 +10,20 @@ use Rattle.rb_core.specs.declared.types.Ty.{Ty}
 use Rattle.rb_core.specs.declared.types.DataDecl.{DataDecl}
 use Rattle.rb_core.specs.declared.types.ConRef.{ConRef}
 use Rattle.rb_core.specs.declared.pattern.Pat.{Pat, Wild, Var, Num, Con}
-use Rattle.rb_core.specs.Matching.{all_bound, all_pass, bindings, bound_within, is_con, matches_of}
+use Rattle.rb_core.specs.Matching.{all_bindings, all_pass, bindings, layer_bindings, is_con, matches_of}
 use Rattle.rb_core.specs.Typing.{bound_type, field_types}
 use Rattle.rb_core.specs.Inference.{all_binders, binders}
 use Rattle.rb_core.specs.Meaning.{value_or}
 use Rattle.rb_core.proofs.PatternLaws.{Each, fold-Con, fold-Num, fold-Var, fold-Wild, induction}
 use Rattle.rb_core.proofs.MatchingForms.{bindings-Con, bindings-Num, bindings-Var, bindings-Wild, matches-Con, matches-Var, matches-Wild}
 use Rattle.rb_core.proofs.InferenceAgreement.{binders-Con, binders-Num, binders-Var, binders-Wild}
-use Rattle.rb_compile.specs.inner.Used.{pruned, pruned_step}
+use Rattle.rb_compile.specs.inner.Used.{pruned_pattern, pruned_step}
 use Rattle.rb_compile.proofs.Agreeing.{bound-append, value-append}
-
-both : (a b : Bool) → (a && b) ≡ true → (a ≡ true) × (b ≡ true)
-both true true e = (refl, refl)
-both true false e = absurd cc
-both false b e = absurd cc
 
 module _ (types : List DataDecl) where
   module _ (keeps : ℕ → Bool) where
     abbrev cut : Pat → Pat
-    cut = pruned keeps
+    cut = pruned_pattern keeps
 
     pub cut-Con : (at : ℕ) (c : ConRef) (ps : List Pat) → cut (Con at c ps) ≡ Con at c (map cut ps)
     cut-Con at c ps = fold-Con Pat (pruned_step keeps) at c ps
@@ -51,13 +47,13 @@ module _ (types : List DataDecl) where
     all_match [] each (v ∷ vs) m = m
     all_match (p ∷ ps) each [] m = absurd cc
     all_match (p ∷ ps) each (v ∷ vs) m =
-        let b = both (matches_of p v) (all_pass (map matches_of ps) vs) m in
+        let b = and_parts (matches_of p v) (all_pass (map matches_of ps) vs) m in
         ap (λ u. u && all_pass (map matches_of (map cut ps)) vs) (each.0 v b.0) ∙ all_match ps each.1 vs b.1
 
     con_match : (c : ℕ) (ps : List Pat) → Each Matches ps → (l : Value-F Value) → is_con c (map matches_of ps) l ≡ true → is_con c (map matches_of (map cut ps)) l ≡ true
     con_match c ps each (V.Num n) m = m
     con_match c ps each (V.Con k vs) m =
-        let b = both (c == k) (all_pass (map matches_of ps) vs) m in
+        let b = and_parts (c == k) (all_pass (map matches_of ps) vs) m in
         ap (λ u. u && all_pass (map matches_of (map cut ps)) vs) b.0 ∙ all_match ps each vs b.1
 
     pub cut_matches : (p : Pat) → Matches p
@@ -109,16 +105,16 @@ module _ (types : List DataDecl) where
       abbrev SameValue : Pat → Type 0
       SameValue p = (d v : Value) → value_or d x (bindings (cut p) v) ≡ value_or d x (bindings p v)
 
-      all_values : (ps : List Pat) → Each SameValue ps → (vs : List Value) (d : Value) → value_or d x (all_bound (map bindings (map cut ps)) vs) ≡ value_or d x (all_bound (map bindings ps) vs)
+      all_values : (ps : List Pat) → Each SameValue ps → (vs : List Value) (d : Value) → value_or d x (all_bindings (map bindings (map cut ps)) vs) ≡ value_or d x (all_bindings (map bindings ps) vs)
       all_values [] each vs d = refl
       all_values (p ∷ ps) each [] d = refl
       all_values (p ∷ ps) each (v ∷ vs) d =
-          value-append d x (bindings (cut p) v) (all_bound (map bindings (map cut ps)) vs)
-          ∙ ap (λ u. value_or u x (all_bound (map bindings (map cut ps)) vs)) (each.0 d v)
+          value-append d x (bindings (cut p) v) (all_bindings (map bindings (map cut ps)) vs)
+          ∙ ap (λ u. value_or u x (all_bindings (map bindings (map cut ps)) vs)) (each.0 d v)
           ∙ all_values ps each.1 vs (value_or d x (bindings p v))
-          ∙ sym (value-append d x (bindings p v) (all_bound (map bindings ps) vs))
+          ∙ sym (value-append d x (bindings p v) (all_bindings (map bindings ps) vs))
 
-      values_within : (ps : List Pat) → Each SameValue ps → (l : Value-F Value) (d : Value) → value_or d x (bound_within (map bindings (map cut ps)) l) ≡ value_or d x (bound_within (map bindings ps) l)
+      values_within : (ps : List Pat) → Each SameValue ps → (l : Value-F Value) (d : Value) → value_or d x (layer_bindings (map bindings (map cut ps)) l) ≡ value_or d x (layer_bindings (map bindings ps) l)
       values_within ps each (V.Num n) d = refl
       values_within ps each (V.Con k vs) d = all_values ps each vs d
 

@@ -17,13 +17,13 @@ use Rattle.rb_target.specs.declared.instr.Instr.TheVariants.{Return}
 use Rattle.rb_target.specs.declared.body.Hole.{Hole}
 use Rattle.rb_target.specs.Growth.{Grows, Keeps, Nowhere}
 use Rattle.rb_target.specs.Meaning.{slots_at, taken}
-use Rattle.rb_target.specs.Sheet.{Sheet, patched, pushed, retargeted, retargeted_arm}
+use Rattle.rb_target.specs.Sheet.{Sheet, with_target_at, with_more, with_one_target, with_arm_target}
 use Rattle.rb_target.specs.Validity.{IsTarget, dests}
 use Rattle.rb_target.proofs.Growing.{Agrees-part, Grows-append, Grows-refl, Grows-trans, SlotsFit-more, TargetsFit-more, below_or, get-seam}
 use Rattle.rb_target.proofs.Shapes.{HoleView, IsPatched, branch, jump, other, patch_is}
 use Rattle.rb_fragment.specs.declared.held.Local.{Local}
 use Rattle.rb_fragment.specs.Adding.{Adds, IsFitting, IsWrittenFrom}
-use Rattle.rb_fragment.specs.Arms.{closed}
+use Rattle.rb_fragment.specs.Arms.{with_targets}
 use Rattle.rb_fragment.specs.Fragments.{Comes, Emits, Fragment}
 use Rattle.rb_fragment.specs.Holding.{Holds}
 use Rattle.rb_fragment.specs.Owing.{Does, GivesValue}
@@ -102,7 +102,7 @@ module _ (plan : Plan) (t : Ty) where
   }
 
   -- a return of a value's words
-  return_adds : (b : Sheet) (xs : List ℕ) → AllBelow b.slots xs → length xs ≡ words_needed plan t → AddsTail plan t b (pushed b (Return xs))
+  return_adds : (b : Sheet) (xs : List ℕ) → AllBelow b.slots xs → length xs ≡ words_needed plan t → AddsTail plan t b (with_more b (Return xs))
   return_adds b xs below count = record {
     grows = Grows-append b.code (Return xs ∷ []);
     more = omega arith;
@@ -117,7 +117,7 @@ module _ (plan : Plan) (t : Ty) where
         subst (λ (k : Instr). FitsTail plan t b.slots (length code) pc k) is (record { bounded = tt; slots_fit = below-all b.slots xs below; targets = tt; calls = inr (xs, refl, count) });
   }
 
-  pub return_is : (b : Sheet) (xs : List ℕ) → AllBelow b.slots xs → length xs ≡ words_needed plan t → IsTail plan t b (pushed b (Return xs))
+  pub return_is : (b : Sheet) (xs : List ℕ) → AllBelow b.slots xs → length xs ≡ words_needed plan t → IsTail plan t b (with_more b (Return xs))
   return_is b xs below count =
       let code = b.code ++ Return xs ∷ [] in
       let long : length code ≡ length b.code + 1 = length-append b.code (Return xs ∷ []) in
@@ -131,12 +131,12 @@ module _ (plan : Plan) (t : Ty) where
 -- Targets that are set
 
 module _ (plan : Plan) (t : Ty) where
-  all_retargeted : (P : SwitchArm → Type 0) (arms : List SwitchArm) (k to : ℕ) → ((x : SwitchArm) → P x → P (record x { target = to })) → All P arms → All P (retargeted_arm arms k to)
+  all_retargeted : (P : SwitchArm → Type 0) (arms : List SwitchArm) (k to : ℕ) → ((x : SwitchArm) → P x → P (record x { target = to })) → All P arms → All P (with_arm_target arms k to)
   all_retargeted P [] k to f h = h
   all_retargeted P (x ∷ arms) zero to f h = All-cons P (record x { target = to }) arms (f x (All-head P x arms h)) (All-tail P x arms h)
-  all_retargeted P (x ∷ arms) (suc k) to f h = All-cons P x (retargeted_arm arms k to) (All-head P x arms h) (all_retargeted P arms k to f (All-tail P x arms h))
+  all_retargeted P (x ∷ arms) (suc k) to f h = All-cons P x (with_arm_target arms k to) (All-head P x arms h) (all_retargeted P arms k to f (All-tail P x arms h))
 
-  retarget_fits : (n long pc : ℕ) (i : Instr) (x : Option ℕ) (to : ℕ) → HoleView i x → pc < to → to < long → FitsTail plan t n long pc i → FitsTail plan t n long pc (retargeted i x to)
+  retarget_fits : (n long pc : ℕ) (i : Instr) (x : Option ℕ) (to : ℕ) → HoleView i x → pc < to → to < long → FitsTail plan t n long pc i → FitsTail plan t n long pc (with_one_target i x to)
   retarget_fits n long pc _ _ to (jump u) lt le f = record { bounded = tt; slots_fit = tt; targets = (lt, le); calls = inl tt }
   retarget_fits n long pc _ _ to (other a u arms) lt le f = record { bounded = f.bounded; slots_fit = f.slots_fit; targets = ((lt, le), f.targets.1); calls = inl tt }
   retarget_fits n long pc _ _ to (branch a o arms k h) lt le f = record {
@@ -151,9 +151,9 @@ module _ (plan : Plan) (t : Ty) where
   writes_none _ _ s (other a u arms) h = omega (arith, h.1)
   writes_none _ _ s (branch a o arms k lt) h = omega (arith, h.1)
 
-  module _ (a b : Sheet) (h : Hole) (to : ℕ) (g : AddsTail plan t a b) (p : IsPatched b h to (patched b h to)) (low : length a.code ≤ h.pc) (forward : h.pc < to) (within : to < length b.code) where
+  module _ (a b : Sheet) (h : Hole) (to : ℕ) (g : AddsTail plan t a b) (p : IsPatched b h to (with_target_at b h to)) (low : length a.code ≤ h.pc) (forward : h.pc < to) (within : to < length b.code) where
     abbrev c : Sheet
-    c = patched b h to
+    c = with_target_at b h to
 
     set_written : (s : ℕ) (x : IsWrittenFrom b.code (length a.code) s) → (q : Bool) → eqb x.0 h.pc ≡ q → IsWrittenFrom c.code (length a.code) s
     set_written s x true e =
@@ -167,7 +167,7 @@ module _ (plan : Plan) (t : Ty) where
     set_fine pc i lo at true e =
         let same : pc ≡ h.pc = grind arith in
         let old : FitsTail plan t b.slots (length b.code) h.pc p.old = g.fine h.pc p.old low p.is_old in
-        let is : retargeted p.old h.arm to ≡ i = same_Some (retargeted p.old h.arm to) i (sym p.here ∙ ap (λ n. slice_get c.code n) (sym same) ∙ at) in
+        let is : with_one_target p.old h.arm to ≡ i = same_Some (with_one_target p.old h.arm to) i (sym p.here ∙ ap (λ n. slice_get c.code n) (sym same) ∙ at) in
         subst (λ n. FitsTail plan t b.slots (length b.code) n i) (sym same) (subst (λ (j : Instr). FitsTail plan t b.slots (length b.code) h.pc j) is (retarget_fits b.slots (length b.code) h.pc p.old h.arm to p.view forward within old))
     set_fine pc i lo at false e =
         let ne : pc ≢ h.pc = grind arith in g.fine pc i lo (sym (p.elsewhere pc ne) ∙ at)
@@ -182,12 +182,12 @@ module _ (plan : Plan) (t : Ty) where
     }
 
   -- each hole of the code is set to a target behind it and within
-  pub tail_closed : (b q : Sheet) (hs : List Hole) (ts : List ℕ) (m : ℕ) → m < length q.code → AddsTail plan t b q → AreAllHoles q.code hs → AreClosable (length b.code) m hs ts → AddsTail plan t b (closed q hs ts)
+  pub tail_closed : (b q : Sheet) (hs : List Hole) (ts : List ℕ) (m : ℕ) → m < length q.code → AddsTail plan t b q → AreAllHoles q.code hs → AreClosable (length b.code) m hs ts → AddsTail plan t b (with_targets q hs ts)
   tail_closed b q [] ts m lt adds holes c = adds
   tail_closed b q (h ∷ hs) ts m lt adds holes c =
       let to = slice_index ts h.leaf in
       let p = patch_is q h to holes.0 in
-      tail_closed b (patched q h to) hs ts m (omega (arith, lt, p.long)) (set_adds b q h to adds p c.0 c.1 (omega (arith, lt, c.2))) (all_holes_patched q h to hs holes.1) c.3
+      tail_closed b (with_target_at q h to) hs ts m (omega (arith, lt, p.long)) (set_adds b q h to adds p c.0 c.1 (omega (arith, lt, c.2))) (all_holes_patched q h to hs holes.1) c.3
 
 -- What it does
 
@@ -206,7 +206,7 @@ same_tail plan ev ev' ls a b t eq e = record {
 -- a value, and a return of it
 module _ (plan : Plan) (ev : Calls → ℕ → List Binding → Outcome) (ls : List Local) (a b : Sheet) (t : Ty) (xs : List ℕ) (e : Emits plan ev ls a b t xs) where
   abbrev last : Sheet
-  last = pushed b (Return xs)
+  last = with_more b (Return xs)
 
   long_is : length (b.code ++ Return xs ∷ []) ≡ length b.code + 1
   long_is = length-append b.code (Return xs ∷ [])

@@ -15,7 +15,7 @@ use Rattle.rb_core.specs.Meaning.{value_or}
 use Rattle.rb_core.proofs.PatternLaws.{Each, fold-Con, fold-Wild, induction}
 use Rattle.rb_layout.specs.declared.layout.Layout.{Layout}
 use Rattle.rb_match.specs.Bounding.{TypedPosition, binding_look, looks_with, place_below, places_below, places_in, places_step}
-use Rattle.rb_compile.specs.inner.Used.{IsPrunedFor, Serves, pruned}
+use Rattle.rb_compile.specs.inner.Used.{IsPrunedFor, Serves, pruned_pattern}
 use Rattle.rb_compile.proofs.Agreeing.{bound-append, value-append}
 use Rattle.rb_compile.proofs.Pruning.{cut-Con, cut-Num, cut-Var, cut-Wild, cut_matches, cut_types, cut_values}
 
@@ -42,7 +42,7 @@ module _ (types : List DataDecl) (layouts : List Layout) where
 
   module _ (keeps : ℕ → Bool) where
     abbrev cut : Pat → Pat
-    cut = pruned keeps
+    cut = pruned_pattern keeps
 
     abbrev Fewer : Pat → Type 0
     Fewer p = (t : Ty) → cost (cut p) t ≤ cost p t
@@ -77,6 +77,6 @@ module _ (types : List DataDecl) (layouts : List Layout) where
   serves body pat q (keeps, kept, is) s = subst (λ p. Serves types layouts body pat p s) (sym is) (record {
     matches = cut_matches types keeps pat;
     few = fewer keeps pat s;
-    scopes = λ sc x i. bound-append (Int 64) x sc (binders types pat s) ∙ sym (cut_types types keeps x (kept x i) pat (bound_type (Int 64) x sc) s) ∙ sym (bound-append (Int 64) x sc (binders types (pruned keeps pat) s));
-    values = λ env v x i. value-append (number 0) x env (bindings pat v) ∙ sym (cut_values types keeps x (kept x i) pat (value_or (number 0) x env) v) ∙ sym (value-append (number 0) x env (bindings (pruned keeps pat) v));
+    scopes = λ sc x i. bound-append (Int 64) x sc (binders types pat s) ∙ sym (cut_types types keeps x (kept x i) pat (bound_type (Int 64) x sc) s) ∙ sym (bound-append (Int 64) x sc (binders types (pruned_pattern keeps pat) s));
+    values = λ env v x i. value-append (number 0) x env (bindings pat v) ∙ sym (cut_values types keeps x (kept x i) pat (value_or (number 0) x env) v) ∙ sym (value-append (number 0) x env (bindings (pruned_pattern keeps pat) v));
   })

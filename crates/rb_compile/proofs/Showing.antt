@@ -2,6 +2,7 @@
 use Rattle.std.proofs.Common.{◌≡◌, ℕ, ◌+◌, ◌==◌, ◌≤◌, true, List, [], ◌∷◌, ◌++◌, map, take, length, Option, Some, None, refl, sym, subst, ap, ◌∙◌, arith, length-append}
 use Rattle.std.proofs.lemmas.List.{append-nil, append_assoc, map-append}
 use Rattle.std.specs.Prelude.{slice_get}
+use Rattle.std.proofs.lemmas.Bool.{and_parts}
 use Rattle.rb_core.specs.declared.value.Value.{Value, Con}
 use Rattle.rb_core.specs.declared.value.Value.TheVariants.{outs-Con}
 use Rattle.rb_core.specs.declared.types.Ty.{Ty}
@@ -33,7 +34,7 @@ use Rattle.rb_target.specs.Meaning.{World, CallEnd as Run, slots_at}
 use Rattle.rb_target.specs.Sheet.{Sheet}
 use Rattle.rb_target.proofs.Growing.{Agrees-part, Grows-refl, Keeps-refl, Keeps-trans}
 use Rattle.rb_rel.specs.Placing.{Fits, Laid, Over, lay, requests_of}
-use Rattle.rb_rel.proofs.Lists.{and_true, both}
+use Rattle.rb_rel.proofs.Lists.{and_true}
 use Rattle.rb_fragment.proofs.Adding.{Adds-refl, Adds-trans}
 use Rattle.rb_fragment.proofs.Holds.{AllGiven-append, AllGiven-more, AreHeld-append, AreHeld-kept, Holds-kept}
 use Rattle.rb_fragment.proofs.Laying.{bind, does_map}
@@ -84,7 +85,7 @@ pass-append [] p [] v all one = and_true (matches_of p v) true one refl
 pass-append [] p (x ∷ vs) v all one = absurd cc
 pass-append (q ∷ ps) p [] v all one = absurd cc
 pass-append (q ∷ ps) p (x ∷ vs) v all one =
-    let b = both (matches_of q x) (all_pass (map matches_of ps) vs) all in
+    let b = and_parts (matches_of q x) (all_pass (map matches_of ps) vs) all in
     and_true (matches_of q x) (all_pass (map matches_of (ps ++ p ∷ [])) (vs ++ v ∷ [])) b.0 (pass-append ps p vs v b.1 one)
 
 -- values of parts, behind some that match other patterns

@@ -14,7 +14,7 @@ use Rattle.rb_core.specs.declared.outcome.Outcome.{Outcome}
 use Rattle.rb_core.specs.Clauses.{pat_of, wanted_of}
 use Rattle.rb_core.specs.Inference.{binders, inferred_type}
 use Rattle.rb_core.specs.Matching.{chosen_clause, bindings, matches_of}
-use Rattle.rb_core.specs.Meaning.{Calls, after, clause_meaning, first_of, meaning_of, spent, then_do}
+use Rattle.rb_core.specs.Meaning.{Calls, after, clause_meaning, first_of, meaning_of, spent_outcome, then_do}
 use Rattle.rb_core.specs.Typing.{type_of}
 use Rattle.rb_core.proofs.MeaningForms.{meaning-Match}
 use Rattle.rb_core.proofs.NumberedForms.{numbered-Match}
@@ -33,7 +33,7 @@ use Rattle.rb_target.specs.Validity.{EndsInReturn}
 use Rattle.rb_layout.specs.declared.agreed.LaidOut.{LaidOut}
 use Rattle.rb_fragment.specs.declared.held.Held.{Held}
 use Rattle.rb_fragment.specs.declared.held.Local.{Local}
-use Rattle.rb_fragment.specs.Arms.{AreHoles, AreOfOneWay, ArePatchable, closed}
+use Rattle.rb_fragment.specs.Arms.{AreHoles, AreOfOneWay, ArePatchable, with_targets}
 use Rattle.rb_fragment.specs.Holding.{AreGiven, Holds, scope_of}
 use Rattle.rb_fragment.specs.Owing.{Does, GivesValue, CallsAgree}
 use Rattle.rb_fragment.specs.Pieces.{Branches, ReachesExit}
@@ -71,7 +71,7 @@ module _ (plan : Plan) (n most count : ℕ) (b e q : Sheet) (t : Ty) (holes : Li
     (choice : Branches plan n b e holes most Pre Mid) (holes_are : AreHoles (length b.code) count e.code holes) (ways : AreOfOneWay holes)
     (adds : AddsTail plan t e q) (some : length e.code < length q.code) (ends : EndsInReturn q.code) (are : TailArmsAre count e q starts) where
   abbrev whole : Sheet
-  whole = closed q holes starts
+  whole = with_targets q holes starts
 
   len : length whole.code ≡ length q.code
   len = closed_length q holes starts
@@ -101,7 +101,7 @@ module _ (plan : Plan) (n most count : ℕ) (b e q : Sheet) (t : Ty) (holes : Li
     stands : (pc : ℕ) → length b.code ≤ pc → pc < length q.code → slice_get final pc ≡ slice_get whole.code pc
     stands pc lo hi = agrees.same pc lo (omega (arith, hi, len)) (λ x. x)
 
-    of_choice : AgreesBut final (closed e holes starts).code (length b.code) (length e.code) Nowhere
+    of_choice : AgreesBut final (with_targets e holes starts).code (length b.code) (length e.code) Nowhere
     of_choice = record {
       same = λ pc lo hi out.
           stands pc lo (omega (arith, hi, adds.grows.longer)) ∙ at_closed q holes starts pc
@@ -229,7 +229,7 @@ module _ (plan : Plan) (f at : ℕ) (cs : List Clause) (ls : List Local) (b c q 
   abbrev Any : ℕ → List ℕ → Memory → Type 0
   Any k sl m = Unit {0}
 
-  pub choice_is : IsTail plan t b (closed q holes starts)
+  pub choice_is : IsTail plan t b (with_targets q holes starts)
   choice_is = whole_is plan b.slots most (length cs) b c q t holes starts Chosen Any choice holes_are ways done.adds (done.ends some).0 (done.ends some).1 are
       (λ k lt. let o = done.arms k lt in omega (arith, o.begins, o.some, o.longer.longer))
 
@@ -252,7 +252,7 @@ module _ (plan : Plan) (f at : ℕ) (cs : List Clause) (ls : List Local) (b c q 
         (branches_frame plan b.slots b c holes most Taken Chosen Any stays choice)
 
     abbrev outcome_of : Option Clause → ℕ → Outcome
-    outcome_of None left = spent
+    outcome_of None left = spent_outcome
     outcome_of (Some x) left = meaning_of plan.program calls f x.body (Some t) (scope_of ls ++ binders plan.program.types x.pat s) left (env ++ bindings x.pat v)
 
     abbrev outcome : ℕ → ℕ → Outcome
@@ -276,7 +276,7 @@ module _ (plan : Plan) (f at : ℕ) (cs : List Clause) (ls : List Local) (b c q 
     abbrev chosen_does : ℕ → Outcome
     chosen_does left = first_of plan.program.types s (map (clause_meaning plan.program calls f) cs) (Some t) (Some t) (scope_of ls) v left env
 
-    pub choice_returns : Tail plan clean calls 0 b (closed q holes starts) (λ sl m. Rep plan m clean s v (slots_at sl xs) × Holds plan clean sl m ls env) (λ left. after (Matched f at ∷ []) (chosen_does left)) t
+    pub choice_returns : Tail plan clean calls 0 b (with_targets q holes starts) (λ sl m. Rep plan m clean s v (slots_at sl xs) × Holds plan clean sl m ls env) (λ left. after (Matched f at ∷ []) (chosen_does left)) t
     choice_returns =
         chosen_returns plan b.slots most (length cs) b c q t holes starts Taken Taken takes holes_are ways done.adds (done.ends some).0 (done.ends some).1 are clean calls outcome own arms_do f at shares
         (λ sl m. Rep plan m clean s v (slots_at sl xs) × Holds plan clean sl m ls env) chosen_does
@@ -295,7 +295,7 @@ module _ (plan : Plan) (f at : ℕ) (cs : List Clause) (ls : List Local) (b c q 
 
 module _ (agreed : LaidOut) (plan : Plan) (of_agreed : IsPlanOf agreed plan) (f at : ℕ) (e : Expr) (cs : List Clause) (t : Ty) (ls : List Local) (a b c q : Sheet) (subject : Held) (holes : List Hole) (starts : List ℕ) (some : 0 < length cs) where
   abbrev returned : Sheet
-  returned = closed q holes starts
+  returned = with_targets q holes starts
 
   pub match_return : EmitsExpr plan f e None ls a b subject → ChoosesClause agreed subject.ty (map pat_of cs) subject.slots b c holes → AreHoles (length b.code) (length cs) c.code holes → AreOfOneWay holes
       → EmitsTailArms plan f (length cs) cs t ls subject c q starts → TailArmsAre (length cs) c q starts → EmitsReturn plan f (X.Match at e cs) t ls a returned
@@ -349,7 +349,7 @@ tail_patchable count b c q holes starts holes_are are =
     holes_patchable (length b.code) c q holes starts are.grows (subst (λ n. AreHoles (length b.code) n c.code holes) (sym are.count_is) holes_are) are.starts_from
 
 pub tail_grows : (a b e q : Sheet) (n : ℕ) (holes : List Hole) (starts : List ℕ) → Grows a.code b.code → Grows b.code e.code → AreHoles (length b.code) n e.code holes → TailArmsAre n e q starts
-    → Grows a.code (closed q holes starts).code
+    → Grows a.code (with_targets q holes starts).code
 tail_grows a b e q n holes starts g1 g2 holes_are are =
     let len = closed_length q holes starts in
     record {

@@ -14,7 +14,7 @@ use Rattle.rb_core.proofs.MeaningForms.{meaning-Let}
 use Rattle.rb_core.proofs.NumberedForms.{numbered-Let}
 use Rattle.rb_core.proofs.TypedForms.{typed-Let}
 use Rattle.rb_target.specs.declared.instr.Instr.TheVariants.{Return}
-use Rattle.rb_target.specs.Sheet.{Sheet, pushed}
+use Rattle.rb_target.specs.Sheet.{Sheet, with_more}
 use Rattle.rb_fragment.specs.declared.held.Held.{Held}
 use Rattle.rb_fragment.specs.declared.held.Local.{Local}
 use Rattle.rb_fragment.specs.Fragments.{Emits}
@@ -28,7 +28,7 @@ use Rattle.rb_compile.proofs.Sites.{ready-Let}
 use Rattle.rb_compile.proofs.Returning.{is_tail_behind, same_tail, value_returns, value_then_tail}
 
 -- a value, and its return
-pub return_expr : (plan : Plan) (f : ℕ) (e : Expr) (t : Ty) (ls : List Local) (a b : Sheet) (held : Held) → EmitsExpr plan f e (Some t) ls a b held → EmitsReturn plan f e t ls a (pushed b (Return held.slots))
+pub return_expr : (plan : Plan) (f : ℕ) (e : Expr) (t : Ty) (ls : List Local) (a b : Sheet) (held : Held) → EmitsExpr plan f e (Some t) ls a b held → EmitsReturn plan f e t ls a (with_more b (Return held.slots))
 return_expr plan f e t ls a b held emits = λ ready. value_returns plan (meant plan f e (Some t) ls) ls a b t held.slots (emits t ready).1
 
 -- Bindings

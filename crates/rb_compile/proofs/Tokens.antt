@@ -4,6 +4,7 @@ use Rattle.std.proofs.lemmas.Bool.Decides.{eqb_tells}
 use Rattle.std.proofs.lemmas.List.{map-append}
 use Rattle.std.specs.Prelude.{slice_get, nat_eq, if◌then◌else◌}
 use Rattle.std.specs.List.{flat_map, list_any}
+use Rattle.std.proofs.lemmas.Bool.{and_parts}
 use Rattle.rb_core.specs.declared.types.Ty.{Ty}
 use Rattle.rb_core.specs.declared.types.ConRef.{ConRef}
 use Rattle.rb_core.specs.declared.types.DataDecl.{DataDecl}
@@ -21,7 +22,6 @@ use Rattle.rb_core.specs.Inference.{binders, inferred_type, with_binder}
 use Rattle.rb_core.specs.WellNumbered.{all_tokens, body_tokens, is_distinct, match_tokens, tokens_step}
 use Rattle.rb_core.proofs.CoverageForms.{part, branch, sites-Clause, sites-Num, sites-Var, sites-Call, sites-Build, sites-Binary, sites-To, sites-Let, sites-Match}
 use Rattle.rb_core.proofs.ExpressionLaws.{Each, EachBody, induction}
-use Rattle.rb_core.proofs.NumberedForms.{both}
 use Rattle.rb_compile.specs.Plans.{site_at}
 use Rattle.rb_compile.specs.inner.Ready.{IsAmong}
 
@@ -124,7 +124,7 @@ not_any x (y ∷ xs) ys h = pick (nat_eq x y) h (not_any x xs ys)
 distinct-left : (xs ys : List ℕ) → Distinct (xs ++ ys) → Distinct xs
 distinct-left [] ys h = refl
 distinct-left (x ∷ xs) ys h =
-    let h2 = both (not (list_any (nat_eq x) (xs ++ ys))) (is_distinct nat_eq (xs ++ ys)) h in
+    let h2 = and_parts (not (list_any (nat_eq x) (xs ++ ys))) (is_distinct nat_eq (xs ++ ys)) h in
     joined (not (list_any (nat_eq x) xs)) (is_distinct nat_eq xs) (not_any x xs ys h2.0) (distinct-left xs ys h2.1)
   where
     joined : (a b : Bool) → a ≡ true → b ≡ true → (a && b) ≡ true
@@ -133,7 +133,7 @@ distinct-left (x ∷ xs) ys h =
 
 distinct-right : (xs ys : List ℕ) → Distinct (xs ++ ys) → Distinct ys
 distinct-right [] ys h = h
-distinct-right (x ∷ xs) ys h = distinct-right xs ys (both (not (list_any (nat_eq x) (xs ++ ys))) (is_distinct nat_eq (xs ++ ys)) h).1
+distinct-right (x ∷ xs) ys h = distinct-right xs ys (and_parts (not (list_any (nat_eq x) (xs ++ ys))) (is_distinct nat_eq (xs ++ ys)) h).1
 
 -- each function's tokens are distinct
 pub distinct_at : (fs : List Fun) (g : ℕ) (f : Fun) → Distinct (flat_map (λ (f : Fun). match_tokens f.body) fs) → slice_get fs g ≡ Some f → Distinct (match_tokens f.body)
@@ -164,6 +164,6 @@ pub site_found : (ss : List Site) (s : Site) → Distinct (map token ss) → IsA
 site_found [] s h i = absurd i
 site_found (x ∷ ss) s h (inl e) = subst (λ (y : Site). (if x.at == y.at then Some x else site_at y.at ss) ≡ Some y) e (ap (λ b. if b then Some x else site_at x.at ss) (same x.at))
 site_found (x ∷ ss) s h (inr i) =
-    let h2 = both (not (list_any (nat_eq x.at) (map token ss))) (is_distinct nat_eq (map token ss)) h in
+    let h2 = and_parts (not (list_any (nat_eq x.at) (map token ss))) (is_distinct nat_eq (map token ss)) h in
     let no : (x.at == s.at) ≡ false = other_token x.at s ss i h2.0 in
     ap (λ b. if b then Some x else site_at s.at ss) no ∙ site_found ss s h2.1 i

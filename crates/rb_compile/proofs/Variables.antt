@@ -14,7 +14,7 @@ use Rattle.rb_core.proofs.TypedForms.{typed-Var}
 use Rattle.rb_bytes.specs.Memory.{Memory}
 use Rattle.rb_target.specs.declared.instr.Instr.TheVariants.{Const}
 use Rattle.rb_target.specs.Meaning.{slots_at}
-use Rattle.rb_target.specs.Sheet.{Sheet, pushed, with_slot}
+use Rattle.rb_target.specs.Sheet.{Sheet, with_more, with_slot}
 use Rattle.rb_rel.specs.Relation.{number}
 use Rattle.rb_fragment.specs.declared.held.Held.{Held}
 use Rattle.rb_fragment.specs.declared.held.Local.{Local}
@@ -94,7 +94,7 @@ module _ (plan : Plan) (f : ℕ) (at x : ℕ) (wanted : Option Ty) (ls : List Lo
       )
 
   -- one that is not bound is 0, as in the meaning
-  unbound_expr : held_or None x ls ≡ None → EmitsExpr plan f (X.Var at x) wanted ls a (pushed (with_slot a) (Const a.slots 0)) (record { ty = Int 64; slots = a.slots ∷ [] })
+  unbound_expr : held_or None x ls ≡ None → EmitsExpr plan f (X.Var at x) wanted ls a (with_more (with_slot a) (Const a.slots 0)) (record { ty = Int 64; slots = a.slots ∷ [] })
   unbound_expr is = λ t ready.
       let same = typed-Var plan.program.types plan.program.funs at x wanted (scope_of ls) t ready.typed in
       let st : variable_type x (scope_of ls) ≡ Int 64 = subst (λ o. Found plan x a.slots ls o (variable_type x (scope_of ls))) is (static ready.given) in
@@ -102,8 +102,8 @@ module _ (plan : Plan) (f : ℕ) (at x : ℕ) (wanted : Option Ty) (ls : List Lo
       let zero_small : 0 < 2 ^ 64 = omega arith in
       let base = number_emits plan a 0 64 zero_small zero_small ls in (
         ty,
-        subst (λ u. Emits plan (meant plan f (X.Var at x) wanted ls) ls a (pushed (with_slot a) (Const a.slots 0)) u (a.slots ∷ [])) ty
-            (same_emits plan (meant plan f (X.Var at x) wanted ls) valued ls a (pushed (with_slot a) (Const a.slots 0)) (Int 64) (a.slots ∷ []) named (record {
+        subst (λ u. Emits plan (meant plan f (X.Var at x) wanted ls) ls a (with_more (with_slot a) (Const a.slots 0)) u (a.slots ∷ [])) ty
+            (same_emits plan (meant plan f (X.Var at x) wanted ls) valued ls a (with_more (with_slot a) (Const a.slots 0)) (Int 64) (a.slots ∷ []) named (record {
               adds = base.adds;
               given = base.given;
               count = refl;

@@ -12,7 +12,7 @@ ghost use Rattle.rb_core.specs.Typing.{operator_type};
 ghost use Rattle.rb_target.specs.declared.instr.Instr.TheVariants.{Const};
 ghost use Rattle.rb_target.specs.Growth.{Grows};
 ghost use Rattle.rb_target.specs.Operators.{alu_op_of};
-ghost use Rattle.rb_fragment.specs.Fragments.{calling};
+ghost use Rattle.rb_fragment.specs.Fragments.{with_call};
 ghost use Rattle.rb_compile.specs.Plans.{plan_of};
 ghost use Rattle.rb_compile.specs.inner.Forms.{IsOne, VariableIs, alu_on, held_or, low_bits_of, new_held, stated_width};
 
@@ -135,7 +135,7 @@ pub(crate) fn emit_calling(
     args: &[Held],
 ) -> Result<Held, AllocError>
     ensures held { IfOk result (λ h. h ≡ new_held (plan_of agreed.now) body.old fun.now.result) }
-    ensures code { OnOk result (body.new ≡ calling (plan_of agreed.now) body.old number fun.now args.now) }
+    ensures code { OnOk result (body.new ≡ with_call (plan_of agreed.now) body.old number fun.now args.now) }
 {
     let froms = joined_slots(alloc, args)?;
     let count = word_count(agreed.layouts(), fun.result);

@@ -12,7 +12,7 @@ use std::alloc::{AllocError, Global};
 // What an expression shows of its value: a construction its constructor, and below it what its
 // arguments show; any other expression nothing. An error is want of memory.
 #[cycle(showing)]
-fn shown(alloc: Global, expr: &Expr) -> Result<Pat, AllocError>
+fn shown_pattern(alloc: Global, expr: &Expr) -> Result<Pat, AllocError>
     ensures { IfOk result (λ pat. pat ≡ shown_of expr.now) }
 {
     match expr {
@@ -41,7 +41,7 @@ pub(crate) fn shown_patterns(alloc: Global, exprs: &[Expr]) -> Result<Seq<Pat>, 
 {
     let mut pats = Seq::new(alloc);
     for expr in exprs {
-        pats.push(shown(alloc, expr)?)?;
+        pats.push(shown_pattern(alloc, expr)?)?;
     }
     Ok(pats)
 }

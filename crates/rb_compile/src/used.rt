@@ -4,7 +4,7 @@
 
 ghost use Rattle.std.specs.Prelude.{◌≡◌, IfOk, map, true};
 ghost use Rattle.std.specs.List.{flat_map};
-ghost use Rattle.rb_compile.specs.inner.Used.{AreKept, IsPrunedFor, MarksMore, is_kept, pruned, variables_in, variables_of_clause};
+ghost use Rattle.rb_compile.specs.inner.Used.{AreKept, IsPrunedFor, MarksMore, is_kept, pruned_pattern, variables_in, variables_of_clause};
 
 use rb_core::expression::{Clause, Expr};
 use rb_core::pattern::Pat;
@@ -97,7 +97,7 @@ fn mark_bodies(marks: &mut Marks, clauses: &[Clause])
 // The pattern with wildcards in place of numbers and of unused variables. Its constructors stay.
 #[cycle(pruning)]
 fn prune(alloc: Global, marks: &Marks, pat: &Pat) -> Result<Pat, AllocError>
-    ensures { IfOk result (λ p. p ≡ pruned (is_kept marks.now) pat.now) }
+    ensures { IfOk result (λ p. p ≡ pruned_pattern (is_kept marks.now) pat.now) }
 {
     match pat {
         Pat::Wild(at) => Ok(Pat::Wild(*at)),
@@ -119,7 +119,7 @@ fn prune(alloc: Global, marks: &Marks, pat: &Pat) -> Result<Pat, AllocError>
 // constructors stay.
 #[cycle(pruning)]
 fn prune_all(alloc: Global, marks: &Marks, pats: &[Pat]) -> Result<Seq<Pat>, AllocError>
-    ensures { IfOk result (λ ps. ps ≡ map (pruned (is_kept marks.now)) pats.now) }
+    ensures { IfOk result (λ ps. ps ≡ map (pruned_pattern (is_kept marks.now)) pats.now) }
 {
     let mut all = Seq::new(alloc);
     for pat in pats {

@@ -17,7 +17,7 @@ use Rattle.rb_fragment.specs.Reads.{is_range}
 use Rattle.rb_rel.proofs.Packing.{packed, put_below}
 use Rattle.rb_rel.specs.Storing.{number_of}
 use Rattle.rb_compose.specs.declared.subvalue.Subvalue.{Subvalue}
-use Rattle.rb_compose.specs.Counts.{capped}
+use Rattle.rb_compose.specs.Counts.{capped_bits}
 use Rattle.rb_compose.specs.inner.Code.{after_constants, constants, is_constant, is_low, is_ready, low_bit, with_constant}
 use Rattle.rb_compose.proofs.Numbers.{AreRanges, IsPut, composed, constants_small, other_kind, others, put_is, turned, with_kind}
 use Rattle.rb_compose.proofs.Skipping.{Each, each_after}
@@ -85,17 +85,17 @@ low_other o (Word path j) e = refl
 low_other o (Pointer align x) e = refl
 
 -- constants leave the range of any other part as it is
-constants_keep : (ps : List Part) (n b m : ℕ) → Each (λ p. (is_constant p.kind ≡ false) ⊎ AreDisjoint (capped p.o) (capped p.l) b m) ps → take_of (constants n ps) b m ≡ take_of n b m
+constants_keep : (ps : List Part) (n b m : ℕ) → Each (λ p. (is_constant p.kind ≡ false) ⊎ AreDisjoint (capped_bits p.o) (capped_bits p.l) b m) ps → take_of (constants n ps) b m ≡ take_of n b m
 constants_keep [] n b m apart = refl
 constants_keep (p ∷ ps) n b m apart = constants_keep ps (with_constant n p.o p.l p.kind) b m (λ k q e. apart (suc k) q e) ∙ one p.kind (apart 0 p refl)
   where
-    by : (t : Bool) (c : ℕ) → AreDisjoint (capped p.o) (capped p.l) b m → take_of (if t then put_of n (capped p.o) (capped p.l) (take_of c 0 (capped p.l)) else n) b m ≡ take_of n b m
-    by true c d = take_put_elsewhere n (capped p.o) (capped p.l) (take_of c 0 (capped p.l)) b m (take_fits c 0 (capped p.l)) d
+    by : (t : Bool) (c : ℕ) → AreDisjoint (capped_bits p.o) (capped_bits p.l) b m → take_of (if t then put_of n (capped_bits p.o) (capped_bits p.l) (take_of c 0 (capped_bits p.l)) else n) b m ≡ take_of n b m
+    by true c d = take_put_elsewhere n (capped_bits p.o) (capped_bits p.l) (take_of c 0 (capped_bits p.l)) b m (take_fits c 0 (capped_bits p.l)) d
     by false c d = refl
 
-    one : (kind : Kind) → (is_constant kind ≡ false) ⊎ AreDisjoint (capped p.o) (capped p.l) b m → take_of (with_constant n p.o p.l kind) b m ≡ take_of n b m
+    one : (kind : Kind) → (is_constant kind ≡ false) ⊎ AreDisjoint (capped_bits p.o) (capped_bits p.l) b m → take_of (with_constant n p.o p.l kind) b m ≡ take_of n b m
     one (Const c) (inl e) = absurd cc
-    one (Const c) (inr d) = by (is_range (capped p.o) (capped p.l)) c d
+    one (Const c) (inr d) = by (is_range (capped_bits p.o) (capped_bits p.l)) c d
     one (Bits path a) h = refl
     one (Word path j) h = refl
     one (Pointer align x) h = refl
@@ -119,7 +119,7 @@ module _ (hs : List Subvalue) (field : List ℕ → ℕ → ℕ) (ats : ℕ → 
   joined_number v (p ∷ ps) = if is_ready hs p.o p.l p.kind then with_readies (bit_or v (source_word p.kind) % 2 ^ 64) ps else with_readies v (p ∷ ps)
 
   abbrev pub low_number : Part → List Part → Bool → ℕ
-  low_number p ps t = if t then with_readies (take_of (source_word p.kind) (low_bit p.kind) (capped p.l)) ps else with_readies 0 (p ∷ ps)
+  low_number p ps t = if t then with_readies (take_of (source_word p.kind) (low_bit p.kind) (capped_bits p.l)) ps else with_readies 0 (p ∷ ps)
 
   abbrev pub begun_number : List Part → ℕ
   begun_number [] = 0
@@ -141,7 +141,7 @@ module _ (hs : List Subvalue) (field : List ℕ → ℕ → ℕ) (ats : ℕ → 
       pub put : IsPut field ats subs at p
       pub inside : p.o + p.l ≤ 64
       pub ready : is_ready hs p.o p.l p.kind ≡ true → source_word p.kind ≡ number_of subs at p.l p.kind * 2 ^ p.o
-      pub low : is_low p.o p.kind ≡ true → take_of (source_word p.kind) (low_bit p.kind) (capped p.l) ≡ number_of subs at p.l p.kind * 2 ^ p.o
+      pub low : is_low p.o p.kind ≡ true → take_of (source_word p.kind) (low_bit p.kind) (capped_bits p.l) ≡ number_of subs at p.l p.kind * 2 ^ p.o
 
     abbrev value : Part → ℕ
     value p = number_of subs at p.l p.kind
@@ -240,10 +240,10 @@ module _ (hs : List Subvalue) (field : List ℕ → ℕ → ℕ) (ats : ℕ → 
     constants_free ps set apart j q e other =
         constants_keep ps 0 q.o q.l (λ k p h. by k p h (cases_lt k j) (cases_lt j k)) ∙ zero_taken q.o q.l
       where
-        as_capped : (p : Part) → IsSet p → AreDisjoint p.o p.l q.o q.l → AreDisjoint (capped p.o) (capped p.l) q.o q.l
-        as_capped p s d = subst (λ i. AreDisjoint i (capped p.l) q.o q.l) (sym s.put.first) (subst (λ i. AreDisjoint p.o i q.o q.l) (sym s.put.long) d)
+        as_capped : (p : Part) → IsSet p → AreDisjoint p.o p.l q.o q.l → AreDisjoint (capped_bits p.o) (capped_bits p.l) q.o q.l
+        as_capped p s d = subst (λ i. AreDisjoint i (capped_bits p.l) q.o q.l) (sym s.put.first) (subst (λ i. AreDisjoint p.o i q.o q.l) (sym s.put.long) d)
 
-        by : (k : ℕ) (p : Part) → slice_get ps k ≡ Some p → (k < j) ⊎ (j ≤ k) → (j < k) ⊎ (k ≤ j) → (is_constant p.kind ≡ false) ⊎ AreDisjoint (capped p.o) (capped p.l) q.o q.l
+        by : (k : ℕ) (p : Part) → slice_get ps k ≡ Some p → (k < j) ⊎ (j ≤ k) → (j < k) ⊎ (k ≤ j) → (is_constant p.kind ≡ false) ⊎ AreDisjoint (capped_bits p.o) (capped_bits p.l) q.o q.l
         by k p h (inl lt) b = inr (as_capped p (set k p h) (apart k j p q lt h e))
         by k p h (inr le) (inl lt) = inr (as_capped p (set k p h) (turned q.o q.l p.o p.l (apart j k q p lt e h)))
         by k p h (inr le) (inr le1) =

@@ -1,6 +1,7 @@
 -- The code of a leaf makes its values.
 use Rattle.std.proofs.Common.{◌≡◌, ℕ, zero, suc, ◌+◌, ◌*◌, ◌/◌, ◌%◌, ◌^◌, ◌<◌, ◌≤◌, ◌==◌, ◌&&◌, true, inl, inr, map, List, [], ◌∷◌, length, Bool, Option, Some, None, refl, sym, subst, ap, ◌∙◌, arith}
 use Rattle.std.specs.Prelude.{slice_get, slice_index, unwrap_or}
+use Rattle.std.proofs.lemmas.Bool.{and_parts}
 use Rattle.std.proofs.lemmas.List.{length-map}
 use Rattle.std.proofs.Math.Nat.{mod-eq_of_lt}
 use Rattle.rb_rel.proofs.Reading.{same_nat}
@@ -33,14 +34,13 @@ use Rattle.rb_layout.specs.Words.{flat_at, size_of, words_of_block}
 use Rattle.rb_rel.specs.Placing.{Laid, Fits, Over, leaf_requests, blocks_of, lay, leaf_in, leaf_numbered, request_of}
 use Rattle.rb_rel.specs.Relation.{shape_length}
 use Rattle.rb_rel.proofs.Fitting.{KindFits, WordFits}
-use Rattle.rb_rel.proofs.Lists.{both}
 use Rattle.rb_rel.proofs.Layers.{Sound, open_of, can_hold, layer_shown, numbered, placed_at, stored}
 use Rattle.rb_rel.specs.Storing.{address_at, number_of, with_block, with_blocks, with_words}
 use Rattle.rb_rel.proofs.Packing.{packed}
 use Rattle.rb_rel.proofs.Storing.{laid_more}
 use Rattle.rb_fragment.specs.Plan.{Plan, Rep}
 use Rattle.rb_fragment.proofs.Represented.{Rep-int}
-use Rattle.rb_compose.specs.Counts.{capped}
+use Rattle.rb_compose.specs.Counts.{capped_bits}
 use Rattle.rb_compose.specs.inner.Code.{blocks_code, field_slots, field_type, is_int, is_low, is_ready, leaf_code, leaf_slots, low_bit, shift_of, whole_of}
 use Rattle.rb_compose.proofs.Fits.{leaf_adds, roots_below, roots_count, roots_distinct, roots_from}
 use Rattle.rb_compose.proofs.Leaves.{type_held, width_low, plan, is_sound, leaf_ok, bits_at, word_at, index_at}
@@ -222,8 +222,8 @@ module _ (p : Program) (typed : IsTyped p) (agrees : Agrees p) (bound : ℕ → 
             → (kind : Kind) → q.kind ≡ kind → is_ready hs q.o q.l kind ≡ true → source_word hs reading ats kind ≡ number_of subs at q.l kind * 2 ^ q.o
         ready_value r f k q is part fits (Const c) e ready = absurd cc
         ready_value r f k q is part fits (Bits path a) e ready =
-            let h = both (q.o == 0 && a == 0) (is_int q.l (field_type hs path)) ready in
-            let g = both (q.o == 0) (a == 0) h.0 in
+            let h = and_parts (q.o == 0 && a == 0) (is_int q.l (field_type hs path)) ready in
+            let g = and_parts (q.o == 0) (a == 0) h.0 in
             at_bottom q.o (number_of subs at q.l (Bits path a)) (same_nat q.o 0 g.0)
             (whole_value q.l (Bits path a) (path, 0) (inr (ap (λ i. Bits path i) (same_nat a 0 g.1), refl, h.1)) (subst (λ (y : Kind). KindFits p.layouts opens q.l y) e (fits.kinds k q part)))
         ready_value r f k q is part fits (Word path j) e ready =
@@ -238,13 +238,13 @@ module _ (p : Program) (typed : IsTyped p) (agrees : Agrees p) (bound : ℕ → 
 
         -- bits of a number that are to stand from bit 0 on
         low_value : (f : FlatWord) (k : ℕ) (q : Part) → slice_get f.parts k ≡ Some q → WordFits p.layouts opens f → q.l ≤ 64
-            → (kind : Kind) → q.kind ≡ kind → is_low q.o kind ≡ true → take_of (source_word hs reading ats kind) (low_bit kind) (capped q.l) ≡ number_of subs at q.l kind * 2 ^ q.o
+            → (kind : Kind) → q.kind ≡ kind → is_low q.o kind ≡ true → take_of (source_word hs reading ats kind) (low_bit kind) (capped_bits q.l) ≡ number_of subs at q.l kind * 2 ^ q.o
         low_value f k q part fits few (Const x) e low = absurd cc
         low_value f k q part fits few (Bits path a) e low =
             let b = bits_at p typed agrees bound t layout number leaf is_layout is_number n hs given q.l a path (subst (λ (y : Kind). KindFits p.layouts opens q.l y) e (fits.kinds k q part)) in
             let le = b.0 in
             at_bottom q.o (number_of subs at q.l (Bits path a)) (same_nat q.o 0 low)
-            (ap (λ i. take_of i (capped a) (capped q.l)) (index_at s (field_slots hs path) 0 b.1) ∙ ap (λ i. take_of (slice_index (subs path) 0) i (capped q.l)) (capped-is a (omega (arith, le)))
+            (ap (λ i. take_of i (capped_bits a) (capped_bits q.l)) (index_at s (field_slots hs path) 0 b.1) ∙ ap (λ i. take_of (slice_index (subs path) 0) i (capped_bits q.l)) (capped-is a (omega (arith, le)))
             ∙ ap (λ i. take_of (slice_index (subs path) 0) a i) (capped-is q.l few))
         low_value f k q part fits few (Word path j) e low = absurd cc
         low_value f k q part fits few (Pointer align x) e low = absurd cc
@@ -257,7 +257,7 @@ module _ (p : Program) (typed : IsTyped p) (agrees : Agrees p) (bound : ℕ → 
             (λ k q part.
             let inside = fits.tidy.inside k q part in
             let some = fits.some k q part in
-            is_a_range (capped q.o) (capped q.l) (omega (arith, some)) (omega (arith, inside, low)))
+            is_a_range (capped_bits q.o) (capped_bits q.l) (omega (arith, some)) (omega (arith, inside, low)))
             (λ k q part.
             let inside = fits.tidy.inside k q part in
             let few : q.l ≤ 64 = omega (arith, inside, low) in

@@ -7,7 +7,7 @@ use Rattle.rb_bytes.specs.Memory.{IsAlign}
 use Rattle.rb_target.specs.declared.instr.AluOp.TheVariants.{Or}
 use Rattle.rb_target.specs.declared.instr.Instr.{Instr}
 use Rattle.rb_target.specs.declared.instr.Instr.TheVariants as I
-use Rattle.rb_target.specs.Sheet.{Sheet, pushed, with_slot}
+use Rattle.rb_target.specs.Sheet.{Sheet, with_more, with_slot}
 use Rattle.rb_layout.specs.declared.layout.Block.{Block}
 use Rattle.rb_layout.specs.declared.layout.FlatWord.{FlatWord}
 use Rattle.rb_layout.specs.declared.layout.Kind.{Kind}
@@ -23,7 +23,7 @@ use Rattle.rb_fragment.specs.Slots.{AllBelow, AllFrom, IsDistinct}
 use Rattle.rb_fragment.proofs.Adding.{Adds-one, Adds-refl, Adds-trans, push_adds}
 use Rattle.rb_fragment.proofs.Moves.{one-from}
 use Rattle.rb_rel.proofs.Storing.{IsBlock}
-use Rattle.rb_compose.specs.Counts.{capped}
+use Rattle.rb_compose.specs.Counts.{capped_bits}
 use Rattle.rb_compose.specs.inner.Code.{after_constants, begun_code, block_code, blocks_code, constants, field_slots, is_low, is_ready, joined_code, kind_code, leaf_code, low_bit, part_code, parts_code, put_code, root_code, root_slots, roots_code, shift_of, slot_of, source_slot, stores_code, taken_code, taken_slot, value_code, value_slot, whole_of, whole_slot, word_code}
 use Rattle.rb_compose.proofs.Longer.{begun_by, block_longer, blocks_longer, fresh_root, fresh_word, from_code, joined_by, low_by, part_by, part_longer, root_longer, roots_longer, stores_longer, taken_longer, value_longer, word_by}
 use Rattle.rb_compose.proofs.Numbers.{constants_small, shift_small}
@@ -69,13 +69,13 @@ module _ (hs : List Subvalue) where
 
   abbrev pub IsMade : ℕ → Kind → Type 0
   IsMade l (Const c) = Unit {0}
-  IsMade l (Bits path a) = IsRange (capped a) (capped l)
+  IsMade l (Bits path a) = IsRange (capped_bits a) (capped_bits l)
   IsMade l (Word path j) = Unit {0}
   IsMade l (Pointer align x) = Unit {0}
 
   pub record PartOk (n count : ℕ) (p : Part) : Type 0 where
     pub uses : Uses n count p.kind
-    pub range : IsRange (capped p.o) (capped p.l)
+    pub range : IsRange (capped_bits p.o) (capped_bits p.l)
     pub made : IsMade p.l p.kind
 
   abbrev pub PartsOk : ℕ → ℕ → List Part → Type 0
@@ -101,22 +101,22 @@ module _ (hs : List Subvalue) where
 
   module _ (plan : Plan) (n : ℕ) (blocks : List ℕ) where
     taken_adds : (x o l : ℕ) (b : Sheet) → x < b.slots → IsRange o l → Adds plan b (taken_code x o l b) × (taken_slot x o b.slots < (taken_code x o l b).slots)
-    taken_adds x o l b lt range = elim (o == 0) as (λ t. Adds plan b (if t then b else pushed (with_slot b) (I.Take b.slots x o l)) × ((if t then x else b.slots) < (if t then b else pushed (with_slot b) (I.Take b.slots x o l)).slots)) [
+    taken_adds x o l b lt range = elim (o == 0) as (λ t. Adds plan b (if t then b else with_more (with_slot b) (I.Take b.slots x o l)) × ((if t then x else b.slots) < (if t then b else with_more (with_slot b) (I.Take b.slots x o l)).slots)) [
       | true ↦ (Adds-refl plan b, lt)
       | false ↦ (Adds-one plan b (I.Take b.slots x o l) (0, omega arith, refl) (record { bounded = range; slots_fit = (omega arith, omega (arith, lt)); targets = tt; calls = tt }), omega arith)
     ]
 
-    put_adds : (d x from long : ℕ) (p : Part) (b : Sheet) → d < b.slots → x < b.slots → IsRange from long → IsRange (capped p.o) (capped p.l) → Adds plan b (put_code d x from long p b)
+    put_adds : (d x from long : ℕ) (p : Part) (b : Sheet) → d < b.slots → x < b.slots → IsRange from long → IsRange (capped_bits p.o) (capped_bits p.l) → Adds plan b (put_code d x from long p b)
     put_adds d x from long p b ld lx taken put =
         let c = taken_code x from long b in
         let first = taken_adds x from long b lx taken in
         let more = (taken_longer x from long b).more in
         Adds-trans plan b c (put_code d x from long p b) first.0
-        (push_adds plan c (I.Put d (taken_slot x from b.slots) (capped p.o) (capped p.l)) (record { bounded = put; slots_fit = (omega (arith, ld, more), first.1); targets = tt; calls = tt }))
+        (push_adds plan c (I.Put d (taken_slot x from b.slots) (capped_bits p.o) (capped_bits p.l)) (record { bounded = put; slots_fit = (omega (arith, ld, more), first.1); targets = tt; calls = tt }))
 
-    kind_adds : (d : ℕ) (p : Part) (kind : Kind) (b : Sheet) → d < b.slots → n ≤ b.slots → SlotsBelow blocks b.slots → Uses n (length blocks) kind → IsMade p.l kind → IsRange (capped p.o) (capped p.l) → Adds plan b (kind_code hs blocks d p kind b)
+    kind_adds : (d : ℕ) (p : Part) (kind : Kind) (b : Sheet) → d < b.slots → n ≤ b.slots → SlotsBelow blocks b.slots → Uses n (length blocks) kind → IsMade p.l kind → IsRange (capped_bits p.o) (capped_bits p.l) → Adds plan b (kind_code hs blocks d p kind b)
     kind_adds d p (Const c) b lt le low u made range = Adds-refl plan b
-    kind_adds d p (Bits path a) b lt le low u made range = put_adds d (slice_index (field_slots hs path) 0) (capped a) (capped p.l) p b lt (omega (arith, le, u)) made range
+    kind_adds d p (Bits path a) b lt le low u made range = put_adds d (slice_index (field_slots hs path) 0) (capped_bits a) (capped_bits p.l) p b lt (omega (arith, le, u)) made range
     kind_adds d p (Word path j) b lt le low u made range = put_adds d (slice_index (field_slots hs path) j) 0 64 p b lt (omega (arith, le, u)) (omega arith, omega arith) range
     kind_adds d p (Pointer align x) b lt le low u made range =
         let small = shift_small align in put_adds d (slice_index blocks x) (shift_of align) (64 - shift_of align) p b lt (low x u) (omega (arith, small), omega (arith, small)) range
@@ -144,18 +144,18 @@ module _ (hs : List Subvalue) where
         (parts_adds d ps c (omega (arith, lt, more)) (omega (arith, le, more)) (slots_below_more blocks b.slots c.slots more low) (λ k q e. ok (suc k) q e))
 
     -- an instruction that writes the first new slot, and parts
-    from_adds : (i : Instr) (ps : List Part) (b : Sheet) → Adds plan b (pushed (with_slot b) i) → n ≤ b.slots → SlotsBelow blocks b.slots → PartsOk n (length blocks) ps → Adds plan b (from_code hs blocks i ps b)
+    from_adds : (i : Instr) (ps : List Part) (b : Sheet) → Adds plan b (with_more (with_slot b) i) → n ≤ b.slots → SlotsBelow blocks b.slots → PartsOk n (length blocks) ps → Adds plan b (from_code hs blocks i ps b)
     from_adds i ps b one le low ok =
-        let c = pushed (with_slot b) i in
+        let c = with_more (with_slot b) i in
         Adds-trans plan b c (from_code hs blocks i ps b) one (parts_adds b.slots ps c (omega arith) (omega (arith, le)) (slots_below_more blocks b.slots c.slots (omega arith) low) ok)
 
-    const_adds : (k : ℕ) (b : Sheet) → k < 2 ^ 64 → Adds plan b (pushed (with_slot b) (I.Const b.slots k))
+    const_adds : (k : ℕ) (b : Sheet) → k < 2 ^ 64 → Adds plan b (with_more (with_slot b) (I.Const b.slots k))
     const_adds k b small = Adds-one plan b (I.Const b.slots k) (0, omega arith, refl) (record { bounded = small; slots_fit = omega arith; targets = tt; calls = tt })
 
-    copy_adds : (x : ℕ) (b : Sheet) → x < b.slots → Adds plan b (pushed (with_slot b) (I.Copy b.slots x))
+    copy_adds : (x : ℕ) (b : Sheet) → x < b.slots → Adds plan b (with_more (with_slot b) (I.Copy b.slots x))
     copy_adds x b lt = Adds-one plan b (I.Copy b.slots x) (0, omega arith, refl) (record { bounded = tt; slots_fit = (omega arith, omega (arith, lt)); targets = tt; calls = tt })
 
-    or_adds : (x y : ℕ) (b : Sheet) → x < b.slots → y < b.slots → Adds plan b (pushed (with_slot b) (I.Alu Or 64 b.slots x y))
+    or_adds : (x y : ℕ) (b : Sheet) → x < b.slots → y < b.slots → Adds plan b (with_more (with_slot b) (I.Alu Or 64 b.slots x y))
     or_adds x y b lx ly =
         Adds-one plan b (I.Alu Or 64 b.slots x y) (0, omega arith, refl) (record { bounded = (omega arith, omega arith); slots_fit = (omega arith, omega (arith, lx), omega (arith, ly)); targets = tt; calls = tt })
 
@@ -170,7 +170,7 @@ module _ (hs : List Subvalue) where
         by false e = from_adds (I.Copy b.slots x) (p ∷ ps) b (copy_adds x b lt) le low ok
 
     -- bits of a number, and the slot from which they are taken
-    low_part : (m o l : ℕ) (kind : Kind) → is_low o kind ≡ true → n ≤ m → Uses n (length blocks) kind → IsMade l kind → IsRange (low_bit kind) (capped l) × (source_slot hs blocks kind < m)
+    low_part : (m o l : ℕ) (kind : Kind) → is_low o kind ≡ true → n ≤ m → Uses n (length blocks) kind → IsMade l kind → IsRange (low_bit kind) (capped_bits l) × (source_slot hs blocks kind < m)
     low_part m o l (Const c) e le u made = absurd cc
     low_part m o l (Bits path a) e le u made = (made, omega (arith, le, u))
     low_part m o l (Word path j) e le u made = absurd cc
@@ -190,8 +190,8 @@ module _ (hs : List Subvalue) where
             from_low true h =
                 let take = low_part b.slots p.o p.l p.kind h le (ok 0 p refl).uses (ok 0 p refl).made in
                 let x = source_slot hs blocks p.kind in
-                from_adds (I.Take b.slots x (low_bit p.kind) (capped p.l)) ps b
-                (Adds-one plan b (I.Take b.slots x (low_bit p.kind) (capped p.l)) (0, omega arith, refl) (record { bounded = take.0; slots_fit = (omega arith, (let lt = take.1 in omega (arith, lt))); targets = tt; calls = tt }))
+                from_adds (I.Take b.slots x (low_bit p.kind) (capped_bits p.l)) ps b
+                (Adds-one plan b (I.Take b.slots x (low_bit p.kind) (capped_bits p.l)) (0, omega arith, refl) (record { bounded = take.0; slots_fit = (omega arith, (let lt = take.1 in omega (arith, lt))); targets = tt; calls = tt }))
                 le low (λ k q h1. ok (suc k) q h1)
             from_low false h = from_adds (I.Const b.slots 0) (p ∷ ps) b (const_adds 0 b (omega arith)) le low ok
 
@@ -228,7 +228,7 @@ module _ (hs : List Subvalue) where
     byte_some w (inr (inr (inl e))) = omega (arith, e)
     byte_some w (inr (inr (inr e))) = omega (arith, e)
 
-    capped_width : (w : ℕ) → IsBlockWidth w → IsBlockWidth (capped w)
+    capped_width : (w : ℕ) → IsBlockWidth w → IsBlockWidth (capped_bits w)
     capped_width w (inl e) = inl (omega (arith, e))
     capped_width w (inr (inl e)) = inr (inl (omega (arith, e)))
     capped_width w (inr (inr (inl e))) = inr (inr (inl (omega (arith, e))))
@@ -240,8 +240,8 @@ module _ (hs : List Subvalue) where
     stores_adds a (f ∷ fs) at b lt le low room wide ok =
         let o = whole_of hs f.parts in
         let c = value_code (slot_of hs o) hs blocks f.parts b in
-        let store = I.Store a at (capped f.width) (value_slot (slot_of hs o) b.slots) in
-        let d = pushed c store in
+        let store = I.Store a at (capped_bits f.width) (value_slot (slot_of hs o) b.slots) in
+        let d = with_more c store in
         let more = (value_longer hs (slot_of hs o) blocks f.parts b).more in
         let some = byte_some f.width (wide 0 f refl) in
         let value = value_adds o f.parts b refl le low (ok 0 f refl) in
@@ -253,7 +253,7 @@ module _ (hs : List Subvalue) where
     block_adds : (x : Block) (b : Sheet) → n ≤ b.slots → SlotsBelow blocks b.slots → BlockOk n (length blocks) x → Adds plan b (block_code hs blocks x b)
     block_adds x b le low ok =
         let place = I.Place b.slots (size_of x) x.align in
-        let c = pushed (with_slot b) place in
+        let c = with_more (with_slot b) place in
         let few = ok.few in
         Adds-trans plan b c (block_code hs blocks x b)
         (Adds-one plan b place (0, omega arith, refl) (record { bounded = ((ok.is.some, few), ok.align); slots_fit = omega arith; targets = tt; calls = tt }))
@@ -278,7 +278,7 @@ module _ (hs : List Subvalue) where
   first_block n blocks x xs ok = let z : length blocks + 0 ≡ length blocks = omega arith in subst (λ i. BlockOk n i x) z (ok 0 x refl)
 
   pub fresh_block : (blocks : List ℕ) (x : Block) (b : Sheet) → b.slots < (block_code hs blocks x b).slots
-  fresh_block blocks x b = let q = (stores_longer hs blocks b.slots x.words 0 (pushed (with_slot b) (I.Place b.slots (size_of x) x.align))).more in omega (arith, q)
+  fresh_block blocks x b = let q = (stores_longer hs blocks b.slots x.words 0 (with_more (with_slot b) (I.Place b.slots (size_of x) x.align))).more in omega (arith, q)
 
   pub blocks_adds : (plan : Plan) (n : ℕ) (xs : List Block) (blocks : List ℕ) (b : Sheet) → n ≤ b.slots → SlotsBelow blocks b.slots → BlocksOk n (length blocks) xs
       → Adds plan b (blocks_code hs xs blocks b).0 × SlotsBelow (blocks_code hs xs blocks b).1 (blocks_code hs xs blocks b).0.slots

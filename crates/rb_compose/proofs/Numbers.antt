@@ -17,10 +17,10 @@ use Rattle.rb_layout.specs.A4.{IsAlignment}
 use Rattle.rb_fragment.specs.Reads.{is_range}
 use Rattle.rb_rel.proofs.Packing.{packed, put_below}
 use Rattle.rb_rel.specs.Storing.{number_of}
-use Rattle.rb_compose.specs.Counts.{capped}
+use Rattle.rb_compose.specs.Counts.{capped_bits}
 use Rattle.rb_compose.specs.inner.Code.{constants, shift_of, with_constant}
 
-pub capped-is : (n : ℕ) → n ≤ 64 → capped n ≡ n
+pub capped-is : (n : ℕ) → n ≤ 64 → capped_bits n ≡ n
 capped-is n le = omega (arith, le)
 
 -- Shifts -----------------------------------------------------------------------------------------
@@ -132,12 +132,12 @@ from_zero w l = let z : w / 1 ≡ w = omega arith in ap (λ x. x % 2 ^ l) z
 module _ (field : List ℕ → ℕ → ℕ) (ats : ℕ → ℕ) where
   abbrev pub source_value : ℕ → Kind → ℕ
   source_value l (Const c) = c
-  source_value l (Bits path a) = taken_value (field path 0) (capped a) (capped l)
+  source_value l (Bits path a) = taken_value (field path 0) (capped_bits a) (capped_bits l)
   source_value l (Word path j) = field path j
   source_value l (Pointer align x) = taken_value (ats x) (shift_of align) (64 - shift_of align)
 
   abbrev pub with_kind : ℕ → Part → Kind → ℕ
-  with_kind n p kind = put_of n (capped p.o) (capped p.l) (source_value p.l kind % 2 ^ capped p.l)
+  with_kind n p kind = put_of n (capped_bits p.o) (capped_bits p.l) (source_value p.l kind % 2 ^ capped_bits p.l)
 
   abbrev pub with_part : ℕ → Part → ℕ
   with_part n p = with_kind n p p.kind
@@ -157,32 +157,32 @@ module _ (field : List ℕ → ℕ → ℕ) (ats : ℕ → ℕ) where
   with_parts n [] = n
   with_parts n (p ∷ ps) = with_parts (with_part n p) ps
 
-  with_parts_swap : (ps : List Part) (n o l x : ℕ) → x < 2 ^ l → ((k : ℕ) (q : Part) → slice_get ps k ≡ Some q → AreDisjoint o l (capped q.o) (capped q.l))
+  with_parts_swap : (ps : List Part) (n o l x : ℕ) → x < 2 ^ l → ((k : ℕ) (q : Part) → slice_get ps k ≡ Some q → AreDisjoint o l (capped_bits q.o) (capped_bits q.l))
       → with_parts (put_of n o l x) ps ≡ put_of (with_parts n ps) o l x
   with_parts_swap [] n o l x fits apart = refl
   with_parts_swap (q ∷ ps) n o l x fits apart =
-      let y = source_value q.l q.kind % 2 ^ capped q.l in
-      ap (λ z. with_parts z ps) (put_swap n o l x (capped q.o) (capped q.l) y fits (low_fits (source_value q.l q.kind) (capped q.l)) (apart 0 q refl))
+      let y = source_value q.l q.kind % 2 ^ capped_bits q.l in
+      ap (λ z. with_parts z ps) (put_swap n o l x (capped_bits q.o) (capped_bits q.l) y fits (low_fits (source_value q.l q.kind) (capped_bits q.l)) (apart 0 q refl))
       ∙ with_parts_swap ps (with_part n q) o l x fits (λ k p e. apart (suc k) p e)
 
   abbrev pub AreRanges : List Part → Type 0
-  AreRanges ps = (k : ℕ) (q : Part) → slice_get ps k ≡ Some q → is_range (capped q.o) (capped q.l) ≡ true
+  AreRanges ps = (k : ℕ) (q : Part) → slice_get ps k ≡ Some q → is_range (capped_bits q.o) (capped_bits q.l) ≡ true
 
   abbrev pub AreApart : List Part → Type 0
-  AreApart ps = (j k : ℕ) (x y : Part) → j < k → slice_get ps j ≡ Some x → slice_get ps k ≡ Some y → AreDisjoint (capped x.o) (capped x.l) (capped y.o) (capped y.l)
+  AreApart ps = (j k : ℕ) (x y : Part) → j < k → slice_get ps j ≡ Some x → slice_get ps k ≡ Some y → AreDisjoint (capped_bits x.o) (capped_bits x.l) (capped_bits y.o) (capped_bits y.l)
 
-  constant_swap : (n o l x : ℕ) (q : Part) (kind : Kind) → x < 2 ^ l → is_range (capped q.o) (capped q.l) ≡ true → AreDisjoint o l (capped q.o) (capped q.l)
+  constant_swap : (n o l x : ℕ) (q : Part) (kind : Kind) → x < 2 ^ l → is_range (capped_bits q.o) (capped_bits q.l) ≡ true → AreDisjoint o l (capped_bits q.o) (capped_bits q.l)
       → with_constant (put_of n o l x) q.o q.l kind ≡ put_of (with_constant n q.o q.l kind) o l x
   constant_swap n o l x q (Const c) fits range apart =
-      let y = take_of c 0 (capped q.l) in
-      ap (λ t. if t then put_of (put_of n o l x) (capped q.o) (capped q.l) y else put_of n o l x) range
-      ∙ put_swap n o l x (capped q.o) (capped q.l) y fits (take_fits c 0 (capped q.l)) apart
-      ∙ ap (λ t. put_of (if t then put_of n (capped q.o) (capped q.l) y else n) o l x) (sym range)
+      let y = take_of c 0 (capped_bits q.l) in
+      ap (λ t. if t then put_of (put_of n o l x) (capped_bits q.o) (capped_bits q.l) y else put_of n o l x) range
+      ∙ put_swap n o l x (capped_bits q.o) (capped_bits q.l) y fits (take_fits c 0 (capped_bits q.l)) apart
+      ∙ ap (λ t. put_of (if t then put_of n (capped_bits q.o) (capped_bits q.l) y else n) o l x) (sym range)
   constant_swap n o l x q (Bits path a) fits range apart = refl
   constant_swap n o l x q (Word path j) fits range apart = refl
   constant_swap n o l x q (Pointer align b) fits range apart = refl
 
-  constants_swap : (ps : List Part) (n o l x : ℕ) → x < 2 ^ l → AreRanges ps → ((k : ℕ) (q : Part) → slice_get ps k ≡ Some q → AreDisjoint o l (capped q.o) (capped q.l))
+  constants_swap : (ps : List Part) (n o l x : ℕ) → x < 2 ^ l → AreRanges ps → ((k : ℕ) (q : Part) → slice_get ps k ≡ Some q → AreDisjoint o l (capped_bits q.o) (capped_bits q.l))
       → constants (put_of n o l x) ps ≡ put_of (constants n ps) o l x
   constants_swap [] n o l x fits ranges apart = refl
   constants_swap (q ∷ ps) n o l x fits ranges apart =
@@ -195,33 +195,33 @@ module _ (field : List ℕ → ℕ → ℕ) (ats : ℕ → ℕ) where
   constants_first (p ∷ ps) n ranges apart =
       go p.kind (λ i. constants_first ps i (λ k q e. ranges (suc k) q e) (λ j k x y lt e h. apart (suc j) (suc k) x y (omega (arith, lt)) e h))
     where
-      late : (v : ℕ) → v < 2 ^ capped p.l → ((i : ℕ) → others (constants i ps) ps ≡ with_parts i ps)
-          → others (put_of (constants n ps) (capped p.o) (capped p.l) v) ps ≡ with_parts (put_of n (capped p.o) (capped p.l) v) ps
+      late : (v : ℕ) → v < 2 ^ capped_bits p.l → ((i : ℕ) → others (constants i ps) ps ≡ with_parts i ps)
+          → others (put_of (constants n ps) (capped_bits p.o) (capped_bits p.l) v) ps ≡ with_parts (put_of n (capped_bits p.o) (capped_bits p.l) v) ps
       late v fits rest =
-          ap (λ z. others z ps) (sym (constants_swap ps n (capped p.o) (capped p.l) v fits (λ k q e. ranges (suc k) q e) (λ k q e. apart 0 (suc k) p q (omega arith) refl e)))
-          ∙ rest (put_of n (capped p.o) (capped p.l) v)
+          ap (λ z. others z ps) (sym (constants_swap ps n (capped_bits p.o) (capped_bits p.l) v fits (λ k q e. ranges (suc k) q e) (λ k q e. apart 0 (suc k) p q (omega arith) refl e)))
+          ∙ rest (put_of n (capped_bits p.o) (capped_bits p.l) v)
 
       go : (kind : Kind) → ((i : ℕ) → others (constants i ps) ps ≡ with_parts i ps)
           → others (other_kind (constants (with_constant n p.o p.l kind) ps) p kind) ps ≡ with_parts (with_kind n p kind) ps
       go (Const c) rest =
           rest (with_constant n p.o p.l (Const c))
-          ∙ ap (λ t. with_parts (if t then put_of n (capped p.o) (capped p.l) (take_of c 0 (capped p.l)) else n) ps) (ranges 0 p refl)
-          ∙ ap (λ y. with_parts (put_of n (capped p.o) (capped p.l) y) ps) (from_zero c (capped p.l))
-      go (Bits path a) rest = late (source_value p.l (Bits path a) % 2 ^ capped p.l) (low_fits (source_value p.l (Bits path a)) (capped p.l)) rest
-      go (Word path j) rest = late (source_value p.l (Word path j) % 2 ^ capped p.l) (low_fits (source_value p.l (Word path j)) (capped p.l)) rest
-      go (Pointer align x) rest = late (source_value p.l (Pointer align x) % 2 ^ capped p.l) (low_fits (source_value p.l (Pointer align x)) (capped p.l)) rest
+          ∙ ap (λ t. with_parts (if t then put_of n (capped_bits p.o) (capped_bits p.l) (take_of c 0 (capped_bits p.l)) else n) ps) (ranges 0 p refl)
+          ∙ ap (λ y. with_parts (put_of n (capped_bits p.o) (capped_bits p.l) y) ps) (from_zero c (capped_bits p.l))
+      go (Bits path a) rest = late (source_value p.l (Bits path a) % 2 ^ capped_bits p.l) (low_fits (source_value p.l (Bits path a)) (capped_bits p.l)) rest
+      go (Word path j) rest = late (source_value p.l (Word path j) % 2 ^ capped_bits p.l) (low_fits (source_value p.l (Word path j)) (capped_bits p.l)) rest
+      go (Pointer align x) rest = late (source_value p.l (Pointer align x) % 2 ^ capped_bits p.l) (low_fits (source_value p.l (Pointer align x)) (capped_bits p.l)) rest
 
   -- a part that the code puts as it is
   pub record IsPut (subs : List ℕ → List ℕ) (at : ℕ → ℕ) (p : Part) : Type 0 where
-    pub first : capped p.o ≡ p.o
-    pub long : capped p.l ≡ p.l
+    pub first : capped_bits p.o ≡ p.o
+    pub long : capped_bits p.l ≡ p.l
     pub fits : number_of subs at p.l p.kind < 2 ^ p.l
     pub value : source_value p.l p.kind % 2 ^ p.l ≡ number_of subs at p.l p.kind
 
   module _ (subs : List ℕ → List ℕ) (at : ℕ → ℕ) where
     pub put_is : (n : ℕ) (p : Part) → IsPut subs at p → with_part n p ≡ put_of n p.o p.l (number_of subs at p.l p.kind)
     put_is n p is =
-        ap (λ o. put_of n o (capped p.l) (source_value p.l p.kind % 2 ^ capped p.l)) is.first
+        ap (λ o. put_of n o (capped_bits p.l) (source_value p.l p.kind % 2 ^ capped_bits p.l)) is.first
         ∙ ap (λ l. put_of n p.o l (source_value p.l p.kind % 2 ^ l)) is.long ∙ ap (put_of n p.o p.l) is.value
 
     one_by_one : (ps : List Part) → ((k : ℕ) (p : Part) → slice_get ps k ≡ Some p → IsPut subs at p)
@@ -234,17 +234,17 @@ module _ (field : List ℕ → ℕ → ℕ) (ats : ℕ → ℕ) where
         ∙ with_parts_swap ps 0 p.o p.l x is.fits
         (λ k q e.
         let r = are (suc k) q e in
-        subst (λ o. AreDisjoint p.o p.l o (capped q.l)) (sym r.first) (subst (λ l. AreDisjoint p.o p.l q.o l) (sym r.long) (apart 0 (suc k) p q (omega arith) refl e)))
+        subst (λ o. AreDisjoint p.o p.l o (capped_bits q.l)) (sym r.first) (subst (λ l. AreDisjoint p.o p.l q.o l) (sym r.long) (apart 0 (suc k) p q (omega arith) refl e)))
         ∙ ap (λ z. put_of z p.o p.l x) (one_by_one ps (λ k q e. are (suc k) q e) (λ j k a b lt e h. apart (suc j) (suc k) a b (omega (arith, lt)) e h))
 
     pub composed : (ps : List Part) → AreRanges ps → ((k : ℕ) (p : Part) → slice_get ps k ≡ Some p → IsPut subs at p)
         → ((j k : ℕ) (p q : Part) → j < k → slice_get ps j ≡ Some p → slice_get ps k ≡ Some q → AreDisjoint p.o p.l q.o q.l) → others (constants 0 ps) ps ≡ packed subs at ps
     composed ps ranges are apart = constants_first ps 0 ranges (λ j k x y lt e h. as_capped x y (are j x e) (are k y h) (apart j k x y lt e h)) ∙ one_by_one ps are apart
       where
-        as_capped : (x y : Part) → IsPut subs at x → IsPut subs at y → AreDisjoint x.o x.l y.o y.l → AreDisjoint (capped x.o) (capped x.l) (capped y.o) (capped y.l)
+        as_capped : (x y : Part) → IsPut subs at x → IsPut subs at y → AreDisjoint x.o x.l y.o y.l → AreDisjoint (capped_bits x.o) (capped_bits x.l) (capped_bits y.o) (capped_bits y.l)
         as_capped x y px py d =
-            subst (λ i. AreDisjoint i (capped x.l) (capped y.o) (capped y.l)) (sym px.first) (subst (λ i. AreDisjoint x.o i (capped y.o) (capped y.l)) (sym px.long)
-            (subst (λ i. AreDisjoint x.o x.l i (capped y.l)) (sym py.first) (subst (λ i. AreDisjoint x.o x.l y.o i) (sym py.long) d)))
+            subst (λ i. AreDisjoint i (capped_bits x.l) (capped_bits y.o) (capped_bits y.l)) (sym px.first) (subst (λ i. AreDisjoint x.o i (capped_bits y.o) (capped_bits y.l)) (sym px.long)
+            (subst (λ i. AreDisjoint x.o x.l i (capped_bits y.l)) (sym py.first) (subst (λ i. AreDisjoint x.o x.l y.o i) (sym py.long) d)))
 
     -- by what a part holds
     pub const_put : (l c : ℕ) → c < 2 ^ l → source_value l (Const c) % 2 ^ l ≡ number_of subs at l (Const c)
@@ -253,7 +253,7 @@ module _ (field : List ℕ → ℕ → ℕ) (ats : ℕ → ℕ) where
     pub bits_put : (l a : ℕ) (path : List ℕ) → a ≤ 64 → l ≤ 64 → field path 0 ≡ slice_index (subs path) 0 → source_value l (Bits path a) % 2 ^ l ≡ number_of subs at l (Bits path a)
     bits_put l a path la ll is =
         let w = slice_index (subs path) 0 in
-        ap (λ x. taken_value x (capped a) (capped l) % 2 ^ l) is ∙ ap (λ i. taken_value w i (capped l) % 2 ^ l) (capped-is a la)
+        ap (λ x. taken_value x (capped_bits a) (capped_bits l) % 2 ^ l) is ∙ ap (λ i. taken_value w i (capped_bits l) % 2 ^ l) (capped-is a la)
         ∙ ap (λ i. taken_value w a i % 2 ^ l) (capped-is l ll)
         ∙ taken_is w a l l (λ z. sym (mod-eq_of_lt (take_fits w a l) ∙ ap (λ i. take_of w i l) z ∙ from_zero w l)) ∙ mod-eq_of_lt (take_fits w a l)
 
@@ -286,12 +286,12 @@ pub constants_small : (ps : List Part) (n : ℕ) → n < 2 ^ 64 → constants n 
 constants_small [] n lt = lt
 constants_small (p ∷ ps) n lt = constants_small ps (with_constant n p.o p.l p.kind) (small p.kind)
   where
-    by : (t : Bool) (c : ℕ) → is_range (capped p.o) (capped p.l) ≡ t → (if t then put_of n (capped p.o) (capped p.l) (take_of c 0 (capped p.l)) else n) < 2 ^ 64
-    by true c e = put_below n (capped p.o) (capped p.l) (take_of c 0 (capped p.l)) 64 (in_range (capped p.o) (capped p.l) e) lt (take_fits c 0 (capped p.l))
+    by : (t : Bool) (c : ℕ) → is_range (capped_bits p.o) (capped_bits p.l) ≡ t → (if t then put_of n (capped_bits p.o) (capped_bits p.l) (take_of c 0 (capped_bits p.l)) else n) < 2 ^ 64
+    by true c e = put_below n (capped_bits p.o) (capped_bits p.l) (take_of c 0 (capped_bits p.l)) 64 (in_range (capped_bits p.o) (capped_bits p.l) e) lt (take_fits c 0 (capped_bits p.l))
     by false c e = lt
 
     small : (kind : Kind) → with_constant n p.o p.l kind < 2 ^ 64
-    small (Const c) = by (is_range (capped p.o) (capped p.l)) c refl
+    small (Const c) = by (is_range (capped_bits p.o) (capped_bits p.l)) c refl
     small (Bits path a) = lt
     small (Word path j) = lt
     small (Pointer align x) = lt

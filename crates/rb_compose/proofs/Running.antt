@@ -15,7 +15,7 @@ use Rattle.rb_target.specs.declared.outcome.End.TheVariants.{Full as Filled}
 use Rattle.rb_target.specs.Growth.{AgreesBut, Keeps, Nowhere}
 use Rattle.rb_target.specs.Laws.{Law}
 use Rattle.rb_target.specs.Meaning.{World, CallEnd as Run, Next, Callee, act, taken, over, slots_at, with_memory, after_store, after_place}
-use Rattle.rb_target.specs.Sheet.{Sheet, pushed, with_slot}
+use Rattle.rb_target.specs.Sheet.{Sheet, with_more, with_slot}
 use Rattle.rb_target.proofs.Growing.{Agrees-part, Grows-refl, Keeps-refl, Keeps-set, Keeps-trans, get-seam}
 use Rattle.rb_layout.specs.declared.layout.Block.{Block}
 use Rattle.rb_layout.specs.declared.layout.FlatWord.{FlatWord}
@@ -28,7 +28,7 @@ use Rattle.rb_compose.specs.declared.subvalue.Subvalue.{Subvalue}
 use Rattle.rb_fragment.proofs.Steps.{set_same}
 use Rattle.rb_rel.proofs.Storing.{IsBlock, above}
 use Rattle.rb_rel.specs.Storing.{with_words, with_block}
-use Rattle.rb_compose.specs.Counts.{capped}
+use Rattle.rb_compose.specs.Counts.{capped_bits}
 use Rattle.rb_compose.specs.inner.Code.{after_constants, begun_code, block_code, constants, field_slots, is_low, is_ready, joined_code, kind_code, low_bit, part_code, parts_code, put_code, root_code, root_slots, roots_code, shift_of, slot_of, source_slot, stores_code, taken_code, taken_slot, value_code, value_slot, whole_of, word_code}
 use Rattle.rb_compose.proofs.Longer.{IsLonger, begun_by, fresh_root, from_code, joined_by, longer-fresh, low_by, longer-push, part_by, part_longer, parts_longer, root_longer, roots_longer, store_longer, stored_code, stores_longer, taken_longer, value_longer, word_by}
 use Rattle.rb_compose.proofs.Numbers.{other_kind, taken_value}
@@ -153,12 +153,12 @@ module _ (final : List Instr) (callee : Callee) (next : Next) (law : Law final c
     number f = word_number hs field ats (whole_of hs f.parts) f.parts
 
     -- bits of a slot from bit 0 of a slot on
-    taken_by : (t : Bool) (x from long v : ℕ) (b : Sheet) (s : List ℕ) (w : World) (m : Memory) → Stands final b (if t then b else pushed (with_slot b) (I.Take b.slots x from long)) → w.memory ≡ m
-        → (if t then b else pushed (with_slot b) (I.Take b.slots x from long)).slots ≤ length s → slice_index s x ≡ v
-        → Runs b.slots b (if t then b else pushed (with_slot b) (I.Take b.slots x from long)) s w m (λ s'. slice_index s' (if t then x else b.slots) ≡ (if t then v else take_of v from long))
+    taken_by : (t : Bool) (x from long v : ℕ) (b : Sheet) (s : List ℕ) (w : World) (m : Memory) → Stands final b (if t then b else with_more (with_slot b) (I.Take b.slots x from long)) → w.memory ≡ m
+        → (if t then b else with_more (with_slot b) (I.Take b.slots x from long)).slots ≤ length s → slice_index s x ≡ v
+        → Runs b.slots b (if t then b else with_more (with_slot b) (I.Take b.slots x from long)) s w m (λ s'. slice_index s' (if t then x else b.slots) ≡ (if t then v else take_of v from long))
     taken_by true x from long v b s w m stands is room there = runs_none b.slots b s w m (λ s'. slice_index s' x ≡ v) is there
     taken_by false x from long v b s w m stands is room there =
-        let c = pushed (with_slot b) (I.Take b.slots x from long) in
+        let c = with_more (with_slot b) (I.Take b.slots x from long) in
         let word = take_of (slice_index s x) from long in
         runs_weaken b.slots b.slots b c s w m m (λ s'. s' ≡ slice_set s b.slots word) (λ s'. slice_index s' b.slots ≡ take_of v from long) (omega arith) refl
         (λ s' k e. ap (λ y. slice_index y b.slots) e ∙ set_same s b.slots word (omega (arith, room)) ∙ ap (λ y. take_of y from long) there)
@@ -166,28 +166,28 @@ module _ (final : List Instr) (callee : Callee) (next : Next) (law : Law final c
 
     -- bits of a slot put over what stands in slot d
     put_run : (d x from long v : ℕ) (p : Part) (b : Sheet) (s : List ℕ) (w : World) (m : Memory) → Stands final b (put_code d x from long p b) → w.memory ≡ m → d < b.slots → (put_code d x from long p b).slots ≤ length s → slice_index s x ≡ v
-        → Runs d b (put_code d x from long p b) s w m (λ s'. slice_index s' d ≡ put_of (slice_index s d) (capped p.o) (capped p.l) (taken_value v from long % 2 ^ capped p.l))
+        → Runs d b (put_code d x from long p b) s w m (λ s'. slice_index s' d ≡ put_of (slice_index s d) (capped_bits p.o) (capped_bits p.l) (taken_value v from long % 2 ^ capped_bits p.l))
     put_run d x from long v p b s w m stands is lt room there =
         let c = taken_code x from long b in
         let low = taken_slot x from b.slots in
-        let put = I.Put d low (capped p.o) (capped p.l) in
+        let put = I.Put d low (capped_bits p.o) (capped_bits p.l) in
         let u = taken_value v from long in
         let more = taken_longer x from long b in
-        let first = taken_by (from == 0) x from long v b s w m (stands_first final b c (pushed c put) more (longer-push c put) stands) is room there in
-        runs_then d d b c (pushed c put) s w m m (λ s'. (slice_index s' low ≡ u) × (slice_index s' d ≡ slice_index s d) × (length s' ≡ length s)) (λ s'. slice_index s' d ≡ put_of (slice_index s d) (capped p.o) (capped p.l) (u % 2 ^ capped p.l)) (omega arith)
+        let first = taken_by (from == 0) x from long v b s w m (stands_first final b c (with_more c put) more (longer-push c put) stands) is room there in
+        runs_then d d b c (with_more c put) s w m m (λ s'. (slice_index s' low ≡ u) × (slice_index s' d ≡ slice_index s d) × (length s' ≡ length s)) (λ s'. slice_index s' d ≡ put_of (slice_index s d) (capped_bits p.o) (capped_bits p.l) (u % 2 ^ capped_bits p.l)) (omega arith)
         (runs_weaken b.slots d b c s w m m (λ s'. slice_index s' low ≡ u) (λ s'. (slice_index s' low ≡ u) × (slice_index s' d ≡ slice_index s d) × (length s' ≡ length s)) (omega (arith, lt)) refl (λ s' k e. (e, k.same d lt, k.long)) first)
         (λ s1 w1 is1 k1 e1.
-        let word = put_of (slice_index s1 d) (capped p.o) (capped p.l) (slice_index s1 low % 2 ^ capped p.l) in
+        let word = put_of (slice_index s1 d) (capped_bits p.o) (capped_bits p.l) (slice_index s1 low % 2 ^ capped_bits p.l) in
         let within : d < length s1 = (let y = e1.2 in let q = more.more in omega (arith, lt, room, y, q)) in
-        runs_weaken d d c (pushed c put) s1 w1 m m (λ s'. s' ≡ slice_set s1 d word) (λ s'. slice_index s' d ≡ put_of (slice_index s d) (capped p.o) (capped p.l) (u % 2 ^ capped p.l)) (omega arith) refl
-        (λ s' k e. ap (λ y. slice_index y d) e ∙ set_same s1 d word within ∙ ap (λ y. put_of y (capped p.o) (capped p.l) (slice_index s1 low % 2 ^ capped p.l)) e1.1 ∙ ap (λ y. put_of (slice_index s d) (capped p.o) (capped p.l) (y % 2 ^ capped p.l)) e1.0)
-        (runs_set d c (pushed c put) put d word s1 w1 m refl (stands_rest final b c (pushed c put) more stands) (omega arith) is1 refl))
+        runs_weaken d d c (with_more c put) s1 w1 m m (λ s'. s' ≡ slice_set s1 d word) (λ s'. slice_index s' d ≡ put_of (slice_index s d) (capped_bits p.o) (capped_bits p.l) (u % 2 ^ capped_bits p.l)) (omega arith) refl
+        (λ s' k e. ap (λ y. slice_index y d) e ∙ set_same s1 d word within ∙ ap (λ y. put_of y (capped_bits p.o) (capped_bits p.l) (slice_index s1 low % 2 ^ capped_bits p.l)) e1.1 ∙ ap (λ y. put_of (slice_index s d) (capped_bits p.o) (capped_bits p.l) (y % 2 ^ capped_bits p.l)) e1.0)
+        (runs_set d c (with_more c put) put d word s1 w1 m refl (stands_rest final b c (with_more c put) more stands) (omega arith) is1 refl))
 
     module _ (blocks : List ℕ) where
       kind_run : (d : ℕ) (p : Part) (kind : Kind) (b : Sheet) (s : List ℕ) (w : World) (m : Memory) → Stands final b (kind_code hs blocks d p kind b) → w.memory ≡ m → d < b.slots → (kind_code hs blocks d p kind b).slots ≤ length s
           → Tells blocks s kind → Runs d b (kind_code hs blocks d p kind b) s w m (λ s'. slice_index s' d ≡ other_kind field ats (slice_index s d) p kind)
       kind_run d p (Const c) b s w m stands is lt room tells = runs_none d b s w m (λ s'. slice_index s' d ≡ slice_index s d) is refl
-      kind_run d p (Bits path a) b s w m stands is lt room tells = put_run d (slice_index (field_slots hs path) 0) (capped a) (capped p.l) (field path 0) p b s w m stands is lt room tells
+      kind_run d p (Bits path a) b s w m stands is lt room tells = put_run d (slice_index (field_slots hs path) 0) (capped_bits a) (capped_bits p.l) (field path 0) p b s w m stands is lt room tells
       kind_run d p (Word path j) b s w m stands is lt room tells = put_run d (slice_index (field_slots hs path) j) 0 64 (field path j) p b s w m stands is lt room tells
       kind_run d p (Pointer align x) b s w m stands is lt room tells = put_run d (slice_index blocks x) (shift_of align) (64 - shift_of align) (ats x) p b s w m stands is lt room tells
 
@@ -215,9 +215,9 @@ module _ (final : List Instr) (callee : Callee) (next : Next) (law : Law final c
               let or = I.Alu Or 64 d d (source_slot hs blocks p.kind) in
               let n = slice_index s d in
               let word = bit_or n (slice_index s (source_slot hs blocks p.kind)) % 2 ^ 64 in
-              runs_weaken d d b (pushed b or) s w m m (λ s'. s' ≡ slice_set s d word) (λ s'. slice_index s' d ≡ bit_or n (source_word hs field ats p.kind) % 2 ^ 64) (omega arith) refl
+              runs_weaken d d b (with_more b or) s w m m (λ s'. s' ≡ slice_set s d word) (λ s'. slice_index s' d ≡ bit_or n (source_word hs field ats p.kind) % 2 ^ 64) (omega arith) refl
               (λ s' k h. ap (λ y. slice_index y d) h ∙ set_same s d word (omega (arith, lt, room1)) ∙ ap (λ y. bit_or n y % 2 ^ 64) (source_tells p.o p.l p.kind s e tells))
-              (runs_set d b (pushed b or) or d word s w m refl stands1 (omega arith) is refl)
+              (runs_set d b (with_more b or) or d word s w m refl stands1 (omega arith) is refl)
           by false e stands1 room1 = kind_run d p p.kind b s w m stands1 is lt room1 tells
 
       parts_run : (d : ℕ) (ps : List Part) (b : Sheet) (s : List ℕ) (w : World) (m : Memory) → Stands final b (parts_code hs blocks d ps b) → w.memory ≡ m → d < b.slots → (parts_code hs blocks d ps b).slots ≤ length s
@@ -246,7 +246,7 @@ module _ (final : List Instr) (callee : Callee) (next : Next) (law : Law final c
           → Runs b.slots b (from_code hs blocks i ps b) s w m (λ s'. slice_index s' b.slots ≡ with_readies hs field ats v ps)
       from_run i v ps b s w m acts stands is long below tells =
           let d = b.slots in
-          let c = pushed (with_slot b) i in
+          let c = with_more (with_slot b) i in
           let e = from_code hs blocks i ps b in
           let x = longer-fresh b i in
           let y = parts_longer hs blocks d ps c in
@@ -296,8 +296,8 @@ module _ (final : List Instr) (callee : Callee) (next : Next) (law : Law final c
                   → Runs b.slots b (low_by hs blocks p ps b t) s w m (λ s'. slice_index s' b.slots ≡ low_number hs field ats p ps t)
               from_low true h stands2 long2 =
                   let x = source_slot hs blocks p.kind in
-                  let take : ℕ → ℕ = λ i. take_of i (low_bit p.kind) (capped p.l) in
-                  from_run (I.Take b.slots x (low_bit p.kind) (capped p.l)) (take (source_word hs field ats p.kind)) ps b s w m
+                  let take : ℕ → ℕ = λ i. take_of i (low_bit p.kind) (capped_bits p.l) in
+                  from_run (I.Take b.slots x (low_bit p.kind) (capped_bits p.l)) (take (source_word hs field ats p.kind)) ps b s w m
                   (ap (λ i. next (length b.code + 1) (slice_set s b.slots (take i)) (taken w)) (low_tells p.o p.kind s h (tells 0 p refl))) stands2 is long2 (λ k q at. below (suc k) q at) (λ k q at. tells (suc k) q at)
               from_low false h stands2 long2 = from_run (I.Const b.slots 0) 0 (p ∷ ps) b s w m refl stands2 is long2 below tells
 
@@ -338,7 +338,7 @@ module _ (final : List Instr) (callee : Callee) (next : Next) (law : Law final c
       root_run (Some x) ps b s w m e stands is long below tells =
           let from = slice_index (field_slots hs x.0) x.1 in
           let word = slice_index s from in
-          let c = pushed (with_slot b) (I.Copy b.slots from) in
+          let c = with_more (with_slot b) (I.Copy b.slots from) in
           runs_weaken b.slots b.slots b c s w m m (λ s'. s' ≡ slice_set s b.slots word) (λ s'. slice_index s' b.slots ≡ field x.0 x.1) (omega arith) refl
           (λ s' k h. ap (λ y. slice_index y b.slots) h ∙ set_same s b.slots word (omega (arith, long)) ∙ whole_tells ps s x e tells)
           (runs_set b.slots b c (I.Copy b.slots from) b.slots word s w m refl stands (omega arith) is refl)
@@ -350,7 +350,7 @@ module _ (final : List Instr) (callee : Callee) (next : Next) (law : Law final c
     abbrev pub WordsTell : List ℕ → List ℕ → List FlatWord → Type 0
     WordsTell blocks s fs = (k : ℕ) (f : FlatWord) → slice_get fs k ≡ Some f → AllTell blocks s f.parts
 
-    width_capped : (w : ℕ) → IsBlockWidth w → capped w ≡ w
+    width_capped : (w : ℕ) → IsBlockWidth w → capped_bits w ≡ w
     width_capped w (inl e) = omega (arith, e)
     width_capped w (inr (inl e)) = omega (arith, e)
     width_capped w (inr (inr (inl e))) = omega (arith, e)
@@ -371,8 +371,8 @@ module _ (final : List Instr) (callee : Callee) (next : Next) (law : Law final c
           let o = whole_of hs f.parts in
           let c = value_code (slot_of hs o) hs blocks f.parts b in
           let slot = value_slot (slot_of hs o) b.slots in
-          let store = I.Store a at (capped f.width) slot in
-          let e = pushed c store in
+          let store = I.Store a at (capped_bits f.width) slot in
+          let e = with_more c store in
           let x = value_longer hs (slot_of hs o) blocks f.parts b in
           let v = number f in
           let first = value_run blocks o f.parts b s w m refl (stands_first final b c e x (longer-push c store) stands) is long (λ k p h. below_more blocks n b.slots p.kind le (below k p h)) tells in
@@ -380,9 +380,9 @@ module _ (final : List Instr) (callee : Callee) (next : Next) (law : Law final c
           (runs_weaken b.slots n b c s w m m (λ s'. slice_index s' slot ≡ v) (λ s'. slice_index s' slot ≡ v) le refl (λ s' k h. h) first)
           (λ s1 w1 is1 k1 e1.
           let P : Result (Unit {0}) Trap × Memory → Run = λ r. after_store r.0 (with_memory (taken w1) r.1) (next (length c.code + 1) s1 (with_memory (taken w1) r.1)) in
-          let same : store_of w1.memory (slice_index s1 a) at (capped f.width) (slice_index s1 slot) ≡ store_of m base at f.width v =
-          ap (λ y. store_of y (slice_index s1 a) at (capped f.width) (slice_index s1 slot)) is1
-          ∙ ap (λ y. store_of m y at (capped f.width) (slice_index s1 slot)) (k1.same a lt ∙ there)
+          let same : store_of w1.memory (slice_index s1 a) at (capped_bits f.width) (slice_index s1 slot) ≡ store_of m base at f.width v =
+          ap (λ y. store_of y (slice_index s1 a) at (capped_bits f.width) (slice_index s1 slot)) is1
+          ∙ ap (λ y. store_of m y at (capped_bits f.width) (slice_index s1 slot)) (k1.same a lt ∙ there)
           ∙ ap (λ y. store_of m base at y (slice_index s1 slot)) (width_capped f.width wide) ∙ ap (store_of m base at f.width) e1 in
           let done = store_within m base at f.width v (within_yes (size_at m.blocks base) size (at + f.width / 8) sized room) in
           let len : length e.code ≡ length c.code + 1 = length-append c.code (store ∷ []) in
@@ -431,7 +431,7 @@ module _ (final : List Instr) (callee : Callee) (next : Next) (law : Law final c
       block_run x b s w m stands is good block long below tells room =
           let d = b.slots in
           let place = I.Place d (size_of x) x.align in
-          let c = pushed (with_slot b) place in
+          let c = with_more (with_slot b) place in
           let e = block_code hs blocks x b in
           let lx = longer-fresh b place in
           let ly = stores_longer hs blocks d x.words 0 c in
@@ -455,7 +455,7 @@ module _ (final : List Instr) (callee : Callee) (next : Next) (law : Law final c
           record {
             slots = rest.slots;
             world = rest.world;
-            ran = ran ∙ rest.ran;
+            ran = ◌∙◌ {b = next (length c.code) s1 w1} {c = next (length e.code) rest.slots rest.world} ran rest.ran;
             keeps = Keeps-trans d c.slots s s1 rest.slots (omega arith) k1 rest.keeps;
             memory = rest.memory ∙ ap (λ i. let r : Memory = record { limit = m.limit; next = a + size_of x; blocks = m.blocks ++ (a, size_of x) ∷ []; bytes = with_words number x.words i m.bytes } in r) z;
             left = rest.left;
@@ -469,7 +469,7 @@ module _ (final : List Instr) (callee : Callee) (next : Next) (law : Law final c
       block_full x b s w m stands is none =
           let d = b.slots in
           let place = I.Place d (size_of x) x.align in
-          let c = pushed (with_slot b) place in
+          let c = with_more (with_slot b) place in
           let e = block_code hs blocks x b in
           let lx = longer-fresh b place in
           let ly = stores_longer hs blocks d x.words 0 c in

@@ -1,12 +1,12 @@
 -- Words with one part that is a field's word.
 use Rattle.std.proofs.Common.{◌≡◌, ℕ, ◌==◌, ◌&&◌, ◌⊎◌, inl, inr, length, List, [], ◌∷◌, Bool, true, false, Option, Some, None, refl, sym, ap, ◌∙◌, arith}
 use Rattle.std.specs.Prelude.{slice_get, if◌then◌else◌}
+use Rattle.std.proofs.lemmas.Bool.{and_parts}
 use Rattle.std.proofs.lemmas.Grind.{common_steps}
 use Rattle.std.proofs.lemmas.Option.{same_Some}
 use Rattle.rb_layout.specs.declared.layout.Kind.{Kind}
 use Rattle.rb_layout.specs.declared.layout.Kind.TheVariants.{Const, Bits, Word, Pointer}
 use Rattle.rb_layout.specs.declared.layout.Part.{Part}
-use Rattle.rb_rel.proofs.Lists.{both}
 use Rattle.rb_compose.specs.declared.subvalue.Subvalue.{Subvalue}
 use Rattle.rb_compose.specs.inner.Code.{field_type, is_int, whole_kind, whole_of, whole_part}
 
@@ -32,7 +32,7 @@ module _ (hs : List Subvalue) where
   has_whole l (Const c) w e = absurd cc
   has_whole l (Bits path a) w e =
       let h = chosen (a == 0 && is_int l (field_type hs path)) (Some (path, 0)) w e in
-      let b = both (a == 0) (is_int l (field_type hs path)) h.0 in
+      let b = and_parts (a == 0) (is_int l (field_type hs path)) h.0 in
       let s : (path, 0) ≡ w = same_Some (path, 0) w h.1 in
       let zero_at : a ≡ 0 = same_nat a 0 b.0 in
       let p0 : path ≡ w.0 = ap (λ (x : List ℕ × ℕ). x.0) s in

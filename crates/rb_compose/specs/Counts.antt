@@ -2,5 +2,5 @@
 use Rattle.std.specs.Prelude.{ℕ, min}
 
 -- a number of bits, or 64 if it is more: no word has more bits
-abbrev pub capped : ℕ → ℕ
-capped n = min n 64
+abbrev pub capped_bits : ℕ → ℕ
+capped_bits n = min n 64

@@ -4,12 +4,12 @@ use Rattle.std.proofs.lemmas.Grind.{common_steps}
 use Rattle.rb_core.specs.declared.value.Value.{Value, Con}
 use Rattle.rb_core.specs.declared.copying.Frame.{Frame}
 use Rattle.rb_core.specs.Values.{node_count}
-use Rattle.rb_core.specs.inner.Copying.{filled, plugged, nodes_left, nodes_behind}
+use Rattle.rb_core.specs.inner.Copying.{filled_frame, filled_stack, nodes_left, nodes_behind}
 use Rattle.rb_core.proofs.ValueLaws.{node_count-Con}
 
-pub plugged-push : (fs : List Frame) (f : Frame) (v : Value) → plugged (fs ++ f ∷ []) v ≡ plugged fs (filled f v)
+pub plugged-push : (fs : List Frame) (f : Frame) (v : Value) → filled_stack (fs ++ f ∷ []) v ≡ filled_stack fs (filled_frame f v)
 plugged-push [] f v = refl
-plugged-push (g ∷ fs) f v = ap (filled g) (plugged-push fs f v)
+plugged-push (g ∷ fs) f v = ap (filled_frame g) (plugged-push fs f v)
 
 pub remaining-push : (fs : List Frame) (f : Frame) → nodes_behind (fs ++ f ∷ []) ≡ nodes_behind fs + nodes_left f
 remaining-push fs f = grind (arith, common_steps)
@@ -30,24 +30,24 @@ pub ruleset frame_rules = (plugged-push, remaining-push, total-from, list-from, 
 -- down into the first subvalue
 pub entered : (fs new : List Frame) (f : Frame) (v first : Value) (vs : List Value) → new ≡ fs ++ f ∷ [] → v ≡ Con f.con vs → f.copied ≡ []
     → 0 < length vs → first ≡ get_or vs 0 first → f.rest.now ≡ drop 1 vs
-    → (plugged new first ≡ plugged fs v) × (node_count first + nodes_behind new < node_count v + nodes_behind fs)
+    → (filled_stack new first ≡ filled_stack fs v) × (node_count first + nodes_behind new < node_count v + nodes_behind fs)
 entered fs new f v first vs e is none lt here rest =
-    let whole : filled f first ≡ v = ap (λ l. Con f.con (l ++ first ∷ f.rest.now)) none ∙ ap (λ l. Con f.con (first ∷ l)) rest ∙ ap (Con f.con) (list-from vs first lt here) ∙ sym is in
+    let whole : filled_frame f first ≡ v = ap (λ l. Con f.con (l ++ first ∷ f.rest.now)) none ∙ ap (λ l. Con f.con (first ∷ l)) rest ∙ ap (Con f.con) (list-from vs first lt here) ∙ sym is in
     let nodes : node_count v ≡ 1 + sum (map node_count vs) = ap node_count is ∙ node_count-Con f.con vs in
     let here_left : nodes_left f ≡ sum (map node_count (drop 1 vs)) = ap (λ l. sum (map node_count l)) rest in (
-      ap (λ l. plugged l first) e ∙ plugged-push fs f first ∙ ap (plugged fs) whole,
+      ap (λ l. filled_stack l first) e ∙ plugged-push fs f first ∙ ap (filled_stack fs) whole,
       (let count : nodes_behind new ≡ nodes_behind fs + nodes_left f = ap nodes_behind e ∙ remaining-push fs f in omega (arith, count, here_left, nodes, total-from vs first lt here)),
     )
 
 -- on to the next subvalue
 pub turned : (fs frames new : List Frame) (f f' : Frame) (v next : Value) → frames ≡ fs ++ f ∷ [] → new ≡ fs ++ f' ∷ [] → f'.con ≡ f.con → f'.copied ≡ f.copied ++ v ∷ []
     → 0 < length f.rest.now → next ≡ get_or f.rest.now 0 next → f'.rest.now ≡ drop 1 f.rest.now
-    → (plugged new next ≡ plugged frames v) × (node_count next + nodes_behind new ≤ nodes_behind frames)
+    → (filled_stack new next ≡ filled_stack frames v) × (node_count next + nodes_behind new ≤ nodes_behind frames)
 turned fs frames new f f' v next e e' con copied lt here rest =
-    let same : filled f' next ≡ filled f v = ap (λ k. Con k (f'.copied ++ next ∷ f'.rest.now)) con ∙ ap (λ l. Con f.con (l ++ next ∷ f'.rest.now)) copied
+    let same : filled_frame f' next ≡ filled_frame f v = ap (λ k. Con k (f'.copied ++ next ∷ f'.rest.now)) con ∙ ap (λ l. Con f.con (l ++ next ∷ f'.rest.now)) copied
     ∙ ap (λ l. Con f.con ((f.copied ++ v ∷ []) ++ next ∷ l)) rest ∙ ap (λ l. Con f.con ((f.copied ++ v ∷ []) ++ l)) (list-from f.rest.now next lt here)
     ∙ ap (Con f.con) (append_assoc f.copied (v ∷ []) f.rest.now) in (
-      ap (λ l. plugged l next) e' ∙ plugged-push fs f' next ∙ ap (plugged fs) same ∙ sym (plugged-push fs f v) ∙ ap (λ l. plugged l v) (sym e),
+      ap (λ l. filled_stack l next) e' ∙ plugged-push fs f' next ∙ ap (filled_stack fs) same ∙ sym (plugged-push fs f v) ∙ ap (λ l. filled_stack l v) (sym e),
       (let count : nodes_behind new ≡ nodes_behind fs + nodes_left f' = ap nodes_behind e' ∙ remaining-push fs f' in
           let before : nodes_behind frames ≡ nodes_behind fs + nodes_left f = ap nodes_behind e ∙ remaining-push fs f in
           let here_left : nodes_left f' ≡ sum (map node_count (drop 1 f.rest.now)) = ap (λ l. sum (map node_count l)) rest in
@@ -56,10 +56,10 @@ turned fs frames new f f' v next e e' con copied lt here rest =
 
 -- a construction is complete
 pub closed : (fs frames : List Frame) (f : Frame) (v : Value) (copied : List Value) → frames ≡ fs ++ f ∷ [] → copied ≡ f.copied ++ v ∷ [] → f.rest.now ≡ []
-    → (plugged fs (Con f.con copied) ≡ plugged frames v) × (nodes_behind fs ≤ nodes_behind frames)
+    → (filled_stack fs (Con f.con copied) ≡ filled_stack frames v) × (nodes_behind fs ≤ nodes_behind frames)
 closed fs frames f v copied e is none =
-    let same : Con f.con copied ≡ filled f v = ap (Con f.con) is ∙ ap (λ l. Con f.con (f.copied ++ v ∷ l)) (sym none) in (
-      ap (plugged fs) same ∙ sym (plugged-push fs f v) ∙ ap (λ l. plugged l v) (sym e),
+    let same : Con f.con copied ≡ filled_frame f v = ap (Con f.con) is ∙ ap (λ l. Con f.con (f.copied ++ v ∷ l)) (sym none) in (
+      ap (filled_stack fs) same ∙ sym (plugged-push fs f v) ∙ ap (λ l. filled_stack l v) (sym e),
       (let before : nodes_behind frames ≡ nodes_behind fs + nodes_left f = ap nodes_behind e ∙ remaining-push fs f in omega (arith, before)),
     )
 

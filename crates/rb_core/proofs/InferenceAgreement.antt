@@ -14,7 +14,7 @@ use Rattle.rb_core.specs.declared.pattern.Pat.{Pat}
 use Rattle.rb_core.specs.declared.expression.Op.{Op}
 use Rattle.rb_core.specs.declared.expression.Clause.{Clause}
 use Rattle.rb_core.specs.declared.expression.Expr.{Expr}
-use Rattle.rb_core.specs.Typing.{Typing, same_type, as_wanted, type_holds, number, integer, distinct_binders, twice_at, first_repeat, binder_of, field_types, subpatterns, pattern_params, pattern_binders, arguments, param_types, result_type, operand_wanted, operator_type, integer_operand, operands, clauses, rule_of, clause_rule, type_of, variable_type}
+use Rattle.rb_core.specs.Typing.{Typing, same_type, as_wanted, type_holds, number_typing, integer, distinct_binders, twice_at, first_repeat, binder_of, field_types, subpatterns, pattern_params, pattern_binders, arguments, param_types, result_type, operand_wanted, operator_type, integer_operand, operands_typing, clauses_typing, rule_of, clause_rule, type_of, variable_type}
 use Rattle.rb_core.specs.Inference.{Inference, binders, all_binders, operands_type, match_type, inferred_type, clause_inferred, binders_step}
 use Rattle.rb_core.proofs.PatternLaws as PL
 use Rattle.rb_core.proofs.ExpressionLaws as EL
@@ -22,7 +22,7 @@ use Rattle.rb_core.proofs.TypingLemmas.{pattern-Wild, pattern-Var, pattern-Num, 
 use Rattle.rb_core.proofs.TypingAnswers.{came, chosen, constructed, fits_found, fits_wanted, integer_is}
 use Rattle.rb_core.proofs.InferenceForms.{inferred-Num, inferred-Var, inferred-Call, inferred-Build, inferred-Binary, inferred-To, inferred-Let, inferred-Match, clause_inferred-is}
 
-number-is : (at n : ℕ) (wanted : Option Ty) (t : Ty) → number at n wanted ≡ Ok t → unwrap_or wanted (Int 64) ≡ t
+number-is : (at n : ℕ) (wanted : Option Ty) (t : Ty) → number_typing at n wanted ≡ Ok t → unwrap_or wanted (Int 64) ≡ t
 number-is at n None t e = cc
 number-is at n (Some w) t e = (chosen (type_holds w n) w t _ e).1
 
@@ -106,10 +106,10 @@ module _ (types : List DataDecl) (funs : List Fun) where
       ap (λ bs. ty c.body wanted (scope ++ bs)) (sym (pattern_binders-are types c.pat s within.from within.first_is)) ∙ within.then_is
 
   clauses-wanted : (cs : List Clause) (s w : Ty) (scope : List Binder) (t : Ty) → EL.EachBody HasWanted cs
-      → clauses (map (clause_rule types funs) cs) s (Some w) scope ≡ Ok t → w ≡ t
+      → clauses_typing (map (clause_rule types funs) cs) s (Some w) scope ≡ Ok t → w ≡ t
   clauses-wanted [] s w scope t each e = cc
   clauses-wanted (c ∷ cs) s w scope t each e =
-      let first = came (clause_rule types funs c s (Some w) scope) (λ found. clauses (map (clause_rule types funs) cs) s (Some found) scope) t e in
+      let first = came (clause_rule types funs c s (Some w) scope) (λ found. clauses_typing (map (clause_rule types funs) cs) s (Some found) scope) t e in
       let here = clause_typed c s (Some w) scope first.from first.first_is in
       each.0 w (scope ++ binders types c.pat s) first.from here ∙ clauses-wanted cs s first.from scope t each.1 first.then_is
 
@@ -124,7 +124,7 @@ module _ (types : List DataDecl) (funs : List Fun) where
         fits_wanted at w (Named c.ty) t (came (arguments at (map (rule_of types funs) es) (field_types types c) scope) (λ done. as_wanted at (Some w) (Named c.ty)) t
         (sym (type-Build types funs at c es (Some w) scope) ∙ e)).then_is;
     binary = λ at op a b ha hb w scope t e.
-        let parts = came (operands op (rule_of types funs a) (rule_of types funs b) (Some w) scope) (λ u. as_wanted at (Some w) (operator_type op u)) t
+        let parts = came (operands_typing op (rule_of types funs a) (rule_of types funs b) (Some w) scope) (λ u. as_wanted at (Some w) (operator_type op u)) t
         (sym (type-Binary types funs at op a b (Some w) scope) ∙ e) in
         fits_wanted at w (operator_type op parts.from) t parts.then_is;
     to = λ at bits a ha w scope t e.
@@ -133,7 +133,7 @@ module _ (types : List DataDecl) (funs : List Fun) where
     bound = λ at x u a b ha hb w scope t e.
         hb w _ t (came (ty a (Some u) scope) (λ v. ty b (Some w) (scope ++ record { var = x; ty = u } ∷ [])) t (sym (type-Let types funs at x u a b (Some w) scope) ∙ e)).then_is;
     choice = λ at s cs hs each w scope t e.
-        let scrutinee = came (ty s None scope) (λ v. clauses (map (clause_rule types funs) cs) v (Some w) scope) t (sym (type-Match types funs at s cs (Some w) scope) ∙ e) in
+        let scrutinee = came (ty s None scope) (λ v. clauses_typing (map (clause_rule types funs) cs) v (Some w) scope) t (sym (type-Match types funs at s cs (Some w) scope) ∙ e) in
         clauses-wanted cs scrutinee.from w scope t each scrutinee.then_is;
   }
 
@@ -145,12 +145,12 @@ module _ (types : List DataDecl) (funs : List Fun) where
   all_wanted (c ∷ cs) = (wanted-is_found c.body, all_wanted cs)
 
   -- clauses of which a type is wanted have that type
-  pub found_is : (cs : List Clause) (s w : Ty) (scope : List Binder) (t : Ty) → clauses (map (clause_rule types funs) cs) s (Some w) scope ≡ Ok t → w ≡ t
+  pub found_is : (cs : List Clause) (s w : Ty) (scope : List Binder) (t : Ty) → clauses_typing (map (clause_rule types funs) cs) s (Some w) scope ≡ Ok t → w ≡ t
   found_is cs s w scope t = clauses-wanted cs s w scope t (all_wanted cs)
 
   -- operands that have a type: that of the first, which is the wanted one or the inferred one
   operands-type : (op : Op) (a b : Expr) (wanted : Option Ty) (scope : List Binder) (u : Ty) → IsInferred a
-      → operands op (rule_of types funs a) (rule_of types funs b) wanted scope ≡ Ok u → operands_type op wanted (inferred_type types funs a None scope) ≡ u
+      → operands_typing op (rule_of types funs a) (rule_of types funs b) wanted scope ≡ Ok u → operands_type op wanted (inferred_type types funs a None scope) ≡ u
   operands-type op a b wanted scope u ha e =
       let first = came (integer_operand (rule_of types funs a) (operand_wanted op wanted) scope) (λ v. ty b (Some v) scope) u e in
       let found = came (ty a (operand_wanted op wanted) scope) (integer (rule_of types funs a).at) first.from first.first_is in
@@ -163,11 +163,11 @@ module _ (types : List DataDecl) (funs : List Fun) where
       of_wanted (Some w) v h = wanted-is_found a w scope v h
 
   match-type : (cs : List Clause) (s t : Ty) (wanted : Option Ty) (scope : List Binder) → EL.EachBody IsInferred cs
-      → clauses (map (clause_rule types funs) cs) s wanted scope ≡ Ok t → match_type types wanted (map (clause_inferred types funs) cs) s scope ≡ t
+      → clauses_typing (map (clause_rule types funs) cs) s wanted scope ≡ Ok t → match_type types wanted (map (clause_inferred types funs) cs) s scope ≡ t
   match-type cs s t (Some w) scope each e = found_is cs s w scope t e
   match-type [] s t None scope each e = cc
   match-type (c ∷ cs) s t None scope each e =
-      let first = came (clause_rule types funs c s None scope) (λ found. clauses (map (clause_rule types funs) cs) s (Some found) scope) t e in
+      let first = came (clause_rule types funs c s None scope) (λ found. clauses_typing (map (clause_rule types funs) cs) s (Some found) scope) t e in
       let here = clause_typed c s None scope first.from first.first_is in
       ap (λ (b : Pat × Inference). b.1 None (scope ++ binders types b.0 s)) (clause_inferred-is types funs c)
       ∙ each.0 None (scope ++ binders types c.pat s) first.from here
@@ -186,7 +186,7 @@ module _ (types : List DataDecl) (funs : List Fun) where
         ∙ fits_found at wanted (Named c.ty) t (came (arguments at (map (rule_of types funs) es) (field_types types c) scope) (λ done. as_wanted at wanted (Named c.ty)) t
         (sym (type-Build types funs at c es wanted scope) ∙ e)).then_is;
     binary = λ at op a b ha hb wanted scope t e.
-        let parts = came (operands op (rule_of types funs a) (rule_of types funs b) wanted scope) (λ u. as_wanted at wanted (operator_type op u)) t
+        let parts = came (operands_typing op (rule_of types funs a) (rule_of types funs b) wanted scope) (λ u. as_wanted at wanted (operator_type op u)) t
         (sym (type-Binary types funs at op a b wanted scope) ∙ e) in
         inferred-Binary types funs wanted scope at op a b
         ∙ ap (operator_type op) (operands-type op a b wanted scope parts.from ha parts.first_is)
@@ -199,7 +199,7 @@ module _ (types : List DataDecl) (funs : List Fun) where
         inferred-Let types funs wanted scope at x u a b
         ∙ hb wanted _ t (came (ty a (Some u) scope) (λ v. ty b wanted (scope ++ record { var = x; ty = u } ∷ [])) t (sym (type-Let types funs at x u a b wanted scope) ∙ e)).then_is;
     choice = λ at s cs hs each wanted scope t e.
-        let scrutinee = came (ty s None scope) (λ v. clauses (map (clause_rule types funs) cs) v wanted scope) t (sym (type-Match types funs at s cs wanted scope) ∙ e) in
+        let scrutinee = came (ty s None scope) (λ v. clauses_typing (map (clause_rule types funs) cs) v wanted scope) t (sym (type-Match types funs at s cs wanted scope) ∙ e) in
         inferred-Match types funs wanted scope at s cs
         ∙ ap (λ v. match_type types wanted (map (clause_inferred types funs) cs) v scope) (hs None scope scrutinee.from scrutinee.first_is)
         ∙ match-type cs scrutinee.from t wanted scope each scrutinee.then_is;

@@ -1,10 +1,19 @@
 -- Tests of a list's items, one after another.
-use Rattle.std.proofs.Common.{◌≡◌, ℕ, zero, suc, ◌+◌, ◌<◌, List, [], ◌∷◌, map, drop, length, Bool, true, false, Option, Some, None, ◌&&◌, get_or, refl, ap, ◌∙◌, arith, add-one}
+use Rattle.std.proofs.Common.{◌≡◌, ℕ, zero, suc, ◌+◌, ◌<◌, List, [], ◌∷◌, map, drop, length, Bool, true, false, Option, Some, None, ◌&&◌, get_or, refl, sym, ap, ◌∙◌, arith, add-one}
 use Rattle.std.proofs.Math.Bool.{and-false}
 use Rattle.rb_core.specs.declared.value.Value.{Value}
-use Rattle.std.specs.Prelude.{if◌then◌else◌}
+use Rattle.std.specs.Prelude.{slice_get, if◌then◌else◌}
+use Rattle.std.specs.List.{list_all}
+use Rattle.std.proofs.lemmas.Bool.{and_parts}
+use Rattle.std.proofs.lemmas.Option.{same_Some}
 use Rattle.rb_core.specs.declared.pattern.Pat.{Pat}
 use Rattle.rb_core.specs.Matching.{all_pass, matches_of, clause_matches, next_clause, chosen_clause, IsChosen}
+
+-- what all items pass, each passes
+pub all_at : {A : Type 0} (test : A → Bool) (xs : List A) (k : ℕ) (x : A) → list_all test xs ≡ true → slice_get xs k ≡ Some x → test x ≡ true
+all_at test [] k x all at = absurd cc
+all_at test (y ∷ xs) zero x all at = ap test (sym (same_Some y x at)) ∙ (and_parts (test y) (list_all test xs) all).0
+all_at test (y ∷ xs) (suc k) x all at = all_at test xs k x (and_parts (test y) (list_all test xs) all).1 at
 
 module _ {A : Type 0} (m : A → Value → Bool) where
   from_next : (ps : List A) (vs : List Value) (i : ℕ) (p : A) (v : Value) → i < length ps → length ps ≡ length vs

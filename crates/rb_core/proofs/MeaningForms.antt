@@ -17,7 +17,7 @@ use Rattle.rb_core.specs.declared.expression.Expr.TheOpen as E
 use Rattle.rb_core.specs.declared.expression.Expr.TheFolds.{para-roll-Expr, para-roll-Clause}
 use Rattle.rb_core.specs.Typing.{field_types, param_types, operand_wanted}
 use Rattle.rb_core.specs.Inference.{Inference, width_of, with_binder, operands_type, match_type, inferred_type, clause_inferred}
-use Rattle.rb_core.specs.Meaning.{Meaning, Calls, Part, Branch, means, branch_means, branch_inferred, value_in, with_value, value_outcome, after, then_do, then_with, all_of, first_of, construction_outcome, operation_outcome, cut_to, meaning_step, branch_step, meaning_of, clause_meaning}
+use Rattle.rb_core.specs.Meaning.{Meaning, Calls, Part, Branch, part_meaning, branch_meaning, branch_inferred, value_in, with_value, value_outcome, after, then_do, then_with, all_of, first_of, construction_outcome, operation_outcome, cut_to, meaning_step, branch_step, meaning_of, clause_meaning}
 
 module _ (p : Program) (calls : Calls) (f : ℕ) where
   abbrev part : Expr → Part
@@ -26,11 +26,11 @@ module _ (p : Program) (calls : Calls) (f : ℕ) where
   abbrev branch : Clause → Branch
   branch c = (c, clause_meaning p calls f c)
 
-  means_of_parts : (es : List Expr) → map means (map part es) ≡ map (meaning_of p calls f) es
+  means_of_parts : (es : List Expr) → map part_meaning (map part es) ≡ map (meaning_of p calls f) es
   means_of_parts [] = refl
   means_of_parts (e ∷ es) = ap (λ (ms : List Meaning). meaning_of p calls f e ∷ ms) (means_of_parts es)
 
-  means_of_branches : (cs : List Clause) → map branch_means (map branch cs) ≡ map (clause_meaning p calls f) cs
+  means_of_branches : (cs : List Clause) → map branch_meaning (map branch cs) ≡ map (clause_meaning p calls f) cs
   means_of_branches [] = refl
   means_of_branches (c ∷ cs) = ap (λ (ms : List (Pat × Meaning)). clause_meaning p calls f c ∷ ms) (means_of_branches cs)
 

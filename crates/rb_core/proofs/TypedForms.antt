@@ -12,7 +12,7 @@ use Rattle.rb_core.specs.declared.expression.Op.{Op}
 use Rattle.rb_core.specs.declared.expression.Clause.{Clause}
 use Rattle.rb_core.specs.declared.expression.Expr.{Expr}
 use Rattle.rb_core.specs.declared.expression.Expr as X
-use Rattle.rb_core.specs.Typing.{as_wanted, type_holds, number, integer, operand_wanted, operator_type, integer_operand, operands, variable_type, field_types, rule_of, clause_rule, clauses, pattern_binders, type_of, arguments, each_argument, param_types, result_type}
+use Rattle.rb_core.specs.Typing.{Typing, and_then, as_wanted, type_holds, number_typing, integer, operand_wanted, operator_type, integer_operand, operands_typing, variable_type, field_types, rule_of, clause_rule, clauses_typing, pattern_binders, type_of, arguments, each_argument, param_types, result_type}
 use Rattle.rb_core.specs.Inference.{with_binder, operands_type, inferred_type, binders, match_type, clause_inferred}
 use Rattle.rb_core.specs.Clauses.{wanted_of, PatternIsTyped}
 use Rattle.rb_core.proofs.TypingLemmas.{type-Num, type-Var, type-Call, type-Build, type-Binary, type-To, type-Let, type-Match, type-Clause}
@@ -25,10 +25,17 @@ held_number : (n : ℕ) (w : Ty) → type_holds w n ≡ true → (bits : ℕ) ×
 held_number n (Int bits) h = let lt : n < 2 ^ bits = grind (arith, nat_tests, h) in (bits, refl, lt)
 held_number n (Named t) h = cc
 
-number_typed : (at n : ℕ) (wanted : Option Ty) (t : Ty) → n < 2 ^ 64 → number at n wanted ≡ Ok t → (bits : ℕ) × (t ≡ Int bits) × (n < 2 ^ bits) × (unwrap_or wanted (Int 64) ≡ t)
+number_typed : (at n : ℕ) (wanted : Option Ty) (t : Ty) → n < 2 ^ 64 → number_typing at n wanted ≡ Ok t → (bits : ℕ) × (t ≡ Int bits) × (n < 2 ^ bits) × (unwrap_or wanted (Int 64) ≡ t)
 number_typed at n None t lt e = (64, sym (ok-same e), lt, ok-same e)
 number_typed at n (Some w) t lt e =
     let c = chosen (type_holds w n) w t _ e in let h = held_number n w c.0 in (h.0, sym c.1 ∙ h.1, h.2, c.1)
+
+-- the integer type that an operand is typed as, which is the type that comes of it
+integer_typed : (at : ℕ) (operand : Typing Ty) (t : Ty) → and_then operand (integer at) ≡ Ok t → (n : ℕ) × (operand ≡ Ok (Int n)) × (Int n ≡ t)
+integer_typed at operand t e =
+    let h = came operand (integer at) t e in
+    let whole = integer_is at h.from t h.then_is in
+    (whole.0, h.first_is ∙ ap (λ u. Ok u) (whole.2 ∙ whole.1), sym whole.1)
 
 module _ (types : List DataDecl) (funs : List Fun) where
   pub typed-Num : (at n : ℕ) (wanted : Option Ty) (scope : List Binder) (t : Ty) → n < 2 ^ 64 → type_of types funs (X.Num at n) wanted scope ≡ Ok t
@@ -45,18 +52,17 @@ module _ (types : List DataDecl) (funs : List Fun) where
       let same = wanted-is_found types funs a u scope h.from h.first_is in
       (subst (λ v. type_of types funs a (Some u) scope ≡ Ok v) (sym same) h.first_is, h.then_is)
 
-  pub operands_int : (op : Op) (a b : Expr) (wanted : Option Ty) (scope : List Binder) (u : Ty) → operands op (rule_of types funs a) (rule_of types funs b) wanted scope ≡ Ok u
+  pub operands_int : (op : Op) (a b : Expr) (wanted : Option Ty) (scope : List Binder) (u : Ty) → operands_typing op (rule_of types funs a) (rule_of types funs b) wanted scope ≡ Ok u
       → (n : ℕ) × (u ≡ Int n) × (operands_type op wanted (inferred_type types funs a None scope) ≡ u)
       × (type_of types funs a (operand_wanted op wanted) scope ≡ Ok u) × (type_of types funs b (Some u) scope ≡ Ok u) × (unwrap_or (operand_wanted op wanted) u ≡ u)
   operands_int op a b wanted scope u e =
       let first = came (integer_operand (rule_of types funs a) (operand_wanted op wanted) scope) (λ v. type_of types funs b (Some v) scope) u e in
-      let found = came (type_of types funs a (operand_wanted op wanted) scope) (integer (rule_of types funs a).at) first.from first.first_is in
-      let whole = integer_is (rule_of types funs a).at found.from first.from found.then_is in
+      let operand = integer_typed (rule_of types funs a).at (type_of types funs a (operand_wanted op wanted) scope) first.from first.first_is in
       let same = wanted-is_found types funs b first.from scope u first.then_is in
-      let is : found.from ≡ u = whole.2 ∙ same in
-      let typed = subst (λ v. type_of types funs a (operand_wanted op wanted) scope ≡ Ok v) is found.first_is in (
-        whole.0,
-        sym same ∙ whole.1,
+      let is : Int operand.0 ≡ u = operand.2 ∙ same in
+      let typed = subst (λ v. type_of types funs a (operand_wanted op wanted) scope ≡ Ok v) is operand.1 in (
+        operand.0,
+        sym is,
         of_wanted (operand_wanted op wanted) u typed,
         typed,
         subst (λ w. type_of types funs b (Some w) scope ≡ Ok u) same first.then_is,
@@ -77,7 +83,7 @@ module _ (types : List DataDecl) (funs : List Fun) where
       × (type_of types funs a (operand_wanted op wanted) scope ≡ Ok (Int n)) × (type_of types funs b (Some (Int n)) scope ≡ Ok (Int n))
       × (unwrap_or (operand_wanted op wanted) (Int n) ≡ Int n) × (operator_type op (Int n) ≡ t)
   typed-Binary at op a b wanted scope t e =
-      let h = came (operands op (rule_of types funs a) (rule_of types funs b) wanted scope) (λ u. as_wanted at wanted (operator_type op u)) t (sym (type-Binary types funs at op a b wanted scope) ∙ e) in
+      let h = came (operands_typing op (rule_of types funs a) (rule_of types funs b) wanted scope) (λ u. as_wanted at wanted (operator_type op u)) t (sym (type-Binary types funs at op a b wanted scope) ∙ e) in
       let p = operands_int op a b wanted scope h.from h.first_is in (
         p.0,
         p.2 ∙ p.1,
@@ -120,26 +126,25 @@ module _ (types : List DataDecl) (funs : List Fun) where
       → (n : ℕ) × (type_of types funs a None scope ≡ Ok (Int n)) × (Int bits ≡ t)
   typed-To at bits a wanted scope t e =
       let h = came (integer_operand (rule_of types funs a) None scope) (λ u. as_wanted at wanted (Int bits)) t (sym (type-To types funs at bits a wanted scope) ∙ e) in
-      let found = came (type_of types funs a None scope) (integer (rule_of types funs a).at) h.from h.first_is in
-      let whole = integer_is (rule_of types funs a).at found.from h.from found.then_is in
-      (whole.0, found.first_is ∙ ap (λ u. Ok u) (whole.2 ∙ whole.1), fits_found at wanted (Int bits) t h.then_is)
+      let operand = integer_typed (rule_of types funs a).at (type_of types funs a None scope) h.from h.first_is in
+      (operand.0, operand.1, fits_found at wanted (Int bits) t h.then_is)
 
   -- Clauses
 
   -- each clause is typed, at the type of the whole
-  clauses_typed : (cs : List Clause) (s : Ty) (wanted : Option Ty) (scope : List Binder) (t : Ty) → clauses (map (clause_rule types funs) cs) s wanted scope ≡ Ok t → (k : ℕ) (c : Clause) → slice_get cs k ≡ Some c
+  clauses_typed : (cs : List Clause) (s : Ty) (wanted : Option Ty) (scope : List Binder) (t : Ty) → clauses_typing (map (clause_rule types funs) cs) s wanted scope ≡ Ok t → (k : ℕ) (c : Clause) → slice_get cs k ≡ Some c
       → type_of types funs c.body (wanted_of k wanted (Some t)) (scope ++ binders types c.pat s) ≡ Ok t
   clauses_typed [] s wanted scope t e k c at = cc
   clauses_typed (d ∷ cs) s wanted scope t e k c at = pick k at (λ j there. clauses_typed cs s (Some t) scope t rest j c there)
     where
-      first : Came (clause_rule types funs d s wanted scope) (λ found. clauses (map (clause_rule types funs) cs) s (Some found) scope) t
-      first = came (clause_rule types funs d s wanted scope) (λ found. clauses (map (clause_rule types funs) cs) s (Some found) scope) t e
+      first : Came (clause_rule types funs d s wanted scope) (λ found. clauses_typing (map (clause_rule types funs) cs) s (Some found) scope) t
+      first = came (clause_rule types funs d s wanted scope) (λ found. clauses_typing (map (clause_rule types funs) cs) s (Some found) scope) t e
 
       is : first.from ≡ t
       is = found_is types funs cs s first.from scope t first.then_is
 
-      rest : clauses (map (clause_rule types funs) cs) s (Some t) scope ≡ Ok t
-      rest = subst (λ u. clauses (map (clause_rule types funs) cs) s (Some u) scope ≡ Ok t) is first.then_is
+      rest : clauses_typing (map (clause_rule types funs) cs) s (Some t) scope ≡ Ok t
+      rest = subst (λ u. clauses_typing (map (clause_rule types funs) cs) s (Some u) scope ≡ Ok t) is first.then_is
 
       pick : (i : ℕ) → slice_get (d ∷ cs) i ≡ Some c → ((j : ℕ) → slice_get cs j ≡ Some c → type_of types funs c.body (wanted_of j (Some t) (Some t)) (scope ++ binders types c.pat s) ≡ Ok t)
           → type_of types funs c.body (wanted_of i wanted (Some t)) (scope ++ binders types c.pat s) ≡ Ok t
@@ -156,7 +161,7 @@ module _ (types : List DataDecl) (funs : List Fun) where
       × (match_type types wanted (map (clause_inferred types funs) cs) (inferred_type types funs e None scope) scope ≡ t)
       × ((k : ℕ) (c : Clause) → slice_get cs k ≡ Some c → type_of types funs c.body (wanted_of k wanted (Some t)) (scope ++ binders types c.pat s) ≡ Ok t)
   typed-Match at e cs wanted scope t typed =
-      let h = came (type_of types funs e None scope) (λ s. clauses (map (clause_rule types funs) cs) s wanted scope) t (sym (type-Match types funs at e cs wanted scope) ∙ typed) in (
+      let h = came (type_of types funs e None scope) (λ s. clauses_typing (map (clause_rule types funs) cs) s wanted scope) t (sym (type-Match types funs at e cs wanted scope) ∙ typed) in (
         h.from,
         h.first_is,
         inferred-is_found types funs e None scope h.from h.first_is,
@@ -165,12 +170,12 @@ module _ (types : List DataDecl) (funs : List Fun) where
       )
 
   -- each clause's pattern is typed, at the type of the scrutinee
-  patterns_in : (cs : List Clause) (s : Ty) (wanted : Option Ty) (scope : List Binder) (t : Ty) → clauses (map (clause_rule types funs) cs) s wanted scope ≡ Ok t → ((k : ℕ) (c : Clause) → slice_get cs k ≡ Some c → PatternIsTyped types s c.pat)
+  patterns_in : (cs : List Clause) (s : Ty) (wanted : Option Ty) (scope : List Binder) (t : Ty) → clauses_typing (map (clause_rule types funs) cs) s wanted scope ≡ Ok t → ((k : ℕ) (c : Clause) → slice_get cs k ≡ Some c → PatternIsTyped types s c.pat)
   patterns_in [] s wanted scope t e k c at = cc
-  patterns_in (d ∷ cs) s wanted scope t e k c at = pick k at (λ u h j there. patterns_in cs s (Some u) scope t h j c there) (came (clause_rule types funs d s wanted scope) (λ found. clauses (map (clause_rule types funs) cs) s (Some found) scope) t e)
+  patterns_in (d ∷ cs) s wanted scope t e k c at = pick k at (λ u h j there. patterns_in cs s (Some u) scope t h j c there) (came (clause_rule types funs d s wanted scope) (λ found. clauses_typing (map (clause_rule types funs) cs) s (Some found) scope) t e)
     where
-      pick : (k : ℕ) → slice_get (d ∷ cs) k ≡ Some c → ((u : Ty) → clauses (map (clause_rule types funs) cs) s (Some u) scope ≡ Ok t → (j : ℕ) → slice_get cs j ≡ Some c → PatternIsTyped types s c.pat)
-          → Came (clause_rule types funs d s wanted scope) (λ found. clauses (map (clause_rule types funs) cs) s (Some found) scope) t → PatternIsTyped types s c.pat
+      pick : (k : ℕ) → slice_get (d ∷ cs) k ≡ Some c → ((u : Ty) → clauses_typing (map (clause_rule types funs) cs) s (Some u) scope ≡ Ok t → (j : ℕ) → slice_get cs j ≡ Some c → PatternIsTyped types s c.pat)
+          → Came (clause_rule types funs d s wanted scope) (λ found. clauses_typing (map (clause_rule types funs) cs) s (Some found) scope) t → PatternIsTyped types s c.pat
       pick zero at more first =
           let is : d ≡ c = cc at in
           let within = came (pattern_binders types d.pat s) (λ bs. type_of types funs d.body wanted (scope ++ bs)) first.from (sym (type-Clause types funs d.pat d.body s wanted scope) ∙ first.first_is) in
@@ -179,6 +184,6 @@ module _ (types : List DataDecl) (funs : List Fun) where
 
   pub patterns_typed : (at : ℕ) (e : Expr) (cs : List Clause) (wanted : Option Ty) (scope : List Binder) (t s : Ty) → type_of types funs (X.Match at e cs) wanted scope ≡ Ok t → type_of types funs e None scope ≡ Ok s → ((k : ℕ) (c : Clause) → slice_get cs k ≡ Some c → PatternIsTyped types s c.pat)
   patterns_typed at e cs wanted scope t s typed first =
-      let h = came (type_of types funs e None scope) (λ s. clauses (map (clause_rule types funs) cs) s wanted scope) t (sym (type-Match types funs at e cs wanted scope) ∙ typed) in
+      let h = came (type_of types funs e None scope) (λ s. clauses_typing (map (clause_rule types funs) cs) s wanted scope) t (sym (type-Match types funs at e cs wanted scope) ∙ typed) in
       let same : h.from ≡ s = ok-same (sym h.first_is ∙ first) in
       subst (λ u. (k : ℕ) (c : Clause) → slice_get cs k ≡ Some c → PatternIsTyped types u c.pat) same (patterns_in cs h.from wanted scope t h.then_is)

@@ -2,7 +2,8 @@
 -- layout is a tree. A split has an arm for each literal, with a tree under it, and perhaps a tree under
 -- `else`. A leaf has a provenance, the pattern of the values that it holds, and items. An item is a word with
 -- its parts, or all words of a field, written as the field's path, a list of field numbers. A part that is a
--- pointer has the items of its block. A list is short where a number of 32 bits counts it.
+-- pointer has the items of its block. A list is short where a number of 32 bits counts it. A
+-- step goes over one layer of what is written, where the results for what is inside it are given.
 use Rattle.std.specs.Prelude.{ℕ, ◌+◌, ◌^◌, List, [], ◌∷◌, ◌++◌, map, length, Bool, true, ◌&&◌, nat_lt, Option, Some, None}
 use Rattle.std.specs.List.{list_all, flat_map, sum_by}
 use Rattle.rb_core.specs.declared.pattern.Pat.{Pat}
@@ -85,7 +86,7 @@ kind_step (I.Slice path from bits) = written_path path
 kind_step (I.PartKind::Word path word) = written_path path
 kind_step (I.Pointer align items) = written_round 0 0 items
 
--- what is written in one layer of a part: that of what it holds, and the part itself
+-- what is written in a part, from what is written in what it holds: that, with the part itself counted
 abbrev pub part_step : PartDecl-F ItemCounts ItemCounts ItemCounts → ItemCounts
 part_step p = record { items = p.kind.items; parts = p.kind.parts + 1; short = p.kind.short }
 

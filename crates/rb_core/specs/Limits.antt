@@ -36,3 +36,7 @@ most_levels = 128
 -- the most calls that a run may be given, that of `main` counted
 abbrev pub most_calls : ℕ
 most_calls = 1000000000
+
+-- the most calls that `eval` may be given, which nests as deep as they do
+abbrev pub most_eval_calls : ℕ
+most_eval_calls = 1000

@@ -46,23 +46,23 @@ matches_of = fold-Pat (Value → Bool) matches_step
 
 -- what patterns bind, each at the value in its place, from left to right, up to where the patterns or the
 -- values end; a pattern is given as what it binds at a value
-abbrev pub all_bound : List (Value → List Binding) → List Value → List Binding
-all_bound [] vs = []
-all_bound (b ∷ bs) [] = []
-all_bound (b ∷ bs) (v ∷ vs) = b v ++ all_bound bs vs
+abbrev pub all_bindings : List (Value → List Binding) → List Value → List Binding
+all_bindings [] vs = []
+all_bindings (b ∷ bs) [] = []
+all_bindings (b ∷ bs) (v ∷ vs) = b v ++ all_bindings bs vs
 
 -- what subpatterns bind at one layer of a value: at a construction, each at the subvalue in its place; at a
 -- number nothing
-abbrev pub bound_within : List (Value → List Binding) → Value-F Value → List Binding
-bound_within bs (V.Num m) = []
-bound_within bs (V.Con k vs) = all_bound bs vs
+abbrev pub layer_bindings : List (Value → List Binding) → Value-F Value → List Binding
+layer_bindings bs (V.Num m) = []
+layer_bindings bs (V.Con k vs) = all_bindings bs vs
 
 -- what one layer of a pattern binds at a value, from what its subpatterns bind
 abbrev pub bindings_step : Pat-F (Value → List Binding) → Value → List Binding
 bindings_step (P.Wild at) v = []
 bindings_step (P.Var at x) v = record { var = x; value = v } ∷ []
 bindings_step (P.Num at n) v = []
-bindings_step (P.Con at c bs) v = bound_within bs (out-Value v)
+bindings_step (P.Con at c bs) v = layer_bindings bs (out-Value v)
 
 -- the variables that a pattern binds at a value, with their values, from left to right; at a value that the
 -- pattern does not match, what is bound says nothing

@@ -86,8 +86,8 @@ abbrev pub value_outcome : Value → ℕ → Outcome
 value_outcome v left = record { log = []; end = Done v left }
 
 -- the outcome without events that ends where a call is due and none is left
-abbrev pub spent : Outcome
-spent = record { log = []; end = Spent }
+abbrev pub spent_outcome : Outcome
+spent_outcome = record { log = []; end = Spent }
 
 -- the events of a log, and then the outcome o: its events behind them, and its end
 abbrev pub after : List Event → Outcome → Outcome
@@ -96,7 +96,7 @@ after log o = record { log = log ++ o.log; end = o.end }
 -- what follows an end: where it is done, what `go` does with the value and the calls left; else it is spent
 abbrev pub at_end : SourceEnd → (Value → ℕ → Outcome) → Outcome
 at_end (Done v left) go = go v left
-at_end Spent go = spent
+at_end Spent go = spent_outcome
 
 -- an outcome and what follows its end: where it is done, `go` with its value and the calls left, whose events
 -- stand behind those of the outcome; where it is spent, so is the whole, with the outcome's events alone
@@ -123,7 +123,7 @@ parts_after log o = record { log = log ++ o.log; end = o.end }
 -- where they are cut, the whole is spent
 abbrev pub at_parts_end : PartsEnd → (List Value → ℕ → Outcome) → Outcome
 at_parts_end (AllDone vs left) go = go vs left
-at_parts_end Cut go = spent
+at_parts_end Cut go = spent_outcome
 
 -- the outcome of parts and what follows their end: where all are done, `go` with their values and the calls
 -- left, whose events stand behind those of the parts; where they are cut, the whole is spent, with the parts'
@@ -195,12 +195,12 @@ abbrev pub Branch : Type 0
 Branch = Clause × (Pat × Meaning)
 
 -- what a part does
-abbrev pub means : Part → Meaning
-means part = part.1
+abbrev pub part_meaning : Part → Meaning
+part_meaning part = part.1
 
 -- a clause's pattern, and what its body does
-abbrev pub branch_means : Branch → Pat × Meaning
-branch_means branch = branch.1
+abbrev pub branch_meaning : Branch → Pat × Meaning
+branch_meaning branch = branch.1
 
 -- a clause's pattern, and the type that is read off its body
 abbrev pub branch_inferred : Program → Branch → Pat × Inference
@@ -213,9 +213,9 @@ abbrev pub meaning_step : Program → Calls → ℕ → Expr-F Part Branch → M
 meaning_step p calls f (E.Num at n) wanted scope left env = value_outcome (Num n) left
 meaning_step p calls f (E.Var at x) wanted scope left env = value_outcome (value_in env x) left
 meaning_step p calls f (E.Call at g es) wanted scope left env =
-    then_with (all_of (map means es) (param_types p.funs g) scope [] left env) (λ vs rest. calls g rest vs)
+    then_with (all_of (map part_meaning es) (param_types p.funs g) scope [] left env) (λ vs rest. calls g rest vs)
 meaning_step p calls f (E.Build at c es) wanted scope left env =
-    then_with (all_of (map means es) (field_types p.types c) scope [] left env) (construction_outcome c)
+    then_with (all_of (map part_meaning es) (field_types p.types c) scope [] left env) (construction_outcome c)
 meaning_step p calls f (E.Binary at op a b) wanted scope left env =
     let t = operands_type op wanted (inferred_type p.types p.funs a.0 None scope) in
     then_do (a.1 (operand_wanted op wanted) scope left env)
@@ -227,7 +227,7 @@ meaning_step p calls f (E.Match at e cs) wanted scope left env =
     let t = inferred_type p.types p.funs e.0 None scope in
     let others = Some (match_type p.types wanted (map (branch_inferred p) cs) t scope) in
     then_do (e.1 None scope left env) (λ v rest. after (Matched f at ∷ [])
-    (first_of p.types t (map branch_means cs) wanted others scope v rest env))
+    (first_of p.types t (map branch_meaning cs) wanted others scope v rest env))
 
 -- one layer of a clause: its pattern, and what its body does
 abbrev pub branch_step : Clause-F Part Branch → Pat × Meaning
@@ -259,8 +259,8 @@ body_outcome p calls (Some f) g left vs =
 -- what a call of function g does, with so many calls left, of which it takes one, and the arguments vs, where
 -- calls nest at most k deep: it is spent where no call is left, or k is 0
 abbrev pub call_within : Program → ℕ → Calls
-call_within p k g zero vs = spent
-call_within p zero g (suc left) vs = spent
+call_within p k g zero vs = spent_outcome
+call_within p zero g (suc left) vs = spent_outcome
 call_within p (suc k) g (suc left) vs = body_outcome p (call_within p k) (slice_get p.funs g) g left vs
 
 -- what a call of function g does, with n calls left and the arguments vs: calls nest no deeper than there are

@@ -138,8 +138,8 @@ subpatterns (p ∷ ps) (t ∷ ts) = and_then (p t) (λ bound. also_bound bound (
 
 -- what the subpatterns of a constructor bind at the types of its fields. That there are as many of one as of
 -- the other is checked before any of them; the fault is at the constructor's token
-abbrev pub fields_match : ℕ → List PatternRule → List Ty → Typing (List Param)
-fields_match at ps ts = if length ps == length ts then subpatterns ps ts else Err (Arity at (length ts) (length ps))
+abbrev pub field_params : ℕ → List PatternRule → List Ty → Typing (List Param)
+field_params at ps ts = if length ps == length ts then subpatterns ps ts else Err (Arity at (length ts) (length ps))
 
 -- what one layer of a pattern binds at type t: a number has to be of the type, and a constructor of the data
 -- type, else another type is found at the pattern's token; a variable has type t, and a wildcard and a number
@@ -149,7 +149,7 @@ pattern_step types (P.Wild at) t = Ok []
 pattern_step types (P.Var at x) t = Ok (record { at = at; var = x; ty = t } ∷ [])
 pattern_step types (P.Num at n) t = if type_holds t n then Ok [] else Err (Mismatch at t (number_type n))
 pattern_step types (P.Con at c ps) t =
-    if same_type t (Named c.ty) then fields_match at ps (field_types types c) else Err (Mismatch at t (Named c.ty))
+    if same_type t (Named c.ty) then field_params at ps (field_types types c) else Err (Mismatch at t (Named c.ty))
 
 -- what a pattern binds at a type, or the first fault in its parts; a variable may still stand twice in it
 abbrev pub pattern_params : List DataDecl → Pat → PatternRule
@@ -174,9 +174,9 @@ abbrev pub ClauseRule : Type 0
 ClauseRule = Ty → Option Ty → List Binder → Typing Ty
 
 -- the type of a number: the wanted type, if it holds the number, else a fault; u64 where none is wanted
-abbrev pub number : ℕ → ℕ → Option Ty → Typing Ty
-number at n None = Ok (Int 64)
-number at n (Some wanted) = if type_holds wanted n then Ok wanted else Err (Mismatch at wanted (number_type n))
+abbrev pub number_typing : ℕ → ℕ → Option Ty → Typing Ty
+number_typing at n None = Ok (Int 64)
+number_typing at n (Some wanted) = if type_holds wanted n then Ok wanted else Err (Mismatch at wanted (number_type n))
 
 -- each argument typed with the type in its place wanted, from left to right up to where the arguments or the
 -- types end, or their first fault
@@ -238,17 +238,17 @@ integer_operand e wanted scope = and_then (e.answer wanted scope) (integer e.at)
 
 -- the type of an operator's operands: the first has to be an integer, and of the second the type of the first
 -- is wanted
-abbrev pub operands : Op → Rule → Rule → Option Ty → List Binder → Typing Ty
-operands op a b wanted scope =
+abbrev pub operands_typing : Op → Rule → Rule → Option Ty → List Binder → Typing Ty
+operands_typing op a b wanted scope =
     and_then (integer_operand a (operand_wanted op wanted) scope) (λ t. b.answer (Some t) scope)
 
 -- the type of a match's clauses, with a scrutinee of this type: the type that is found for each clause is
 -- wanted of the next. Behind the last clause it is the wanted type; u64 where there is no clause and none is
 -- wanted, which a well numbered program never meets
-abbrev pub clauses : List ClauseRule → Ty → Option Ty → List Binder → Typing Ty
-clauses [] scrutinee wanted scope = Ok (unwrap_or wanted (Int 64))
-clauses (c ∷ cs) scrutinee wanted scope =
-    and_then (c scrutinee wanted scope) (λ found. clauses cs scrutinee (Some found) scope)
+abbrev pub clauses_typing : List ClauseRule → Ty → Option Ty → List Binder → Typing Ty
+clauses_typing [] scrutinee wanted scope = Ok (unwrap_or wanted (Int 64))
+clauses_typing (c ∷ cs) scrutinee wanted scope =
+    and_then (c scrutinee wanted scope) (λ found. clauses_typing cs scrutinee (Some found) scope)
 
 -- what one layer of a clause is typed as: its pattern at the scrutinee's type, then its body, in the scope
 -- with what the pattern binds behind it
@@ -258,20 +258,20 @@ clause_step types c scrutinee wanted scope =
 
 -- what one layer of an expression is typed as, from the rules of its parts
 abbrev pub answer_step : List DataDecl → List Fun → Expr-F Rule ClauseRule → Option Ty → List Binder → Typing Ty
-answer_step types funs (E.Num at n) wanted scope = number at n wanted
+answer_step types funs (E.Num at n) wanted scope = number_typing at n wanted
 answer_step types funs (E.Var at x) wanted scope = as_wanted at wanted (variable_type x scope)
 answer_step types funs (E.Call at g es) wanted scope =
     and_then (arguments at es (param_types funs g) scope) (λ typed. as_wanted at wanted (result_type funs g))
 answer_step types funs (E.Build at c es) wanted scope =
     and_then (arguments at es (field_types types c) scope) (λ typed. as_wanted at wanted (Named c.ty))
 answer_step types funs (E.Binary at op a b) wanted scope =
-    and_then (operands op a b wanted scope) (λ t. as_wanted at wanted (operator_type op t))
+    and_then (operands_typing op a b wanted scope) (λ t. as_wanted at wanted (operator_type op t))
 answer_step types funs (E.To at bits a) wanted scope =
     and_then (integer_operand a None scope) (λ t. as_wanted at wanted (Int bits))
 answer_step types funs (E.Let at x ty a b) wanted scope =
     and_then (a.answer (Some ty) scope) (λ t. b.answer wanted (scope ++ record { var = x; ty = ty } ∷ []))
 answer_step types funs (E.Match at e cs) wanted scope =
-    and_then (e.answer None scope) (λ scrutinee. clauses cs scrutinee wanted scope)
+    and_then (e.answer None scope) (λ scrutinee. clauses_typing cs scrutinee wanted scope)
 
 -- the first token of one layer of an expression
 abbrev pub token_step : Expr-F Rule ClauseRule → ℕ

@@ -1,3 +1,4 @@
 pub mod Copying
 pub mod Evaluation
+pub mod Order
 pub mod Texts

@@ -1,8 +1,7 @@
 //! Copies of values, without recursion: a stack of frames holds the constructions that are half
 //! copied, from the outermost to the innermost.
 
-ghost use Rattle.std.specs.Prelude.{◌≡◌, ◌+◌, ◌<◌, ◌≤◌, IfOk};
-ghost use Rattle.rb_core.specs.Values.{node_count};
+ghost use Rattle.std.specs.Prelude.{◌≡◌, ◌<◌, IfOk};
 ghost use Rattle.rb_core.specs.inner.Copying.{Enters, GoesUp};
 
 use crate::seq::Seq;

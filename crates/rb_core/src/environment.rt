@@ -1,8 +1,7 @@
 //! The variables of a function that runs: their types and their values.
 
 ghost use Rattle.std.specs.Prelude.{◌≡◌, ◌++◌, IfOk, OnOk, map, take, length};
-ghost use Rattle.rb_core.specs.Typing.{binder_of};
-ghost use Rattle.rb_core.specs.Matching.{all_bound, bindings};
+ghost use Rattle.rb_core.specs.Matching.{all_bindings, bindings};
 ghost use Rattle.rb_core.specs.Inference.{with_binder, binders};
 ghost use Rattle.rb_core.specs.Meaning.{value_in, with_value, argument_bindings};
 
@@ -10,6 +9,7 @@ use crate::binding::Binding;
 use crate::inference::bind_types;
 use crate::pattern::Pat;
 use crate::program::Param;
+use crate::scope::Scope;
 use crate::seq::Seq;
 use crate::types::{DataDecl, Ty};
 use crate::typing::Binder;
@@ -21,7 +21,7 @@ use std::alloc::{AllocError, Global};
 #[derive(Drop)]
 pub(crate) struct Frame {
     pub(crate) fun: u32,
-    pub(crate) scope: Seq<Binder>,
+    pub(crate) scope: Scope,
     pub(crate) values: Seq<Binding>,
 }
 
@@ -89,20 +89,6 @@ impl Frame {
         self.scope.truncate(depth.scope);
         self.values.truncate(depth.values);
     }
-}
-
-/// The scope of a function's body: its parameters with their types, in their order.
-pub(crate) fn scope_of(alloc: Global, params: &[Param]) -> Result<Seq<Binder>, AllocError>
-    ensures { IfOk result (λ scope. scope ≡ map binder_of params.now) }
-{
-    let mut scope = Seq::new(alloc);
-    for param in params {
-        scope.push(Binder {
-            var: param.var,
-            ty: param.ty,
-        })?;
-    }
-    Ok(scope)
 }
 
 /// Parameters bound to copies of arguments, each to the one in its place, up to where either list
@@ -179,7 +165,7 @@ fn bind_all(
     parts: &[Value],
     values: &mut Seq<Binding>,
 ) -> Result<(), AllocError>
-    ensures { OnOk result (values.new ≡ values.old ++ all_bound (map bindings pats.now) parts.now) }
+    ensures { OnOk result (values.new ≡ values.old ++ all_bindings (map bindings pats.now) parts.now) }
 {
     for (i, pat) in pats.iter().enumerate() {
         if i >= parts.len() {

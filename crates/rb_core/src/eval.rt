@@ -4,10 +4,11 @@
 
 ghost use Rattle.std.specs.Prelude.{◌≡◌, ◌≤◌, [], ℕ, IfOk, OnOk, map, slice_get};
 ghost use Rattle.rb_core.specs.declared.expression.Expr as X;
+ghost use Rattle.rb_core.specs.Limits.{most_eval_calls};
 ghost use Rattle.rb_core.specs.Meaning.{call_of, call_within, meaning_of, all_of};
 ghost use Rattle.rb_core.specs.inner.Evaluation.{GivesOutcome, GivesParts, IsWithinCalls, IsPartsWithinCalls, EvaluatesTo, EndsAsFirst};
 
-use crate::environment::{Frame, bind_arguments, scope_of, value_of};
+use crate::environment::{Frame, bind_arguments, value_of};
 use crate::expression::{Clause, Expr, Op};
 use crate::inference::{
     infer, infer_match, infer_operands, types_of_fields, types_of_params, wanted_of_operand,
@@ -16,6 +17,7 @@ use crate::matching::matches;
 use crate::operators::{apply, low_bits, number, width};
 use crate::outcome::{Event, Outcome, PartsEnd, SourceEnd};
 use crate::program::Program;
+use crate::scope::Scope;
 use crate::seq::Seq;
 use crate::typed::Typed;
 use crate::types::{ConRef, Ty};
@@ -47,7 +49,7 @@ pub fn eval(
     args: Seq<Value>,
     calls: u64,
 ) -> Result<Outcome, AllocError>
-    requires { calls ≤ 1000 }
+    requires { calls ≤ most_eval_calls }
     ensures { IfOk result (λ outcome. outcome ≡ call_of typed.now fun calls args) }
 {
     eval_program(alloc, typed.program(), fun, args.as_slice(), calls)
@@ -89,7 +91,7 @@ fn eval_call(
     let Some(callee) = program.funs.get(fun as usize) else {
         return Ok(SourceEnd::Done(Value::Num(0), left - 1));
     };
-    let scope = scope_of(alloc, callee.params.as_slice())?;
+    let scope = Scope::of_params(alloc, callee.params.as_slice())?;
     let values = bind_arguments(alloc, callee.params.as_slice(), args)?;
     let mut frame = Frame { fun, scope, values };
     let context = Context {

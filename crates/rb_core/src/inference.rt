@@ -1,15 +1,15 @@
-//! The types of typed expressions, read off their forms. A scope is a list of binders, variables
-//! with their types, from the outermost to the innermost. Of an expression that is not typed, what
-//! is read off says nothing.
+//! The types of typed expressions, read off their forms. Of an expression that is not typed, what is
+//! read off says nothing.
 
 ghost use Rattle.std.specs.Prelude.{◌≡◌, ◌++◌, ◌∷◌, [], map, None, IfOk, OnOk};
-ghost use Rattle.rb_core.specs.Typing.{variable_type, field_types, param_types, result_type, operand_wanted, operator_type};
+ghost use Rattle.rb_core.specs.Typing.{field_types, param_types, result_type, operand_wanted, operator_type};
 ghost use Rattle.rb_core.specs.Inference.{all_binders, binders, operands_type, match_type, inferred_type, clause_inferred};
 
 use crate::constructors::con_of;
 use crate::expression::{Clause, Expr, Op};
 use crate::pattern::Pat;
 use crate::program::{Param, Program};
+use crate::scope::Scope;
 use crate::seq::Seq;
 use crate::types::{ConRef, DataDecl, Ty};
 use crate::typing::Binder;
@@ -27,14 +27,14 @@ pub fn infer(
     program: &Program,
     expr: &Expr,
     wanted: Option<Ty>,
-    scope: &mut Seq<Binder>,
+    scope: &mut Scope,
 ) -> Result<Ty, AllocError>
     ensures ty { IfOk result (λ t. t ≡ inferred_type program.now.types program.now.funs expr.now wanted scope.old) }
     ensures scope { OnOk result (scope.new ≡ scope.old) }
 {
     match expr {
         Expr::Num(_, _) => Ok(wanted.unwrap_or(Ty::Int(64))),
-        Expr::Var(_, var) => Ok(type_of_variable(*var, scope.as_slice())),
+        Expr::Var(_, var) => Ok(scope.variable_type(*var)),
         Expr::Call(_, fun, _) => Ok(type_of_call(program, *fun)),
         Expr::Build(_, con, _) => Ok(Ty::Named(con.ty)),
         Expr::Binary(_, op, a, _) => {
@@ -65,7 +65,7 @@ pub fn infer_operands(
     op: Op,
     first: &Expr,
     wanted: Option<Ty>,
-    scope: &mut Seq<Binder>,
+    scope: &mut Scope,
 ) -> Result<Ty, AllocError>
     ensures ty { IfOk result (λ t. t ≡ operands_type op wanted
         (inferred_type program.now.types program.now.funs first.now None scope.old)) }
@@ -84,7 +84,7 @@ fn infer_let(
     ty: Ty,
     body: &Expr,
     wanted: Option<Ty>,
-    scope: &mut Seq<Binder>,
+    scope: &mut Scope,
 ) -> Result<Ty, AllocError>
     ensures ty { IfOk result (λ t. t ≡ inferred_type program.now.types program.now.funs body.now wanted
         (scope.old ++ record { var = var; ty = ty } ∷ [])) }
@@ -110,7 +110,7 @@ pub fn infer_match(
     ty: Ty,
     clauses: &[Clause],
     wanted: Option<Ty>,
-    scope: &mut Seq<Binder>,
+    scope: &mut Scope,
 ) -> Result<Ty, AllocError>
     ensures ty { IfOk result (λ t. t ≡ match_type program.now.types wanted
         (map (clause_inferred program.now.types program.now.funs) clauses.now) ty scope.old) }
@@ -141,7 +141,7 @@ pub fn bind_types(
     types: &[DataDecl],
     pat: &Pat,
     ty: Ty,
-    scope: &mut Seq<Binder>,
+    scope: &mut Scope,
 ) -> Result<(), AllocError>
     ensures { OnOk result (scope.new ≡ scope.old ++ binders types.now pat.now ty) }
 {
@@ -166,7 +166,7 @@ fn bind_all_types(
     types: &[DataDecl],
     pats: &[Pat],
     tys: &[Ty],
-    scope: &mut Seq<Binder>,
+    scope: &mut Scope,
 ) -> Result<(), AllocError>
     ensures { OnOk result (scope.new ≡ scope.old ++ all_binders (map (binders types.now) pats.now) tys.now) }
 {
@@ -177,19 +177,6 @@ fn bind_all_types(
         bind_types(types, pat, tys[i], scope)?;
     }
     Ok(())
-}
-
-// The type of the innermost binder of a variable, which is looked for from the innermost on
-// outwards; `u64` where the scope has none.
-fn type_of_variable(var: u32, scope: &[Binder]) -> Ty
-    ensures { result ≡ variable_type var scope.now }
-{
-    for i in (0..scope.len()).rev() {
-        if scope[i].var == var {
-            return scope[i].ty;
-        }
-    }
-    Ty::Int(64)
 }
 
 /// The type of a function's result; `u64` where the program has no such function.

@@ -19,8 +19,8 @@
 //! A program is typed where each of its data types has a value and each expression fits the type
 //! that is wanted of it (`specs/TypedPrograms.antt`, `specs/Typing.antt`), and covered where each
 //! match has a clause for every value (`specs/Coverage.antt`): [`typed`] keeps such programs.
-//! [`eval::eval`] computes a meaning, for tests. [`text`] and [`pattern_text`] add names, types and
-//! patterns to a text.
+//! [`eval::eval`] computes a meaning, for tests. [`scope`] finds the type of a variable. [`text`] and
+//! [`pattern_text`] add names, types and patterns to a text.
 #![tactic(auto)]
 
 pub mod binding;
@@ -42,6 +42,7 @@ pub mod outcome;
 pub mod pattern;
 pub mod pattern_text;
 pub mod program;
+pub mod scope;
 pub mod seq;
 pub mod site;
 pub mod text;

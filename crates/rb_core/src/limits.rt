@@ -27,3 +27,6 @@ pub const MOST_LEVELS: u32 = 128;
 
 /// The most calls that a run may be given, that of `main` counted.
 pub const MOST_CALLS: u64 = 1_000_000_000;
+
+/// The most calls that `eval` may be given, which nests as deep as they do.
+pub const MOST_EVAL_CALLS: u64 = 1_000;

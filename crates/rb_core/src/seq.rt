@@ -1,6 +1,6 @@
 //! A list that contracts see as a list: `Vec` without its capacity and its pointer.
 
-ghost use Rattle.std.specs.Prelude.{◌≡◌, ◌+◌, ◌<◌, ◌≤◌, ◌↔◌, List, [], ◌∷◌, ◌++◌, length, take, IfOk, MatchOption, OnOk, OnErr, IsTrue, IsSome, slice_get, slice_set, Some};
+ghost use Rattle.std.specs.Prelude.{◌≡◌, ◌+◌, ◌<◌, ◌↔◌, List, [], ◌∷◌, ◌++◌, length, take, IfOk, MatchOption, OnOk, OnErr, IsTrue, IsSome, slice_get, slice_set, Some};
 ghost use Rattle.std.specs.Option.{option_copied};
 
 use std::alloc::{AllocError, Global};

@@ -12,7 +12,7 @@ use Rattle.rb_core.specs.declared.pattern.Pat.{Pat, Wild, Var, Num, Con}
 use Rattle.rb_core.proofs.PatternLaws.{fold-Wild, fold-Var, fold-Num, fold-Con}
 use Rattle.rb_matrix.specs.declared.matrix.Head.{Head}
 use Rattle.rb_matrix.specs.declared.matrix.Head.TheVariants as H
-use Rattle.rb_matrix.specs.Counts.{heads_step, head_count, row_heads}
+use Rattle.rb_matrix.specs.Counts.{heads_step, head_count, row_head_count}
 use Rattle.rb_decide.specs.declared.clause_matrix.Column.{Column}
 use Rattle.rb_decide.specs.declared.decision_tree.Tree.{Tree}
 use Rattle.rb_decide.specs.declared.decision_tree.Tree as Trees
@@ -134,23 +134,23 @@ module _ (types : List DataDecl) (c : Column) where
   num-chained at n old under new i h = chained-as (one_test types (H.Num n) c) (chain types (Num at n) c) 1 (head_count (Num at n)) old under new i (chain-Num at n) (let e = fold-Num ℕ heads_step at n in omega (arith, e)) h
 
   pub con-chained : (at : ℕ) (d : ConRef) (ps : List Pat) (fields : List Ty) (old : List GraphNode) (under : ℕ) (mid : List GraphNode) (j : ℕ) (new : List GraphNode) (i : ℕ) → fields ≡ field_types types c.ty (H.Con d)
-      → IsChained (chain_fields (map (chain types) ps) c.position fields) (row_heads ps) old under mid j → IsChained (one_test types (H.Con d) c) 1 mid j new i
+      → IsChained (chain_fields (map (chain types) ps) c.position fields) (row_head_count ps) old under mid j → IsChained (one_test types (H.Con d) c) 1 mid j new i
       → IsChained (chain types (Con at d ps) c) (head_count (Con at d ps)) old under new i
   con-chained at d ps fields old under mid j new i e f g =
       let put = chain_fields (map (chain types) ps) c.position fields in
-      chained-as (λ t. one_test types (H.Con d) c (put t)) (chain types (Con at d ps) c) (row_heads ps + 1) (head_count (Con at d ps)) old under new i
+      chained-as (λ t. one_test types (H.Con d) c (put t)) (chain types (Con at d ps) c) (row_head_count ps + 1) (head_count (Con at d ps)) old under new i
       (λ t. ap (λ l. one_test types (H.Con d) c (chain_fields (map (chain types) ps) c.position l t)) e ∙ chain-Con at d ps t) (let h = heads-Con at d ps in omega (arith, h))
-      (then-chained put (one_test types (H.Con d) c) (row_heads ps) 1 old under mid j new i f g)
+      (then-chained put (one_test types (H.Con d) c) (row_head_count ps) 1 old under mid j new i f g)
     where
-      heads-Con : (at : ℕ) (d : ConRef) (ps : List Pat) → head_count (Con at d ps) ≡ 1 + row_heads ps
+      heads-Con : (at : ℕ) (d : ConRef) (ps : List Pat) → head_count (Con at d ps) ≡ 1 + row_head_count ps
       heads-Con at d ps = fold-Con ℕ heads_step at d ps
 
-pub con-heads : (at : ℕ) (d : ConRef) (ps : List Pat) → head_count (Con at d ps) ≡ 1 + row_heads ps
+pub con-heads : (at : ℕ) (d : ConRef) (ps : List Pat) → head_count (Con at d ps) ≡ 1 + row_head_count ps
 con-heads at d ps = fold-Con ℕ heads_step at d ps
 
 -- fields, the last first ----------------------------------------------------------------------------
 
-pub one-of : (ps : List Pat) (k : ℕ) (p : Pat) → k < length ps → p ≡ get_or ps k p → head_count p ≤ row_heads ps
+pub one-of : (ps : List Pat) (k : ℕ) (p : Pat) → k < length ps → p ≡ get_or ps k p → head_count p ≤ row_head_count ps
 one-of [] k p lt e = absurd (omega (arith, lt))
 one-of (q ∷ qs) zero p lt e = let a = row-cons q qs in let b = ap head_count e in omega (arith, a, b)
 one-of (q ∷ qs) (suc k) p lt e = let h = one-of qs k p (omega (arith, lt)) e in let a = row-cons q qs in omega (arith, a, h)
@@ -161,10 +161,10 @@ module _ (types : List DataDecl) (position : List ℕ) (tys : List Ty) (ps : Lis
   from_field k t = chain_row (map (chain types) (drop k ps)) (field_columns position k (drop k tys)) t
 
   abbrev pub AreFrom : ℕ → List GraphNode → ℕ → List GraphNode → ℕ → Type 0
-  AreFrom k old under new i = IsChained (from_field k) (row_heads (drop k ps)) old under new i
+  AreFrom k old under new i = IsChained (from_field k) (row_head_count (drop k ps)) old under new i
 
   pub from-end : (k : ℕ) (old : List GraphNode) (under : ℕ) → length ps ≤ k → AreChained old → under < length old → AreFrom k old under old under
-  from-end k old under le fine low = none-chained (from_field k) (row_heads (drop k ps)) old under fine low
+  from-end k old under le fine low = none-chained (from_field k) (row_head_count (drop k ps)) old under fine low
       (λ t. ap (λ l. chain_row (map (chain types) l) (field_columns position k (drop k tys)) t) (drop-past ps k le))
 
   pub from-next : (k m n : ℕ) (p : Pat) (ty : Ty) (place : List ℕ) (old : List GraphNode) (under : ℕ) (mid : List GraphNode) (j : ℕ) (new : List GraphNode) (i : ℕ) → m ≡ k → n ≡ k + 1 → k < length ps → p ≡ get_or ps m p
@@ -174,25 +174,25 @@ module _ (types : List DataDecl) (position : List ℕ) (tys : List Ty) (ps : Lis
       let fields : drop k tys ≡ ty ∷ drop n tys = split-at-item tys k ty lt' (item' ∙ ap (λ x. get_or tys x ty) here) ∙ ap (λ x. ty ∷ drop x tys) (sym next) in
       let one : suc k ≡ n = omega (arith, next) in
       let put = λ (t : Tree). chain types p (record { position = place; ty = ty }) (from_field n t) in
-      chained-as put (from_field k) (row_heads (drop n ps) + head_count p) (row_heads (drop k ps)) old under new i
+      chained-as put (from_field k) (row_head_count (drop n ps) + head_count p) (row_head_count (drop k ps)) old under new i
       (λ t. ap (λ q. chain types p (record { position = q; ty = ty }) (from_field n t)) (at ∙ ap (λ x. position ++ x ∷ []) here)
       ∙ ap (λ m. chain types p (record { position = position ++ k ∷ []; ty = ty }) (chain_row (map (chain types) (drop n ps)) (field_columns position m (drop n tys)) t)) (sym one)
       ∙ ap (λ l. chain_row (map (chain types) l) (field_columns position k (ty ∷ drop n tys)) t) (sym subs)
       ∙ ap (λ l. chain_row (map (chain types) (drop k ps)) (field_columns position k l) t) (sym fields))
-      (let a = ap row_heads subs in let b = row-cons p (drop n ps) in omega (arith, a, b))
-      (then-chained (from_field n) (chain types p (record { position = place; ty = ty })) (row_heads (drop n ps)) (head_count p) old under mid j new i f g)
+      (let a = ap row_head_count subs in let b = row-cons p (drop n ps) in omega (arith, a, b))
+      (then-chained (from_field n) (chain types p (record { position = place; ty = ty })) (row_head_count (drop n ps)) (head_count p) old under mid j new i f g)
 
   pub all-fields : (old : List GraphNode) (under : ℕ) (new : List GraphNode) (i : ℕ) (n : ℕ) → n ≡ 0 → length tys ≡ length ps → AreFrom n old under new i
-      → IsChained (chain_fields (map (chain types) ps) position tys) (row_heads ps) old under new i
+      → IsChained (chain_fields (map (chain types) ps) position tys) (row_head_count ps) old under new i
   all-fields old under new i n e l h =
       let first = subst (λ k. AreFrom k old under new i) e h in
-      chained-as (from_field 0) (chain_fields (map (chain types) ps) position tys) (row_heads ps) (row_heads ps) old under new i
+      chained-as (from_field 0) (chain_fields (map (chain types) ps) position tys) (row_head_count ps) (row_head_count ps) old under new i
       (λ t. sym (ap (λ b. if b then chain_row (map (chain types) ps) (field_columns position 0 tys) t else Trees.Clause 1) (same-count (length (map (chain types) ps)) (length tys) (length-map ps (chain types) ∙ sym l)))) (omega arith) first
     where
       same-count : (a b : ℕ) → a ≡ b → (a == b) ≡ true
       same-count a b e = grind (arith, common_steps)
 
-  pub other-fields : (old : List GraphNode) (under : ℕ) → AreChained old → (length tys ≡ length ps → ⊥) → IsChained (chain_fields (map (chain types) ps) position tys) (row_heads ps) old under old 0
+  pub other-fields : (old : List GraphNode) (under : ℕ) → AreChained old → (length tys ≡ length ps → ⊥) → IsChained (chain_fields (map (chain types) ps) position tys) (row_head_count ps) old under old 0
   other-fields old under fine apart = record {
     fine = fine;
     within = slice_get_within old 0 (Clause 1) fine.others;

@@ -1,6 +1,7 @@
 -- The tree of one pattern and a wildcard is the pattern's chain.
 use Rattle.std.proofs.Common.{◌≡◌, ℕ, zero, suc, ◌<◌, ◌≤◌, List, [], ◌∷◌, ◌++◌, map, length, Bool, true, false, ◌&&◌, ◌==◌, Option, Some, None, is_some, refl, sym, ap, ◌∙◌, arith, subst}
 use Rattle.std.specs.Prelude.{if◌then◌else◌, unwrap_or, nat_lt, ◌^◌}
+use Rattle.std.specs.Option.{option_or}
 use Rattle.std.specs.List.{AllByRecursion}
 use Rattle.std.proofs.lemmas.Bool.{eqb-true, false≢true}
 use Rattle.std.proofs.lemmas.Grind.{common_steps}
@@ -18,13 +19,12 @@ use Rattle.rb_core.proofs.MatchingForms.{matches-Wild}
 use Rattle.rb_matrix.specs.declared.matrix.Head.{Head}
 use Rattle.rb_matrix.specs.declared.matrix.Head.TheVariants as H
 use Rattle.rb_matrix.specs.Heads.{layer_head, row_head}
-use Rattle.rb_matrix.specs.FirstHead.{or_else}
-use Rattle.rb_matrix.specs.Specialize.{wilds, special_image, default_image}
+use Rattle.rb_matrix.specs.Specialize.{wilds, special_of_layer, default_of_layer}
 use Rattle.rb_decide.specs.declared.clause_matrix.Column.{Column}
 use Rattle.rb_decide.specs.declared.clause_matrix.Row.{Row}
 use Rattle.rb_decide.specs.declared.decision_tree.Tree.{Tree, Test, Clause}
 use Rattle.rb_decide.specs.ClauseMatrices.{match_column, first_test, next_column, to_front, row_to_front, column_heads, with_first, is_complete, keep_row, special_rows, default_rows, field_types, field_columns}
-use Rattle.rb_decide.specs.Trees.{Subtree, arms_of, other_of, test_of, tree_at, tree_step, tree_within, heads_in, match_tree}
+use Rattle.rb_decide.specs.Trees.{Subtree, arms_of, other_of, test_of, tree_at, tree_step, tree_within, count_of_heads, match_tree}
 use Rattle.rb_decide.specs.inner.Chains.{Chain, one_test, chain_row, chain_fields, chain_step, chain}
 use Rattle.rb_decide.proofs.Moving.{swap, moved, front-moved, moved-length}
 use Rattle.rb_decide.proofs.Weights.{column_head, special-less, rows-front, tested, front-head, front-column}
@@ -155,14 +155,14 @@ module _ (types : List DataDecl) where
   same-number : (k : ℕ) → (k == k) ≡ true
   same-number k = grind (arith, common_steps)
 
-  -- images of the wildcard's row
-  wild-image : (h : Head) (n : ℕ) (us : List Pat) (l : Pat-F Pat) → layer_head l ≡ None → special_image h n us l ≡ Some (wilds n ++ us)
-  wild-image h n us (P.Wild at) e = refl
-  wild-image h n us (P.Var at x) e = refl
-  wild-image h n us (P.Num at k) e = cc
-  wild-image h n us (P.Con at d ps) e = cc
+  -- what the wildcard's row becomes
+  wild-special : (h : Head) (n : ℕ) (us : List Pat) (l : Pat-F Pat) → layer_head l ≡ None → special_of_layer h n us l ≡ Some (wilds n ++ us)
+  wild-special h n us (P.Wild at) e = refl
+  wild-special h n us (P.Var at x) e = refl
+  wild-special h n us (P.Num at k) e = cc
+  wild-special h n us (P.Con at d ps) e = cc
 
-  wild-default : (us : List Pat) (l : Pat-F Pat) → layer_head l ≡ None → default_image us l ≡ Some us
+  wild-default : (us : List Pat) (l : Pat-F Pat) → layer_head l ≡ None → default_of_layer us l ≡ Some us
   wild-default us (P.Wild at) e = refl
   wild-default us (P.Var at x) e = refl
   wild-default us (P.Num at k) e = cc
@@ -173,16 +173,16 @@ module _ (types : List DataDecl) where
     rows = two (p ∷ ps) (w ∷ ws)
 
     abbrev Below : Type 0
-    Below = (ds : List Column) (qs us : List Pat) → length ds ≡ length qs → length us ≡ length qs → AreHeadless us → heads_in (two qs us) ≤ m
+    Below = (ds : List Column) (qs us : List Pat) → length ds ≡ length qs → length us ≡ length qs → AreHeadless us → count_of_heads (two qs us) ≤ m
         → tree_within types m ds (two qs us) ≡ row ds qs (Clause 0)
 
     heads-are : (h : Head) → layer_head (out-Pat p) ≡ Some h → column_heads rows ≡ h ∷ []
     heads-are h e = ap (λ o. with_first (layer_head (out-Pat p)) (with_first o [])) none ∙ ap (λ o. with_first o []) e
 
     rest-are : (l : Pat-F Pat) (h : Head) → out-Pat p ≡ l → layer_head l ≡ Some h → default_rows rows ≡ one ws
-    rest-are l h e f = ap (λ o. keep_row (default_image ps (out-Pat p)) 0 (keep_row o 1 [])) (wild-default ws (out-Pat w) none) ∙ ap (λ x. keep_row (default_image ps x) 0 (one ws)) e ∙ by l f
+    rest-are l h e f = ap (λ o. keep_row (default_of_layer ps (out-Pat p)) 0 (keep_row o 1 [])) (wild-default ws (out-Pat w) none) ∙ ap (λ x. keep_row (default_of_layer ps x) 0 (one ws)) e ∙ by l f
       where
-        by : (l : Pat-F Pat) → layer_head l ≡ Some h → keep_row (default_image ps l) 0 (one ws) ≡ one ws
+        by : (l : Pat-F Pat) → layer_head l ≡ Some h → keep_row (default_of_layer ps l) 0 (one ws) ≡ one ws
         by (P.Wild at) f = cc
         by (P.Var at x) f = cc
         by (P.Num at k) f = refl
@@ -206,15 +206,15 @@ module _ (types : List DataDecl) where
         ∙ ap (λ x. Test c.position (record { head = h; under = x } ∷ []) (other_of types (tree_within types m) c cs rows)) g
         ∙ ap (Test c.position (record { head = h; under = t } ∷ [])) (other-is l h e f)
 
-    special-are : (h : Head) (n : ℕ) → special_rows h n rows ≡ keep_row (special_image h n ps (out-Pat p)) 0 (one (wilds n ++ ws))
-    special-are h n = ap (λ o. keep_row (special_image h n ps (out-Pat p)) 0 (keep_row o 1 [])) (wild-image h n ws (out-Pat w) none)
+    special-are : (h : Head) (n : ℕ) → special_rows h n rows ≡ keep_row (special_of_layer h n ps (out-Pat p)) 0 (one (wilds n ++ ws))
+    special-are h n = ap (λ o. keep_row (special_of_layer h n ps (out-Pat p)) 0 (keep_row o 1 [])) (wild-special h n ws (out-Pat w) none)
 
-    module _ (ih : Below) (small : heads_in rows ≤ suc m) (same : length cs ≡ length ps) (also : length ws ≡ length ps) where
-      less : (h : Head) (n : ℕ) (rs : List Row) → is_some (column_head rows) ≡ true → special_rows h n rows ≡ rs → heads_in rs ≤ m
-      less h n rs e f = let a = special-less h n rows e in let b = ap heads_in f in omega (arith, a, b, small)
+    module _ (ih : Below) (small : count_of_heads rows ≤ suc m) (same : length cs ≡ length ps) (also : length ws ≡ length ps) where
+      less : (h : Head) (n : ℕ) (rs : List Row) → is_some (column_head rows) ≡ true → special_rows h n rows ≡ rs → count_of_heads rs ≤ m
+      less h n rs e f = let a = special-less h n rows e in let b = ap count_of_heads f in omega (arith, a, b, small)
 
       some : (h : Head) → layer_head (out-Pat p) ≡ Some h → is_some (column_head rows) ≡ true
-      some h e = ap (λ o. is_some (or_else o (or_else (layer_head (out-Pat w)) None))) e
+      some h e = ap (λ o. is_some (option_or o (option_or (layer_head (out-Pat w)) None))) e
 
       wilds-long : (n : ℕ) → length (wilds n) ≡ n
       wilds-long zero = refl
@@ -225,7 +225,7 @@ module _ (types : List DataDecl) where
 
       number-under : (at k : ℕ) → out-Pat p ≡ P.Num at k → under (H.Num k) ≡ row cs ps (Clause 0)
       number-under at k e =
-          let are : special_rows (H.Num k) 0 rows ≡ two ps ws = special-are (H.Num k) 0 ∙ ap (λ l. keep_row (special_image (H.Num k) 0 ps l) 0 (one ws)) e
+          let are : special_rows (H.Num k) 0 rows ≡ two ps ws = special-are (H.Num k) 0 ∙ ap (λ l. keep_row (special_of_layer (H.Num k) 0 ps l) 0 (one ws)) e
           ∙ ap (λ b. keep_row (if b then Some ps else None) 0 (one ws)) (same-number k) in
           ap (λ tys. tree_within types m (field_columns c.position 0 tys ++ cs) (special_rows (H.Num k) (length tys) rows)) (no-fields c.ty k)
           ∙ ap (tree_within types m cs) are
@@ -242,7 +242,7 @@ module _ (types : List DataDecl) where
       con-under at d qs e = by (length qs == many_of (H.Con d)) refl
         where
           are : (b : Bool) → (length qs == many_of (H.Con d)) ≡ b → special_rows (H.Con d) (many_of (H.Con d)) rows ≡ keep_row (if b then Some (qs ++ ps) else None) 0 (one (wilds (many_of (H.Con d)) ++ ws))
-          are b f = special-are (H.Con d) (many_of (H.Con d)) ∙ ap (λ l. keep_row (special_image (H.Con d) (many_of (H.Con d)) ps l) 0 (one (wilds (many_of (H.Con d)) ++ ws))) e
+          are b f = special-are (H.Con d) (many_of (H.Con d)) ∙ ap (λ l. keep_row (special_of_layer (H.Con d) (many_of (H.Con d)) ps l) 0 (one (wilds (many_of (H.Con d)) ++ ws))) e
               ∙ ap (λ x. keep_row (if x && (length qs == many_of (H.Con d)) then Some (qs ++ ps) else None) 0 (one (wilds (many_of (H.Con d)) ++ ws))) (same-number d.con)
               ∙ ap (λ x. keep_row (if x then Some (qs ++ ps) else None) 0 (one (wilds (many_of (H.Con d)) ++ ws))) f
 
@@ -283,22 +283,22 @@ module _ (types : List DataDecl) where
 
   -- at a tested column
   module _ (m : ℕ)
-      (ih : (ds : List Column) (qs us : List Pat) → length ds ≡ length qs → length us ≡ length qs → AreHeadless us → heads_in (two qs us) ≤ m → tree_within types m ds (two qs us) ≡ row ds qs (Clause 0)) where
-    front-chain : (cs : List Column) (ps ws : List Pat) → length cs ≡ length ps → length ws ≡ length ps → AreHeadless ws → heads_in (two ps ws) ≤ suc m → is_some (row_head ps) ≡ true
+      (ih : (ds : List Column) (qs us : List Pat) → length ds ≡ length qs → length us ≡ length qs → AreHeadless us → count_of_heads (two qs us) ≤ m → tree_within types m ds (two qs us) ≡ row ds qs (Clause 0)) where
+    front-chain : (cs : List Column) (ps ws : List Pat) → length cs ≡ length ps → length ws ≡ length ps → AreHeadless ws → count_of_heads (two ps ws) ≤ suc m → is_some (row_head ps) ≡ true
         → test_of types (tree_within types m) cs (two ps ws) ≡ row cs ps (Clause 0)
     front-chain cs [] ws l k a small e = absurd (false≢true e)
     front-chain [] (p ∷ ps) ws l k a small e = absurd (omega (arith, l))
     front-chain (c ∷ cs) (p ∷ ps) [] l k a small e = absurd (omega (arith, k))
     front-chain (c ∷ cs) (p ∷ ps) (w ∷ ws) l k a small e = test-chain m c cs p ps w ws a.0 a.1 ih small (omega (arith, l)) (omega (arith, k)) e
 
-    step-chain : (cs : List Column) (ps ws : List Pat) → length cs ≡ length ps → length ws ≡ length ps → AreHeadless ws → heads_in (two ps ws) ≤ suc m → (o : Option ℕ) → first_test ps ≡ o
+    step-chain : (cs : List Column) (ps ws : List Pat) → length cs ≡ length ps → length ws ≡ length ps → AreHeadless ws → count_of_heads (two ps ws) ≤ suc m → (o : Option ℕ) → first_test ps ≡ o
         → tree_within types (suc m) cs (two ps ws) ≡ row cs ps (Clause 0)
     step-chain cs ps ws l k a small None e = no-test (tree_within types m) cs ps 0 (one ws) e ∙ sym (row-untested cs ps (Clause 0) e)
     step-chain cs ps ws l k a small (Some i) e =
         let lt = (tested ps i e).within in
         let rows = front-is i ps ws lt k in
         let weight = rows-front i (two ps ws) in
-        let moved-weight = ap heads_in rows in
+        let moved-weight = ap count_of_heads rows in
         ap (tree_at types (tree_within types m) cs (two ps ws) 0) e
         ∙ ap (test_of types (tree_within types m) (to_front i cs)) rows
         ∙ ap (λ ds. test_of types (tree_within types m) ds (two (moved i ps) (moved i ws))) (front-moved i cs (omega (arith, lt, l)))
@@ -306,13 +306,13 @@ module _ (types : List DataDecl) where
         (headless-moved i ws a) (omega (arith, weight, moved-weight, small)) (ap (λ qs. is_some (row_head qs)) (sym (front-moved i ps lt)) ∙ front-head ps i e)
         ∙ row-moved i cs ps (Clause 0) e l
 
-  none-left : (cs : List Column) (ps ws : List Pat) → heads_in (two ps ws) ≤ 0 → (o : Option ℕ) → first_test ps ≡ o → tree_within types 0 cs (two ps ws) ≡ row cs ps (Clause 0)
+  none-left : (cs : List Column) (ps ws : List Pat) → count_of_heads (two ps ws) ≤ 0 → (o : Option ℕ) → first_test ps ≡ o → tree_within types 0 cs (two ps ws) ≡ row cs ps (Clause 0)
   none-left cs ps ws small None e = no-test (λ cs rs. Clause 0) cs ps 0 (one ws) e ∙ sym (row-untested cs ps (Clause 0) e)
   none-left cs ps ws small (Some i) e = absurd (
       let some = front-column (record { pats = ps; clause = 0 }) (one ws) i e in
       let a = special-less (H.Num 0) 0 (map (row_to_front i) (two ps ws)) some in let b = rows-front i (two ps ws) in omega (arith, a, b, small))
 
-  pub within-chain : (n : ℕ) (cs : List Column) (ps ws : List Pat) → length cs ≡ length ps → length ws ≡ length ps → AreHeadless ws → heads_in (two ps ws) ≤ n
+  pub within-chain : (n : ℕ) (cs : List Column) (ps ws : List Pat) → length cs ≡ length ps → length ws ≡ length ps → AreHeadless ws → count_of_heads (two ps ws) ≤ n
       → tree_within types n cs (two ps ws) ≡ row cs ps (Clause 0)
   within-chain zero cs ps ws l k a small = none-left cs ps ws small (first_test ps) refl
   within-chain (suc m) cs ps ws l k a small = step-chain m (within-chain m) cs ps ws l k a small (first_test ps) refl
@@ -320,7 +320,7 @@ module _ (types : List DataDecl) where
 -- the tree of the match -----------------------------------------------------------------------------
 
 pub pattern-chain : (types : List DataDecl) (ty : Ty) (p : Pat) → chain types p (match_column ty) (Clause 0) ≡ match_tree types ty (p ∷ Wild 0 ∷ [])
-pattern-chain types ty p = sym (within-chain types (heads_in (two (p ∷ []) (Wild 0 ∷ []))) (match_column ty ∷ []) (p ∷ []) (Wild 0 ∷ []) refl refl (headless-wild, tt) (omega arith))
+pattern-chain types ty p = sym (within-chain types (count_of_heads (two (p ∷ []) (Wild 0 ∷ []))) (match_column ty ∷ []) (p ∷ []) (Wild 0 ∷ []) refl refl (headless-wild, tt) (omega arith))
 
 -- a pattern and a wildcard match each value
 pub pattern-exhaustive : (types : List DataDecl) (ty : Ty) (p : Pat) → IsExhaustive types ty (p ∷ Wild 0 ∷ [])

@@ -1,6 +1,7 @@
 -- A matrix's tree tests no position twice on a way, and only those with a head.
 use Rattle.std.proofs.Common.{◌≡◌, ℕ, zero, suc, ◌+◌, ◌<◌, List, [], ◌∷◌, ◌++◌, map, length, Bool, true, false, ◌&&◌, ◌||◌, not, ◌==◌, Option, Some, None, is_some, refl, sym, ap, ◌∙◌, arith, subst, ◌⊎◌, inl, inr}
 use Rattle.std.specs.Prelude.{◌^◌, nat_lt, slice_get, if◌then◌else◌, option_map, unwrap_or}
+use Rattle.std.specs.Option.{option_or}
 use Rattle.std.specs.List.{AllByRecursion, flat_map}
 use Rattle.std.proofs.lemmas.Bool.{eqb-true, eqb-false, eq-eqb, false≢true, cases_lt}
 use Rattle.rb_core.specs.declared.types.DataDecl.{DataDecl}
@@ -12,13 +13,12 @@ use Rattle.rb_core.specs.declared.pattern.Pat.TheOpen.{Pat-F}
 use Rattle.rb_matrix.specs.declared.matrix.Head.{Head}
 use Rattle.rb_matrix.specs.declared.matrix.Head.TheVariants as H
 use Rattle.rb_matrix.specs.Heads.{layer_head, row_head}
-use Rattle.rb_matrix.specs.FirstHead.{or_else}
-use Rattle.rb_matrix.specs.Specialize.{wilds, number_image, con_image, special_image, special_row, default_image, default_row}
+use Rattle.rb_matrix.specs.Specialize.{wilds, special_of_number, special_of_con, special_of_layer, special_row, default_of_layer, default_row}
 use Rattle.rb_decide.specs.declared.clause_matrix.Column.{Column}
 use Rattle.rb_decide.specs.declared.clause_matrix.Row.{Row}
 use Rattle.rb_decide.specs.declared.decision_tree.Tree.{Tree, Clause}
 use Rattle.rb_decide.specs.ClauseMatrices.{match_rows, match_column, first_test, to_front, row_to_front, column_heads, is_complete, keep_row, special_rows, default_rows, field_types, field_columns}
-use Rattle.rb_decide.specs.Trees.{Way, ways, Subtree, arms_of, other_of, test_of, tree_at, tree_step, tree_within, heads_in, match_tree}
+use Rattle.rb_decide.specs.Trees.{Way, ways, Subtree, arms_of, other_of, test_of, tree_at, tree_step, tree_within, count_of_heads, match_tree}
 use Rattle.rb_decide.specs.Decisions.{subpatterns, subpattern, pattern_from, is_head, any_head_at, AreDistinct, TestsOnce, HaveHeads, TestsHeads}
 use Rattle.rb_decide.proofs.Moving.{swap, moved, front-moved, front-past}
 use Rattle.rb_decide.proofs.TreeSteps.{arm_ways, ways-Clause, ways-Test}
@@ -268,11 +268,11 @@ tested-head all c cs (r ∷ rs) s e = row r.pats s.0 (tested-head all c cs rs s.
     source whole p (inr there) e = ap is_head there ∙ e
 
     row : (ps : List Pat) → Sourced all (c ∷ cs) ps → (is_some (column_head rs) ≡ true → any_head_at all c.position ≡ true)
-        → is_some (or_else (row_head ps) (column_head rs)) ≡ true → any_head_at all c.position ≡ true
+        → is_some (option_or (row_head ps) (column_head rs)) ≡ true → any_head_at all c.position ≡ true
     row [] so rest e = absurd so.sources
     row (p ∷ ps) so rest e = by (layer_head (out-Pat p)) refl e
       where
-        by : (o : Option Head) → layer_head (out-Pat p) ≡ o → is_some (or_else o (column_head rs)) ≡ true → any_head_at all c.position ≡ true
+        by : (o : Option Head) → layer_head (out-Pat p) ≡ o → is_some (option_or o (column_head rs)) ≡ true → any_head_at all c.position ≡ true
         by (Some h) is e = head-among all so.whole c.position so.among (source so.whole p so.sources.0 (ap (λ (o : Option Head). is_some o) is))
         by None is e = rest e
 
@@ -308,7 +308,7 @@ all-front : (all : List Pat) (i : ℕ) (cs : List Column) (rows : List Row) → 
 all-front all i cs [] s = tt
 all-front all i cs (r ∷ rs) s = (record { whole = s.0.whole; among = s.0.among; sources = sources-front s.0.whole i cs r.pats s.0.sources }, all-front all i cs rs s.1)
 
--- images
+-- special and default rows
 wild-headless : is_head (Some (Wild 0)) ≡ false
 unfolding out-Pat denote.Hole.Carrier.out
 wild-headless = refl
@@ -359,19 +359,19 @@ numbers-none types (Named t) (H.Num m) = refl
 numbers-none types t (H.Con c) = tt
 
 module _ (whole : Pat) (q : List ℕ) (cs : List Column) (ts : List Ty) (h : Head) (none : NumbersHaveNone h ts) (p : Pat) (rest : List Pat) (src : Source whole q p) (s : Sources whole cs rest) where
-  one-image : (l : Pat-F Pat) → out-Pat p ≡ l → OptionSourced whole (field_columns q 0 ts ++ cs) (special_image h (length ts) rest l)
-  one-image (P.Wild at) is = wilds-sources whole q 0 ts cs rest s
-  one-image (P.Var at x) is = wilds-sources whole q 0 ts cs rest s
-  one-image (P.Num at k) is = number h none
+  one-special : (l : Pat-F Pat) → out-Pat p ≡ l → OptionSourced whole (field_columns q 0 ts ++ cs) (special_of_layer h (length ts) rest l)
+  one-special (P.Wild at) is = wilds-sources whole q 0 ts cs rest s
+  one-special (P.Var at x) is = wilds-sources whole q 0 ts cs rest s
+  one-special (P.Num at k) is = number h none
     where
       if-kept : (b : Bool) → OptionSourced whole cs (if b then Some rest else None)
       if-kept true = s
       if-kept false = tt
 
-      number : (g : Head) → NumbersHaveNone g ts → OptionSourced whole (field_columns q 0 ts ++ cs) (number_image g k rest)
+      number : (g : Head) → NumbersHaveNone g ts → OptionSourced whole (field_columns q 0 ts ++ cs) (special_of_number g k rest)
       number (H.Num m) e = subst (λ l. OptionSourced whole (field_columns q 0 l ++ cs) (if k == m then Some rest else None)) (sym e) (if-kept (k == m))
       number (H.Con d) e = tt
-  one-image (P.Con at c qs) is = con h
+  one-special (P.Con at c qs) is = con h
     where
       there : Source whole q p → pattern_from (Some whole) q ≡ Some p
       there (inl plain) = absurd (false≢true (sym plain ∙ ap (λ l. is_some (layer_head l)) is))
@@ -386,15 +386,15 @@ module _ (whole : Pat) (q : List ℕ) (cs : List Column) (ts : List Ty) (h : Hea
       if-kept true true e = fields-sources whole p q (there src) 0 ts qs
           (λ j. ap (slice_get qs) (zero_plus j) ∙ ap (λ l. slice_get (subpatterns l) (0 + j)) (sym is)) (eqb-true (length qs) (length ts) e) cs rest s
 
-      con : (g : Head) → OptionSourced whole (field_columns q 0 ts ++ cs) (con_image g (length ts) c qs rest)
+      con : (g : Head) → OptionSourced whole (field_columns q 0 ts ++ cs) (special_of_con g (length ts) c qs rest)
       con (H.Num m) = tt
       con (H.Con d) = if-kept (c.con == d.con) (length qs == length ts) refl
 
-  other-image : (l : Pat-F Pat) → OptionSourced whole cs (default_image rest l)
-  other-image (P.Wild at) = s
-  other-image (P.Var at x) = s
-  other-image (P.Num at k) = tt
-  other-image (P.Con at c qs) = tt
+  other-default : (l : Pat-F Pat) → OptionSourced whole cs (default_of_layer rest l)
+  other-default (P.Wild at) = s
+  other-default (P.Var at x) = s
+  other-default (P.Num at k) = tt
+  other-default (P.Con at c qs) = tt
 
 module _ (all : List Pat) (c : Column) (cs : List Column) where
   keep-sourced : (whole : Pat) (ds : List Column) → Among all whole → (o : Option (List Pat)) (k : ℕ) (rs : List Row) → OptionSourced whole ds o → AllSourced all ds rs → AllSourced all ds (keep_row o k rs)
@@ -408,7 +408,7 @@ module _ (all : List Pat) (c : Column) (cs : List Column) where
     where
       row : (ps : List Pat) → Sources s.0.whole (c ∷ cs) ps → OptionSourced s.0.whole (field_columns c.position 0 ts ++ cs) (special_row h (length ts) ps)
       row [] so = tt
-      row (p ∷ ps) so = one-image s.0.whole c.position cs ts h none p ps so.0 so.1 (out-Pat p) refl
+      row (p ∷ ps) so = one-special s.0.whole c.position cs ts h none p ps so.0 so.1 (out-Pat p) refl
 
   default-sourced : (rows : List Row) → AllSourced all (c ∷ cs) rows → AllSourced all cs (default_rows rows)
   default-sourced [] s = tt
@@ -416,7 +416,7 @@ module _ (all : List Pat) (c : Column) (cs : List Column) where
     where
       row : (ps : List Pat) → Sources s.0.whole (c ∷ cs) ps → OptionSourced s.0.whole cs (default_row ps)
       row [] so = tt
-      row (p ∷ ps) so = other-image s.0.whole c.position cs [] (H.Num 0) refl p ps so.0 so.1 (out-Pat p)
+      row (p ∷ ps) so = other-default s.0.whole c.position cs [] (H.Num 0) refl p ps so.0 so.1 (out-Pat p)
 
 -- the ways of a matrix's tree -----------------------------------------------------------------------
 
@@ -507,7 +507,7 @@ module _ (ty : Ty) where
   match-sourced all k (p ∷ ps) sub = (record { whole = p; among = sub p (inl refl); sources = (inr refl, tt) }, match-sourced all (suc k) ps (λ q a. sub q (inr a)))
 
 match-fine : (types : List DataDecl) (ty : Ty) (ps : List Pat) → FineTree types ps (match_column ty ∷ []) (match_tree types ty ps)
-match-fine types ty ps = within-fine types ps (heads_in (match_rows 0 ps)) (match_column ty ∷ []) (match_rows 0 ps) (tt, tt) (match-sourced ty ps 0 ps (λ p a. a))
+match-fine types ty ps = within-fine types ps (count_of_heads (match_rows 0 ps)) (match_column ty ∷ []) (match_rows 0 ps) (tt, tt) (match-sourced ty ps 0 ps (λ p a. a))
 
 pub match-once : (types : List DataDecl) (ty : Ty) (ps : List Pat) → TestsOnce (match_tree types ty ps)
 match-once types ty ps = all-kept (IsFine types ps (match_column ty ∷ [])) AreDistinct (λ way f. f.once) (ways (match_tree types ty ps)) (match-fine types ty ps)

@@ -17,9 +17,9 @@ use Rattle.rb_core.specs.Values.{is_of_type, subs, sub_at, part_from, part_at}
 use Rattle.rb_matrix.specs.declared.matrix.Head.{Head}
 use Rattle.rb_matrix.specs.declared.matrix.Head.TheVariants as H
 use Rattle.rb_matrix.specs.Heads.{layer_begins, begins, any_begins, option_begins, layer_head, row_head, sample, fields_at}
-use Rattle.rb_matrix.specs.Rows.{row_matches, image_matches, vector_of}
+use Rattle.rb_matrix.specs.Rows.{row_matches, row_or_none_matches, vector_of}
 use Rattle.rb_matrix.specs.Search.{useful_by}
-use Rattle.rb_matrix.specs.Specialize.{wilds, special_image, special_row, default_image, default_row}
+use Rattle.rb_matrix.specs.Specialize.{wilds, special_of_layer, special_row, default_of_layer, default_row}
 use Rattle.rb_matrix.proofs.HeadLemmas.{any_begins-alike}
 use Rattle.rb_matrix.proofs.Laws.{opened, open_matches, wilds-length, special-row, default-row}
 use Rattle.rb_matrix.proofs.Parts.{of-fields, no-fields}
@@ -28,7 +28,7 @@ use Rattle.rb_decide.specs.declared.clause_matrix.Column.{Column}
 use Rattle.rb_decide.specs.declared.clause_matrix.Row.{Row}
 use Rattle.rb_decide.specs.declared.decision_tree.Tree.{Tree, Clause}
 use Rattle.rb_decide.specs.ClauseMatrices.{match_rows, match_column, first_test, next_column, to_front, row_to_front, without, with_first, column_heads, is_complete, keep_row, special_rows, default_rows, field_types, field_columns}
-use Rattle.rb_decide.specs.Trees.{Taking, take_other, take_arm, take_at, clause_taken, Subtree, arms_of, other_of, test_of, tree_at, tree_step, tree_within, heads_in, match_tree}
+use Rattle.rb_decide.specs.Trees.{Taking, take_other, take_arm, take_at, clause_taken, Subtree, arms_of, other_of, test_of, tree_at, tree_step, tree_within, count_of_heads, match_tree}
 use Rattle.rb_decide.specs.Decisions.{TakesChosen}
 use Rattle.rb_decide.specs.inner.Building.{column_ty}
 use Rattle.rb_decide.proofs.Covering.{covered}
@@ -71,31 +71,31 @@ one-wide false m rest f = tt
 none-more : (n m : ℕ) → n ≡ 0 → m ≡ n + m
 none-more n m e = omega (arith, e)
 
-image-wide : (h : Head) (n m : ℕ) (rest : List Pat) (l : Pat-F Pat) → HasFields h n → length rest ≡ m → OptionWide (n + m) (special_image h n rest l)
-image-wide h n m rest (P.Wild at) z f = let a = length-append (wilds n) rest in let g = wilds-length n in omega (arith, a, g, f)
-image-wide h n m rest (P.Var at x) z f = let a = length-append (wilds n) rest in let g = wilds-length n in omega (arith, a, g, f)
-image-wide (H.Num j) n m rest (P.Num at k) z f = subst (λ x. OptionWide x (if k == j then Some rest else None)) (none-more n m z) (one-wide (k == j) m rest f)
-image-wide (H.Con c) n m rest (P.Num at k) z f = tt
-image-wide (H.Num j) n m rest (P.Con at d qs) z f = tt
-image-wide (H.Con c) n m rest (P.Con at d qs) z f = if-wide (d.con == c.con) (length qs == n) n m qs rest refl f
+layer-wide : (h : Head) (n m : ℕ) (rest : List Pat) (l : Pat-F Pat) → HasFields h n → length rest ≡ m → OptionWide (n + m) (special_of_layer h n rest l)
+layer-wide h n m rest (P.Wild at) z f = let a = length-append (wilds n) rest in let g = wilds-length n in omega (arith, a, g, f)
+layer-wide h n m rest (P.Var at x) z f = let a = length-append (wilds n) rest in let g = wilds-length n in omega (arith, a, g, f)
+layer-wide (H.Num j) n m rest (P.Num at k) z f = subst (λ x. OptionWide x (if k == j then Some rest else None)) (none-more n m z) (one-wide (k == j) m rest f)
+layer-wide (H.Con c) n m rest (P.Num at k) z f = tt
+layer-wide (H.Num j) n m rest (P.Con at d qs) z f = tt
+layer-wide (H.Con c) n m rest (P.Con at d qs) z f = if-wide (d.con == c.con) (length qs == n) n m qs rest refl f
 
 special-wide : (h : Head) (n m : ℕ) (ps : List Pat) → HasFields h n → length ps ≡ suc m → OptionWide (n + m) (special_row h n ps)
 special-wide h n m [] z e = tt
-special-wide h n m (p ∷ ps) z e = image-wide h n m ps (out-Pat p) z (omega (arith, e))
+special-wide h n m (p ∷ ps) z e = layer-wide h n m ps (out-Pat p) z (omega (arith, e))
 
 wide-special : (h : Head) (n m : ℕ) (rows : List Row) → HasFields h n → AllWide (suc m) rows → AllWide (n + m) (special_rows h n rows)
 wide-special h n m [] z w = tt
 wide-special h n m (r ∷ rs) z w = wide-keep (n + m) r.clause (special_row h n r.pats) (special_rows h n rs) (special-wide h n m r.pats z w.0) (wide-special h n m rs z w.1)
 
-default_image-wide : (m : ℕ) (rest : List Pat) (l : Pat-F Pat) → length rest ≡ m → OptionWide m (default_image rest l)
-default_image-wide m rest (P.Wild at) f = f
-default_image-wide m rest (P.Var at x) f = f
-default_image-wide m rest (P.Num at k) f = tt
-default_image-wide m rest (P.Con at c ps) f = tt
+default_of_layer-wide : (m : ℕ) (rest : List Pat) (l : Pat-F Pat) → length rest ≡ m → OptionWide m (default_of_layer rest l)
+default_of_layer-wide m rest (P.Wild at) f = f
+default_of_layer-wide m rest (P.Var at x) f = f
+default_of_layer-wide m rest (P.Num at k) f = tt
+default_of_layer-wide m rest (P.Con at c ps) f = tt
 
 default-wide : (m : ℕ) (ps : List Pat) → length ps ≡ suc m → OptionWide m (default_row ps)
 default-wide m [] e = tt
-default-wide m (p ∷ ps) e = default_image-wide m ps (out-Pat p) (omega (arith, e))
+default-wide m (p ∷ ps) e = default_of_layer-wide m ps (out-Pat p) (omega (arith, e))
 
 wide-default : (m : ℕ) (rows : List Row) → AllWide (suc m) rows → AllWide m (default_rows rows)
 wide-default m [] w = tt
@@ -175,9 +175,9 @@ wide-moved : (i n : ℕ) (rows : List Row) → AllWide n rows → AllWide n (map
 wide-moved i n [] w = tt
 wide-moved i n (r ∷ rs) w = (moved-length i r.pats ∙ w.0, wide-moved i n rs w.1)
 
--- images of rows ------------------------------------------------------------------------------------
+-- special and default rows -------------------------------------------------------------------------------------
 
-first-keep : (o : Option (List Pat)) (k : ℕ) (rs : List Row) (xs : List Value) → first_row (keep_row o k rs) xs ≡ (if image_matches o xs then Some k else first_row rs xs)
+first-keep : (o : Option (List Pat)) (k : ℕ) (rs : List Row) (xs : List Value) → first_row (keep_row o k rs) xs ≡ (if row_or_none_matches o xs then Some k else first_row rs xs)
 first-keep None k rs xs = refl
 first-keep (Some r) k rs xs = refl
 
@@ -186,16 +186,16 @@ AllFine bad [] = Unit {0}
 AllFine bad (r ∷ rs) = (bad r.pats ≡ false) × AllFine bad rs
 
 module _ (ws xs : List Value) where
-  first-special : (h : Head) (n : ℕ) → ((ps : List Pat) → row_matches ps ws ≡ image_matches (special_row h n ps) xs) → (rows : List Row) → first_row rows ws ≡ first_row (special_rows h n rows) xs
+  first-special : (h : Head) (n : ℕ) → ((ps : List Pat) → row_matches ps ws ≡ row_or_none_matches (special_row h n ps) xs) → (rows : List Row) → first_row rows ws ≡ first_row (special_rows h n rows) xs
   first-special h n same [] = refl
   first-special h n same (r ∷ rs) = ap (λ b. if b then Some r.clause else first_row rs ws) (same r.pats)
-      ∙ ap (λ o. if image_matches (special_row h n r.pats) xs then Some r.clause else o) (first-special h n same rs)
+      ∙ ap (λ o. if row_or_none_matches (special_row h n r.pats) xs then Some r.clause else o) (first-special h n same rs)
       ∙ sym (first-keep (special_row h n r.pats) r.clause (special_rows h n rs) xs)
 
-  first-default : (bad : List Pat → Bool) → ((ps : List Pat) → bad ps ≡ false → row_matches ps ws ≡ image_matches (default_row ps) xs) → (rows : List Row) → AllFine bad rows → first_row rows ws ≡ first_row (default_rows rows) xs
+  first-default : (bad : List Pat → Bool) → ((ps : List Pat) → bad ps ≡ false → row_matches ps ws ≡ row_or_none_matches (default_row ps) xs) → (rows : List Row) → AllFine bad rows → first_row rows ws ≡ first_row (default_rows rows) xs
   first-default bad same [] f = refl
   first-default bad same (r ∷ rs) f = ap (λ b. if b then Some r.clause else first_row rs ws) (same r.pats f.0)
-      ∙ ap (λ o. if image_matches (default_row r.pats) xs then Some r.clause else o) (first-default bad same rs f.1)
+      ∙ ap (λ o. if row_or_none_matches (default_row r.pats) xs then Some r.clause else o) (first-default bad same rs f.1)
       ∙ sym (first-keep (default_row r.pats) r.clause (default_rows rs) xs)
 
 -- heads that stand nowhere --------------------------------------------------------------------------
@@ -391,8 +391,8 @@ module _ (types : List DataDecl) (v : Value) where
       zero_plus : (i : ℕ) → i ≡ 0 + i
       zero_plus i = omega arith
 
-  module _ (sub : Subtree) (most : ℕ) (takes : (cols : List Column) (rows : List Row) (vs : List Value) (k : ℕ) → heads_in rows < most → Ready cols rows vs k → clause_taken (sub cols rows) v ≡ Some k) where
-    test-takes : (cols : List Column) (rows : List Row) (vs : List Value) (k : ℕ) → heads_in rows ≤ most → is_some (column_head rows) ≡ true → Ready cols rows vs k → clause_taken (test_of types sub cols rows) v ≡ Some k
+  module _ (sub : Subtree) (most : ℕ) (takes : (cols : List Column) (rows : List Row) (vs : List Value) (k : ℕ) → count_of_heads rows < most → Ready cols rows vs k → clause_taken (sub cols rows) v ≡ Some k) where
+    test-takes : (cols : List Column) (rows : List Row) (vs : List Value) (k : ℕ) → count_of_heads rows ≤ most → is_some (column_head rows) ≡ true → Ready cols rows vs k → clause_taken (test_of types sub cols rows) v ≡ Some k
     test-takes [] rows [] k le some r = absurd (no-column rows some r.wide)
     test-takes [] rows (w ∷ ws) k le some r = absurd r.tracks
     test-takes (c ∷ cs) rows [] k le some r = absurd r.tracks
@@ -414,7 +414,7 @@ module _ (types : List DataDecl) (v : Value) where
           first = sym (first-default (w ∷ ws) ws (λ ps. option_begins (row_head ps) (out-Value w)) (default-row w ws) rows (nowhere rows (out-Value w) e)) ∙ r.first;
         })
 
-    step-takes : (cols : List Column) (rows : List Row) (vs : List Value) (k : ℕ) → heads_in rows ≤ most → Ready cols rows vs k → clause_taken (tree_step types sub cols rows) v ≡ Some k
+    step-takes : (cols : List Column) (rows : List Row) (vs : List Value) (k : ℕ) → count_of_heads rows ≤ most → Ready cols rows vs k → clause_taken (tree_step types sub cols rows) v ≡ Some k
     step-takes cols [] vs k le d = let none : None ≡ Some k = d.first in cc
     step-takes cols (r ∷ rs) vs k le d = at (first_test r.pats) refl
       where
@@ -434,7 +434,7 @@ module _ (types : List DataDecl) (v : Value) where
               first = ap (λ l. first_row l (moved i vs)) rows-are ∙ first-moved i (r ∷ rs) vs ∙ d.first;
             })
 
-  within-takes : (n : ℕ) (cols : List Column) (rows : List Row) (vs : List Value) (k : ℕ) → heads_in rows ≤ n → Ready cols rows vs k → clause_taken (tree_within types n cols rows) v ≡ Some k
+  within-takes : (n : ℕ) (cols : List Column) (rows : List Row) (vs : List Value) (k : ℕ) → count_of_heads rows ≤ n → Ready cols rows vs k → clause_taken (tree_within types n cols rows) v ≡ Some k
   within-takes zero cols rows vs k le d = step-takes (λ cs rs. Clause 0) 0 (λ cs rs ws j lt e. absurd (omega (arith, lt))) cols rows vs k le d
   within-takes (suc n) cols rows vs k le d = step-takes (tree_within types n) (suc n) (λ cs rs ws j lt e. within-takes n cs rs ws j (omega (arith, lt)) e) cols rows vs k le d
 
@@ -469,7 +469,7 @@ match-takes types ty ps all v of = by (chosen_clause ps v) refl (all v of)
   where
     by : (o : Option ℕ) → chosen_clause ps v ≡ o → IsSome o → clause_taken (match_tree types ty ps) v ≡ chosen_clause ps v
     by None e h = absurd (false≢true h)
-    by (Some k) e h = within-takes types v (heads_in (match_rows 0 ps)) (match_column ty ∷ []) (match_rows 0 ps) (v ∷ []) k (omega arith) (record {
+    by (Some k) e h = within-takes types v (count_of_heads (match_rows 0 ps)) (match_column ty ∷ []) (match_rows 0 ps) (v ∷ []) k (omega arith) (record {
       wide = match-wide 0 ps;
       tracks = (refl, tt);
       typed = ap (λ b. b && true) of;

@@ -11,7 +11,7 @@ use Rattle.rb_core.specs.declared.pattern.Pat.{Pat}
 use Rattle.rb_core.specs.Values.{part_at}
 use Rattle.rb_matrix.specs.declared.matrix.Head.{Head}
 use Rattle.rb_matrix.specs.Heads.{layer_begins}
-use Rattle.rb_matrix.specs.Counts.{rows_heads}
+use Rattle.rb_matrix.specs.Counts.{rows_head_count}
 use Rattle.rb_decide.specs.declared.clause_matrix.Column.{Column}
 use Rattle.rb_decide.specs.declared.clause_matrix.Row.{Row}
 use Rattle.rb_decide.specs.declared.decision_tree.Tree.{Tree, Test, Clause}
@@ -140,13 +140,13 @@ abbrev pub row_pats : Row → List Pat
 row_pats r = r.pats
 
 -- how many numbers and constructors stand in the patterns of these rows, inner ones among them
-abbrev pub heads_in : List Row → ℕ
-heads_in rows = rows_heads (map row_pats rows)
+abbrev pub count_of_heads : List Row → ℕ
+count_of_heads rows = rows_head_count (map row_pats rows)
 
 -- The tree of a matrix. Each branch has fewer heads than its matrix, so that no way has more tests than the matrix
 -- has heads.
 abbrev pub tree_of : List DataDecl → List Column → List Row → Tree
-tree_of types cols rows = tree_within types (heads_in rows) cols rows
+tree_of types cols rows = tree_within types (count_of_heads rows) cols rows
 
 -- the tree of a match on type ty by patterns ps: that of the matrix of its clauses, the first of which is clause 0
 abbrev pub match_tree : List DataDecl → Ty → List Pat → Tree

@@ -2,8 +2,8 @@
 use Rattle.std.proofs.Common.{◌≡◌, ℕ, List, [], ◌∷◌, ◌++◌, Some, None, Ok, Err, refl}
 use Rattle.rb_edge.specs.declared.named.NamedBytes.{NamedBytes}
 use Rattle.rb_edge.specs.Faults.{one_more}
-use Rattle.rb_edge.specs.History.{Reading, Course, going, ended, failed, fresh_reading, missed, told_end, broken}
-use Rattle.rb_edge.specs.MemSource.{SourceState, held_in, after_open, after_read_into}
+use Rattle.rb_edge.specs.History.{Reading, Course, going, ended, failed, fresh_reading, missed_reading, reading_at_end, broken_reading}
+use Rattle.rb_edge.specs.MemSource.{SourceState, file_bytes, after_open, after_read_into}
 use Rattle.rb_edge.specs.MemSink.{SinkState, after_write}
 
 -- two files of one name, 7, and one of the name 8
@@ -11,10 +11,10 @@ abbrev three : List NamedBytes
 three =
     record { name = 7 ∷ []; bytes = 1 ∷ 2 ∷ 3 ∷ [] } ∷ record { name = 7 ∷ []; bytes = 4 ∷ [] } ∷ record { name = 8 ∷ []; bytes = [] } ∷ []
 
-first-held : held_in three (7 ∷ []) ≡ Some (1 ∷ 2 ∷ 3 ∷ [])
+first-held : file_bytes three (7 ∷ []) ≡ Some (1 ∷ 2 ∷ 3 ∷ [])
 first-held = refl
 
-none-held : held_in three (9 ∷ []) ≡ None
+none-held : file_bytes three (9 ∷ []) ≡ None
 none-held = refl
 
 -- a source before a call, where call 5 fails
@@ -33,7 +33,7 @@ fails-to-open : after_open (before 5 (9 ∷ []) []) (7 ∷ []) ≡ (Err (record 
 fails-to-open = refl
 
 -- a name that isn't held is no fault
-not-held : after_open (before 5 (1 ∷ []) (seven [] going)) (9 ∷ []) ≡ (Err (record {}), before 6 [] (seven [] going ++ missed (9 ∷ []) ∷ []))
+not-held : after_open (before 5 (1 ∷ []) (seven [] going)) (9 ∷ []) ≡ (Err (record {}), before 6 [] (seven [] going ++ missed_reading (9 ∷ []) ∷ []))
 not-held = refl
 
 -- a read gives no more than the step, and what stands behind in the buffer stays
@@ -52,7 +52,7 @@ no-room-to-read = refl
 fails-to-read : after_read_into (before 5 [] (seven [] going)) (0 ∷ []) ≡ (Err (record {}), 0 ∷ [], record (before 6 [] (seven [] failed)) { faults = 1 })
 fails-to-read = refl
 
-stays-failed : told_end (broken (fresh_reading (7 ∷ []))) ≡ missed (7 ∷ [])
+stays-failed : reading_at_end (broken_reading (fresh_reading (7 ∷ []))) ≡ missed_reading (7 ∷ [])
 stays-failed = refl
 
 -- a sink with room for four bytes, where call 5 fails, which said what it took

@@ -6,12 +6,12 @@ use Rattle.std.proofs.lemmas.List.{drop_all}
 use Rattle.std.specs.Option.{option_map}
 use Rattle.std.specs.Str.{bytes_eq}
 use Rattle.rb_edge.specs.declared.named.NamedBytes.{NamedBytes}
-use Rattle.rb_edge.specs.MemSource.{held_in}
+use Rattle.rb_edge.specs.MemSource.{file_bytes}
 use Rattle.rb_edge.specs.Source.{GivesBytes}
 
 -- where the file of an index is of the name, what is held from there on are its bytes
 pub held_in-at : (files : List NamedBytes) (name : List ℕ) (i : ℕ) (f : NamedBytes) → i < length files → f ≡ get_or files i f
-    → bytes_eq f.name name ≡ true → held_in (drop i files) name ≡ option_map (λ file. file.bytes) (slice_get files i)
+    → bytes_eq f.name name ≡ true → file_bytes (drop i files) name ≡ option_map (λ file. file.bytes) (slice_get files i)
 held_in-at [] name i f h e t = absurd (omega arith)
 held_in-at (x ∷ xs) name zero f h e t = let here : bytes_eq x.name name ≡ true = rw e at t in rw here refl
 held_in-at (x ∷ xs) name (suc i) f h e t = held_in-at xs name i f (omega arith) e t

@@ -1,7 +1,7 @@
 -- Readings that go on, and logs that keep them.
 use Rattle.std.proofs.Common.{◌≡◌, ◌≢◌, ◌<◌, ℕ, nat_lt, ◌&&◌, List, [], ◌∷◌, ◌++◌, length, refl, sym, ap, ◌∙◌, append_assoc, append-nil, Bool, if◌then◌else◌}
 use Rattle.std.proofs.lemmas.Bool.{ne_eqb, lt-ltb}
-use Rattle.rb_edge.specs.History.{Reading, Account, handed, told_end, on_last, after_read, after_take}
+use Rattle.rb_edge.specs.History.{Reading, Account, longer_reading, reading_at_end, on_last, after_read, after_take}
 use Rattle.rb_edge.specs.inner.Events.{reading_event, readings_after, account_event, account_after}
 
 -- Logs --------------------------------------------------------------------------------------
@@ -41,24 +41,24 @@ on_last_id more e [] = refl
 on_last_id more e (r ∷ []) = ap (λ (q : Reading). q ∷ []) (sym (e r))
 on_last_id more e (r ∷ s ∷ rs) = ap (λ (xs : List Reading). r ∷ xs) (on_last_id more e (s ∷ rs))
 
-pub handed_none : (r : Reading) → handed [] r ≡ r
+pub handed_none : (r : Reading) → longer_reading [] r ≡ r
 handed_none r = ap (λ (bytes : List ℕ). record r { bytes = bytes }) (append-nil r.bytes)
 
-pub handed_twice : (a b : List ℕ) (r : Reading) → handed b (handed a r) ≡ handed (a ++ b) r
+pub handed_twice : (a b : List ℕ) (r : Reading) → longer_reading b (longer_reading a r) ≡ longer_reading (a ++ b) r
 handed_twice a b r = ap (λ (bytes : List ℕ). record r { bytes = bytes }) (append_assoc r.bytes a b)
 
 -- a read that gave some bytes
-pub gave_some : (room : ℕ) (bytes : List ℕ) (r : Reading) → length bytes ≢ 0 → after_read room bytes r ≡ handed bytes r
-gave_some room bytes r some = ap (λ (none : Bool). if none && nat_lt 0 room then told_end r else handed bytes r) (ne_eqb (length bytes) 0 some)
+pub gave_some : (room : ℕ) (bytes : List ℕ) (r : Reading) → length bytes ≢ 0 → after_read room bytes r ≡ longer_reading bytes r
+gave_some room bytes r some = ap (λ (none : Bool). if none && nat_lt 0 room then reading_at_end r else longer_reading bytes r) (ne_eqb (length bytes) 0 some)
 
 -- a read that gave none, where there was room
-pub gave_none : (room : ℕ) (r : Reading) → 0 < room → after_read room [] r ≡ told_end r
-gave_none room r some = ap (λ (roomy : Bool). if roomy then told_end r else handed [] r) (lt-ltb 0 room some)
+pub gave_none : (room : ℕ) (r : Reading) → 0 < room → after_read room [] r ≡ reading_at_end r
+gave_none room r some = ap (λ (roomy : Bool). if roomy then reading_at_end r else longer_reading [] r) (lt-ltb 0 room some)
 
 -- bytes that were handed out, and then more by a read
-pub read_more : (a b : List ℕ) (room : ℕ) (rs : List Reading) → length b ≢ 0 → on_last (after_read room b) (on_last (handed a) rs) ≡ on_last (handed (a ++ b)) rs
+pub read_more : (a b : List ℕ) (room : ℕ) (rs : List Reading) → length b ≢ 0 → on_last (after_read room b) (on_last (longer_reading a) rs) ≡ on_last (longer_reading (a ++ b)) rs
 read_more a b room rs some =
-    on_last_twice (handed a) (after_read room b) (handed (a ++ b)) (λ r. gave_some room b (handed a r) some ∙ handed_twice a b r) rs
+    on_last_twice (longer_reading a) (after_read room b) (longer_reading (a ++ b)) (λ r. gave_some room b (longer_reading a r) some ∙ handed_twice a b r) rs
 
 -- Accounts ----------------------------------------------------------------------------------
 

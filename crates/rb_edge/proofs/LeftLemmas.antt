@@ -3,7 +3,7 @@ use Rattle.std.proofs.Common.{◌≡◌, ◌≢◌, ◌≤◌, ◌<◌, ◌+◌,
 use Rattle.std.proofs.lemmas.Bool.{le-leb}
 use Rattle.std.specs.declared.vec.Vec.{Vec}
 use Rattle.std.specs.declared.alloc.Global.{Global}
-use Rattle.rb_edge.specs.History.{Reading, going, ended, failed, fresh_reading, handed, told_end, broken, on_last, after_read}
+use Rattle.rb_edge.specs.History.{Reading, going, ended, failed, fresh_reading, longer_reading, reading_at_end, broken_reading, on_last, after_read}
 use Rattle.rb_edge.specs.Whole.{Begins, ReadsOnce, read_to}
 use Rattle.rb_edge.specs.inner.Left.{ReadsOn, goes_on}
 use Rattle.rb_edge.specs.declared.whole.SourceFault.{SourceFault}
@@ -18,38 +18,42 @@ module _ {S : Type 0} (tells : S → Bool) (left : S → List ℕ) (readings : S
       subst (λ (x : Result (Vec ℕ Global) SourceFault). ReadsOn tells left readings old new limit x) (sym is)
       (record { bytes = bytes; within = within; left_so = left_so; on = on; given = tt })
 
-module _ (limit : ℕ) (bytes : List ℕ) (first before after : List Reading) (so_far : before ≡ on_last (handed bytes) first) where
+module _ (limit : ℕ) (bytes : List ℕ) (first before after : List Reading) (so_far : before ≡ on_last (longer_reading bytes) first) where
   -- and then a read that failed
-  pub then_broken : after ≡ on_last broken before → after ≡ on_last (goes_on limit bytes (Err Failed)) first
-  then_broken is = is ∙ ap (λ (rs : List Reading). on_last broken rs) so_far ∙ on_last_twice (handed bytes) broken (goes_on limit bytes (Err Failed)) (λ r. refl) first
+  pub then_broken : after ≡ on_last broken_reading before → after ≡ on_last (goes_on limit bytes (Err Failed)) first
+  then_broken is = is ∙ ap (λ (rs : List Reading). on_last broken_reading rs) so_far ∙ on_last_twice (longer_reading bytes) broken_reading (goes_on limit bytes (Err Failed)) (λ r. refl) first
 
   -- and then a read that gave some
-  pub then_more : (room : ℕ) (more : List ℕ) → after ≡ on_last (after_read room more) before → length more ≢ 0 → after ≡ on_last (handed (bytes ++ more)) first
+  pub then_more : (room : ℕ) (more : List ℕ) → after ≡ on_last (after_read room more) before → length more ≢ 0 → after ≡ on_last (longer_reading (bytes ++ more)) first
   then_more room more is some = is ∙ ap (λ (rs : List Reading). on_last (after_read room more) rs) so_far ∙ read_more bytes more room first some
 
-  told_by : (v : Vec ℕ Global) (r : Reading) → length bytes ≤ limit → told_end (handed bytes r) ≡ goes_on limit bytes (Ok v) r
-  told_by v r short = ap (λ (b : Bool). if b then told_end (handed bytes r) else handed bytes r) (sym (le-leb (length bytes) limit short))
+  told_by : (v : Vec ℕ Global) (r : Reading) → length bytes ≤ limit → reading_at_end (longer_reading bytes r) ≡ goes_on limit bytes (Ok v) r
+  told_by v r short = ap (λ (b : Bool). if b then reading_at_end (longer_reading bytes r) else longer_reading bytes r) (sym (le-leb (length bytes) limit short))
 
   -- and then a read that gave none where there was room
   pub then_ended : (v : Vec ℕ Global) (room n : ℕ) (buffer : List ℕ) → after ≡ on_last (after_read room (take n buffer)) before → n ≡ 0
       → length bytes ≤ limit → 0 < room → after ≡ on_last (goes_on limit bytes (Ok v)) first
   then_ended v room n buffer is none short roomy =
       is ∙ ap (λ (k : ℕ). on_last (after_read room (take k buffer)) before) none ∙ ap (λ (rs : List Reading). on_last (after_read room []) rs) so_far
-      ∙ on_last_same (after_read room []) told_end (λ r. gave_none room r roomy) (on_last (handed bytes) first)
-      ∙ on_last_twice (handed bytes) told_end (goes_on limit bytes (Ok v)) (λ r. told_by v r short) first
+      ∙ on_last_same (after_read room []) reading_at_end (λ r. gave_none room r roomy) (on_last (longer_reading bytes) first)
+      ∙ on_last_twice (longer_reading bytes) reading_at_end (goes_on limit bytes (Ok v)) (λ r. told_by v r short) first
 
 -- a read that gave a byte
 pub some_taken : (n : ℕ) (buffer : List ℕ) → n ≢ 0 → n ≤ length buffer → length (take n buffer) ≢ 0
 some_taken n buffer some within e = let cut = length-take n buffer in some (omega (arith, e, cut, within))
 
-pub take_front : (n : ℕ) (xs ys : List ℕ) → n ≤ length xs → take n (xs ++ ys) ≡ take n xs
+take_front : (n : ℕ) (xs ys : List ℕ) → n ≤ length xs → take n (xs ++ ys) ≡ take n xs
 take_front zero xs ys within = refl
 take_front (suc n) [] ys within = absurd (omega (arith, within))
 take_front (suc n) (x ∷ xs) ys within = ap (λ (zs : List ℕ). x ∷ zs) (take_front n xs ys (omega (arith, within)))
 
+-- the front of what was read, with more behind it, was added to bytes
+pub front_added : (n : ℕ) (all bytes xs ys : List ℕ) → all ≡ bytes ++ take n (xs ++ ys) → n ≤ length xs → all ≡ bytes ++ take n xs
+front_added n all bytes xs ys is within = is ∙ ap (λ (zs : List ℕ). bytes ++ zs) (take_front n xs ys within)
+
 -- A file that is opened and then read -------------------------------------------------------
 
-made : (name bytes : List ℕ) (b : Bool) → (if b then told_end (handed bytes (fresh_reading name)) else handed bytes (fresh_reading name))
+made : (name bytes : List ℕ) (b : Bool) → (if b then reading_at_end (longer_reading bytes (fresh_reading name)) else longer_reading bytes (fresh_reading name))
     ≡ record { name = name; bytes = bytes; course = if b then ended else going }
 made name bytes true = refl
 made name bytes false = refl

@@ -2,7 +2,7 @@
 -- been.
 use Rattle.std.specs.Prelude.{ℕ, List, [], ◌∷◌, ◌++◌}
 use Rattle.rb_edge.specs.Faults.{one_more}
-use Rattle.rb_edge.specs.History.{Reading, fresh_reading, missed, broken, on_last}
+use Rattle.rb_edge.specs.History.{Reading, fresh_reading, missed_reading, broken_reading, on_last}
 
 -- what contracts see of a source of files of the system
 pub record SourceCounts : Type 0 where
@@ -17,8 +17,8 @@ after_opening s name = record s { readings = s.readings ++ fresh_reading name �
 
 -- the source after the opening of a name failed: one reading more, which failed, and one fault more
 abbrev pub after_miss : SourceCounts → List ℕ → SourceCounts
-after_miss s name = record { readings = s.readings ++ missed name ∷ []; faults = one_more s.faults }
+after_miss s name = record { readings = s.readings ++ missed_reading name ∷ []; faults = one_more s.faults }
 
 -- the source after a read failed: the last reading failed, if there is one, and there is one fault more
 abbrev pub after_failure : SourceCounts → SourceCounts
-after_failure s = record { readings = on_last broken s.readings; faults = one_more s.faults }
+after_failure s = record { readings = on_last broken_reading s.readings; faults = one_more s.faults }

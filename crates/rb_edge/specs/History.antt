@@ -22,26 +22,26 @@ abbrev pub fresh_reading : List ℕ → Reading
 fresh_reading name = record { name = name; bytes = []; course = going }
 
 -- the reading of a file of that name whose opening failed
-abbrev pub missed : List ℕ → Reading
-missed name = record { name = name; bytes = []; course = failed }
+abbrev pub missed_reading : List ℕ → Reading
+missed_reading name = record { name = name; bytes = []; course = failed }
 
 -- a reading after more bytes of it were handed out
-abbrev pub handed : List ℕ → Reading → Reading
-handed bytes r = record r { bytes = r.bytes ++ bytes }
+abbrev pub longer_reading : List ℕ → Reading → Reading
+longer_reading bytes r = record r { bytes = r.bytes ++ bytes }
 
 -- a course after the end was told; what failed does not come to an end
-abbrev pub told : Course → Course
-told going = ended
-told ended = ended
-told failed = failed
+abbrev pub course_at_end : Course → Course
+course_at_end going = ended
+course_at_end ended = ended
+course_at_end failed = failed
 
 -- a reading after its end was told; one that failed stays failed
-abbrev pub told_end : Reading → Reading
-told_end r = record r { course = told r.course }
+abbrev pub reading_at_end : Reading → Reading
+reading_at_end r = record r { course = course_at_end r.course }
 
 -- a reading after a read of it failed: it keeps the bytes that were handed out, and has failed whatever it was before
-abbrev pub broken : Reading → Reading
-broken r = record r { course = failed }
+abbrev pub broken_reading : Reading → Reading
+broken_reading r = record r { course = failed }
 
 -- readings of which the last goes on as `more` says, and the others stay; where there is none, nothing changes
 abbrev pub on_last : (Reading → Reading) → List Reading → List Reading
@@ -52,7 +52,7 @@ on_last more (r ∷ s ∷ rs) = r ∷ on_last more (s ∷ rs)
 -- A reading after a read gave these bytes into a buffer with so much room, in bytes: no bytes where there is room
 -- tell the end, and else the bytes were handed out.
 abbrev pub after_read : ℕ → List ℕ → Reading → Reading
-after_read room bytes r = if (length bytes == 0) && nat_lt 0 room then told_end r else handed bytes r
+after_read room bytes r = if (length bytes == 0) && nat_lt 0 room then reading_at_end r else longer_reading bytes r
 
 -- what a sink said: the bytes that it took, and how many it had taken at each write that failed
 pub record Account : Type 0 where

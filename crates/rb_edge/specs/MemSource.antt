@@ -7,7 +7,7 @@ use Rattle.rb_edge.specs.declared.source.Failed.{Failed}
 use Rattle.rb_edge.specs.Calls.{fails_at, next_call}
 use Rattle.rb_edge.specs.Faults.{one_more}
 use Rattle.rb_edge.specs.History as history
-use Rattle.rb_edge.specs.History.{Reading, fresh_reading, missed, broken, on_last}
+use Rattle.rb_edge.specs.History.{Reading, fresh_reading, missed_reading, broken_reading, on_last}
 
 -- a source in memory between two calls
 pub record SourceState : Type 0 where
@@ -38,34 +38,34 @@ bytes_in None = []
 bytes_in (Some file) = file.bytes
 
 -- the bytes of the opened file, by its index among the files; none where no file is open, or none has that index
-abbrev pub opened_bytes : List NamedBytes → Option ℕ → List ℕ
-opened_bytes files None = []
-opened_bytes files (Some i) = bytes_in (slice_get files i)
+abbrev pub open_file_bytes : List NamedBytes → Option ℕ → List ℕ
+open_file_bytes files None = []
+open_file_bytes files (Some i) = bytes_in (slice_get files i)
 
 -- the bytes of the first file of that name; None where no file has it
-abbrev pub held_in : List NamedBytes → List ℕ → Option (List ℕ)
-held_in files name = option_map (λ f. f.bytes) (find (λ f. bytes_eq f.name name) files)
+abbrev pub file_bytes : List NamedBytes → List ℕ → Option (List ℕ)
+file_bytes files name = option_map (λ f. f.bytes) (find (λ f. bytes_eq f.name name) files)
 
 -- a source after a call that was no fault, with these bytes left of the opened file and these readings
-abbrev pub served : SourceState → List ℕ → List Reading → SourceState
-served s left readings = record s { calls = next_call s.calls; left = left; readings = readings }
+abbrev pub after_service : SourceState → List ℕ → List Reading → SourceState
+after_service s left readings = record s { calls = next_call s.calls; left = left; readings = readings }
 
 -- a source after a call that was a fault, with these bytes left of the opened file and these readings
-abbrev pub faulted : SourceState → List ℕ → List Reading → SourceState
-faulted s left readings = record (served s left readings) { faults = one_more s.faults }
+abbrev pub after_fault : SourceState → List ℕ → List Reading → SourceState
+after_fault s left readings = record (after_service s left readings) { faults = one_more s.faults }
 
 -- What opening a name answers, and the source after it, by the bytes that are held under the name: where nothing is
 -- held it fails, which is no fault; else where the call's number says so it fails, which is one. After both no file
 -- is open, and one reading more has failed. Else all of those bytes are left, and one reading more is begun.
 abbrev pub opening_of : SourceState → List ℕ → Option (List ℕ) → Result (Unit {0}) Failed × SourceState
-opening_of s name None = (Err (record {}), served s [] (s.readings ++ missed name ∷ []))
+opening_of s name None = (Err (record {}), after_service s [] (s.readings ++ missed_reading name ∷ []))
 opening_of s name (Some bytes) =
-    if fails_at s.fail s.calls then (Err (record {}), faulted s [] (s.readings ++ missed name ∷ []))
-    else (Ok tt, served s bytes (s.readings ++ fresh_reading name ∷ []))
+    if fails_at s.fail s.calls then (Err (record {}), after_fault s [] (s.readings ++ missed_reading name ∷ []))
+    else (Ok tt, after_service s bytes (s.readings ++ fresh_reading name ∷ []))
 
 -- what opening a name answers, and the source after it
 abbrev pub after_open : SourceState → List ℕ → Result (Unit {0}) Failed × SourceState
-after_open s name = opening_of s name (held_in s.files name)
+after_open s name = opening_of s name (file_bytes s.files name)
 
 -- how many bytes a read into a buffer of `room` bytes gives, where it doesn't fail: as many as there is room for, one
 -- read gives and are left, so 0 where none is left
@@ -79,5 +79,5 @@ abbrev pub after_read_into : SourceState → List ℕ → Result ℕ Failed × L
 after_read_into s buffer =
     let n = read_count s (length buffer) in
     let readings = on_last (history.after_read (length buffer) (take n s.left)) s.readings in
-    if fails_at s.fail s.calls then (Err (record {}), buffer, faulted s s.left (on_last broken s.readings))
-    else (Ok n, take n s.left ++ drop n buffer, served s (drop n s.left) readings)
+    if fails_at s.fail s.calls then (Err (record {}), buffer, after_fault s s.left (on_last broken_reading s.readings))
+    else (Ok n, take n s.left ++ drop n buffer, after_service s (drop n s.left) readings)

@@ -19,9 +19,9 @@ read_to limit name bytes =
     record { name = name; bytes = bytes; course = if leb (length bytes) limit then ended else going }
 
 -- the course of a file that was not read because of this fault: for want of memory more bytes may follow
-abbrev pub stopped_by : SourceFault → Course
-stopped_by Failed = failed
-stopped_by Memory = going
+abbrev pub course_by : SourceFault → Course
+course_by Failed = failed
+course_by Memory = going
 
 -- Between the sources `old` and `new` the file of that name was opened once, or failed to be, and nothing else was;
 -- at most one byte over the limit was taken. `result` has the bytes that were handed out, or why there is none. Where
@@ -35,7 +35,7 @@ pub record ReadsOnce {S : Type 0} (tells : S → Bool) (held : S → List ℕ �
   pub within : length reading.bytes ≤ limit + 1
   pub held_so : IsTrue (tells old) → Begins (held old name) reading.bytes
   pub given : IfOk result (λ bytes. reading ≡ read_to limit name bytes)
-  pub stopped : IfErr result (λ fault. reading.course ≡ stopped_by fault)
+  pub stopped : IfErr result (λ fault. reading.course ≡ course_by fault)
 
 -- Some bytes were written until a write failed. A front of them, which is not all, was taken, and the write that
 -- failed was the last: `old` and `new` are what the sink had taken before and after, where it tells that, and

@@ -1,10 +1,10 @@
 //! Files of the system as a source.
 
-ghost use Rattle.std.specs.Prelude.{◌≡◌, ◌≤◌, ℕ, List, [], ◌∷◌, ◌++◌, take, Bool, false, Option, None, length, IsNone, IsErr, IfOk, OnOk, OnErr};
+ghost use Rattle.std.specs.Prelude.{◌≡◌, ◌≤◌, [], take, false, Option, None, length, IsNone, IsErr, IfOk, OnOk, OnErr};
 ghost use Rattle.std.specs.Str.{IsUtf8};
 ghost use Rattle.rb_edge.specs.Faults.{one_more};
 ghost use Rattle.rb_edge.specs.FileSource.{after_opening, after_miss, after_failure};
-ghost use Rattle.rb_edge.specs.History.{Reading, missed, broken, on_last, after_read};
+ghost use Rattle.rb_edge.specs.History.{on_last, after_read};
 
 use crate::history::Readings;
 use crate::source::{Failed, Source};

@@ -2,8 +2,8 @@
 //! opened, or should have been: its name, the bytes that were handed out since, and how far that
 //! came. Both are kept in a log, as events, each a number, its kind, with bytes.
 
-ghost use Rattle.std.specs.Prelude.{◌≡◌, ℕ, List, [], ◌∷◌, ◌++◌};
-ghost use Rattle.rb_edge.specs.History.{fresh_reading, missed, handed, told_end, broken, on_last, after_read, no_account, after_take, after_break};
+ghost use Rattle.std.specs.Prelude.{◌≡◌, List, [], ◌∷◌, ◌++◌};
+ghost use Rattle.rb_edge.specs.History.{fresh_reading, missed_reading, longer_reading, reading_at_end, broken_reading, on_last, after_read, no_account, after_take, after_break};
 
 use crate::log::Log;
 use std::marker::Model;
@@ -63,21 +63,21 @@ impl Readings {
 
     /// Adds the reading of a name whose opening failed.
     pub fn miss(&mut self, name: &[u8])
-        ensures { self.new ≡ self.old ++ missed name.now ∷ [] }
+        ensures { self.new ≡ self.old ++ missed_reading name.now ∷ [] }
     {
         self.log.note(MISSED, name);
     }
 
     // Tells the last reading, if there is one, that more bytes were handed out.
     fn hand(&mut self, bytes: &[u8])
-        ensures { self.new ≡ on_last (handed bytes.now) self.old }
+        ensures { self.new ≡ on_last (longer_reading bytes.now) self.old }
     {
         self.log.note(HANDED, bytes);
     }
 
     // Tells the last reading, if there is one, that its end was told.
     fn end(&mut self)
-        ensures { self.new ≡ on_last told_end self.old }
+        ensures { self.new ≡ on_last reading_at_end self.old }
     {
         self.log.note(ENDED, &[]);
     }
@@ -96,7 +96,7 @@ impl Readings {
 
     /// Tells the last reading, if there is one, that a read of it failed.
     pub fn fail(&mut self)
-        ensures { self.new ≡ on_last broken self.old }
+        ensures { self.new ≡ on_last broken_reading self.old }
     {
         self.log.note(BROKEN, &[]);
     }

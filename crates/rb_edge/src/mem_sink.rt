@@ -1,8 +1,6 @@
 //! A sink in memory, whose calls fail by their numbers.
 
-ghost use Rattle.std.specs.Prelude.{◌≡◌, ◌≤◌, ◌<◌, ◌+◌, ◌++◌, ℕ, List, [], Bool, true, IsTrue, IfOk, OnErr, Ok, Err, take, length};
-ghost use Rattle.rb_edge.specs.Faults.{Rose};
-ghost use Rattle.rb_edge.specs.History.{Account, after_take, after_break};
+ghost use Rattle.std.specs.Prelude.{◌≡◌, ◌≤◌, ◌<◌, true, IfOk, Ok, Err, take, length};
 ghost use Rattle.rb_edge.specs.MemSink.{new_sink, after_write};
 
 use crate::calls::is_failing;

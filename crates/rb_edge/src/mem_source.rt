@@ -1,12 +1,10 @@
 //! A source in memory, whose calls fail by their numbers.
 
-ghost use Rattle.std.specs.Prelude.{◌≡◌, ◌≤◌, ◌<◌, ◌+◌, ◌++◌, ℕ, List, [], ◌∷◌, Bool, true, Option, Some, None, MatchOption, IsTrue, IfOk, OnOk, OnErr, IsErr, Ok, Err, take, drop, length, slice_get};
+ghost use Rattle.std.specs.Prelude.{◌≡◌, ◌≤◌, ◌<◌, ◌+◌, [], true, Option, Some, None, MatchOption, IfOk, Ok, Err, drop, length, slice_get};
 ghost use Rattle.std.specs.Option.{option_map};
-ghost use Rattle.rb_edge.specs.Faults.{Rose};
-ghost use Rattle.rb_edge.specs.History.{Reading, fresh_reading, missed, broken, on_last};
 ghost use Rattle.rb_edge.specs.History as history;
-ghost use Rattle.rb_edge.specs.Source.{HoldsTheSame, GivesBytes, FailsToOpen};
-ghost use Rattle.rb_edge.specs.MemSource.{new_source, held_in, opened_bytes, after_open, after_read_into};
+ghost use Rattle.rb_edge.specs.Source.{GivesBytes};
+ghost use Rattle.rb_edge.specs.MemSource.{new_source, file_bytes, open_file_bytes, after_open, after_read_into};
 
 use crate::calls::is_failing;
 use crate::history::Readings;
@@ -39,7 +37,7 @@ pub struct MemSource {
 
 impl Model for MemSource {
     ghost use Rattle.std.specs.Prelude.{◌≤◌, drop, length};
-    ghost use Rattle.rb_edge.specs.MemSource.{SourceState, opened_bytes};
+    ghost use Rattle.rb_edge.specs.MemSource.{SourceState, open_file_bytes};
 
     ghost Value = { SourceState };
 
@@ -48,12 +46,12 @@ impl Model for MemSource {
       step = s.step;
       fail = s.fail;
       calls = s.calls;
-      left = drop s.at (opened_bytes s.files s.opened);
+      left = drop s.at (open_file_bytes s.files s.opened);
       readings = s.readings;
       faults = s.faults;
     } };
 
-    ghost invariant = { λ s. (1 ≤ s.step) × (s.at ≤ length (opened_bytes s.files s.opened)) };
+    ghost invariant = { λ s. (1 ≤ s.step) × (s.at ≤ length (open_file_bytes s.files s.opened)) };
 }
 
 impl MemSource {
@@ -78,8 +76,8 @@ impl MemSource {
 
 // The index of the first file of that name; `None` where no file has it.
 fn index_of(files: &[NamedBytes], name: &[u8]) -> Option<usize>
-    ensures found { MatchOption result (held_in files.now name.now ≡ None)
-        (λ i. held_in files.now name.now ≡ option_map (λ f. f.bytes) (slice_get files.now i)) }
+    ensures found { MatchOption result (file_bytes files.now name.now ≡ None)
+        (λ i. file_bytes files.now name.now ≡ option_map (λ f. f.bytes) (slice_get files.now i)) }
     ensures within { MatchOption result (0 ≤ length files.now) (λ i. i < length files.now) }
 {
     for (i, file) in files.iter().enumerate() {
@@ -92,7 +90,7 @@ fn index_of(files: &[NamedBytes], name: &[u8]) -> Option<usize>
 
 // The bytes of the file of that index; no bytes where it is `None` or no file has it.
 fn bytes_at(files: &Seq<NamedBytes>, opened: Option<usize>) -> &[u8]
-    ensures { result.now ≡ opened_bytes files.now opened }
+    ensures { result.now ≡ open_file_bytes files.now opened }
 {
     match opened {
         None => &[],
@@ -106,7 +104,7 @@ fn bytes_at(files: &Seq<NamedBytes>, opened: Option<usize>) -> &[u8]
 impl Source for MemSource {
     ghost tells = { λ _. true };
 
-    ghost held = { λ s name. held_in s.files name };
+    ghost held = { λ s name. file_bytes s.files name };
 
     ghost left = { λ s. s.left };
 

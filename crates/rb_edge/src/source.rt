@@ -2,7 +2,7 @@
 
 ghost use Rattle.std.specs.Prelude.{◌≡◌, ◌≤◌, ℕ, List, [], ◌∷◌, ◌++◌, take, Bool, Option, Some, None, length, IsTrue, IfOk, OnOk, OnErr, IsErr};
 ghost use Rattle.rb_edge.specs.Faults.{Rose};
-ghost use Rattle.rb_edge.specs.History.{Reading, fresh_reading, missed, broken, on_last, after_read};
+ghost use Rattle.rb_edge.specs.History.{Reading, fresh_reading, missed_reading, broken_reading, on_last, after_read};
 ghost use Rattle.rb_edge.specs.Source.{HoldsTheSame, GivesBytes, FailsToOpen};
 
 use thiserror::Error;
@@ -43,7 +43,7 @@ pub trait Source {
 
         ensures begun { OnOk result (readings self.new ≡ readings self.old ++ fresh_reading name.now ∷ []) }
         ensures missed { OnErr result (readings self.new
-            ≡ readings self.old ++ missed name.now ∷ []) }
+            ≡ readings self.old ++ missed_reading name.now ∷ []) }
 
         ensures opened { OnOk result (IsTrue (tells self.old)
             → held self.old name.now ≡ Some (left self.new)) }
@@ -68,7 +68,7 @@ pub trait Source {
 
         ensures handed { IfOk result (λ n. readings self.new
             ≡ on_last (after_read (length buf.old) (take n buf.new)) (readings self.old)) }
-        ensures broken { OnErr result (readings self.new ≡ on_last broken (readings self.old)) }
+        ensures broken { OnErr result (readings self.new ≡ on_last broken_reading (readings self.old)) }
 
         ensures within { IfOk result (λ n. n ≤ length buf.old) }
         ensures bytes { IfOk result (λ n. IsTrue (tells self.old)

@@ -1,8 +1,8 @@
 //! A stream of the system as a sink.
 
-ghost use Rattle.std.specs.Prelude.{◌≡◌, ◌≤◌, ◌<◌, ℕ, List, [], Bool, false, take, length, IfOk, OnErr};
+ghost use Rattle.std.specs.Prelude.{◌≡◌, ◌≤◌, ◌<◌, [], false, take, length, IfOk, OnErr};
 ghost use Rattle.rb_edge.specs.Faults.{one_more};
-ghost use Rattle.rb_edge.specs.History.{Account, no_account, after_take, after_break};
+ghost use Rattle.rb_edge.specs.History.{no_account, after_take, after_break};
 
 use crate::history::Said;
 use crate::sink::Sink;

@@ -3,6 +3,7 @@
 use Rattle.std.proofs.Common.{◌≡◌, ℕ, zero, suc, ◌+◌, ◌<◌, ◌==◌, ◌&&◌, inl, inr, length, map, List, [], ◌∷◌, ◌++◌, Bool, true, false, Some, drop, refl, sym, subst, ap, ◌∙◌, arith}
 use Rattle.std.specs.Prelude.{slice_get, if◌then◌else◌}
 use Rattle.std.specs.List.{list_all}
+use Rattle.std.proofs.lemmas.Bool.{and_parts}
 use Rattle.std.proofs.lemmas.Option.{same_Some}
 use Rattle.std.proofs.lemmas.List.{length-map}
 use Rattle.rb_core.specs.declared.value.Value.{Value, Con}
@@ -28,7 +29,7 @@ use Rattle.rb_layout.specs.Positions.{Open, root_type, below, opens_below, opens
 use Rattle.rb_rel.specs.Switches.{HeadAt, begins_with, choose_of, inner_heads, is_leaf_for, head_below, heads_below, heads_of, heads_step}
 use Rattle.rb_rel.proofs.Agreeing.{lawful}
 use Rattle.rb_rel.specs.Provenances.{fits_type, is_named}
-use Rattle.rb_rel.proofs.Lists.{both, and_true, get-append, get-map}
+use Rattle.rb_rel.proofs.Lists.{and_true, get-append, get-map}
 use Rattle.rb_rel.proofs.Opens.{fits-Con, opens-Con, opens-Wild, opens-Var}
 use Rattle.rb_rel.proofs.Reading.{same_nat}
 use Rattle.rb_core.proofs.ValueLaws.{subs-Con}
@@ -88,7 +89,7 @@ module _ (types : List DataDecl) where
   all_free : (ps : List Pat) (i : ℕ) → list_all may_be_below (map (fold-Pat Below below_step) ps) ≡ true → heads_below (map heads_of ps) i ≡ [] → AllFree ps
   all_free [] i b h = tt
   all_free (q ∷ ps) i b h =
-      let c = both (may_be_below (fold-Pat Below below_step q)) (list_all may_be_below (map (fold-Pat Below below_step) ps)) b in
+      let c = and_parts (may_be_below (fold-Pat Below below_step q)) (list_all may_be_below (map (fold-Pat Below below_step) ps)) b in
       let n = append_none (map (head_below i) (heads_of q)) (heads_below (map heads_of ps) (i + 1)) h in
       (frees q c.0 (map_none (head_below i) (heads_of q) n.0), all_free ps (i + 1) c.1 n.1)
 
@@ -127,7 +128,7 @@ module _ (types : List DataDecl) where
   as_many [] [] e = refl
   as_many [] (t ∷ ts) e = absurd cc
   as_many (p ∷ ps) [] e = absurd cc
-  as_many (p ∷ ps) (t ∷ ts) e = ap suc (as_many ps ts (both (p t) (all_of_types ps ts) e).1)
+  as_many (p ∷ ps) (t ∷ ts) e = ap suc (as_many ps ts (and_parts (p t) (all_of_types ps ts) e).1)
 
   module _ (t k : ℕ) (ts : List Ty) (is_fields : fields_in (slice_get types t) k ≡ Some ts) where
     -- what a plain provenance with the constructor at its root matches, and its open positions
@@ -144,7 +145,7 @@ module _ (types : List DataDecl) where
         let shaped : list_all may_be_below (map (fold-Pat Below below_step) ps) ≡ true = sym (ap (λ (b : Below). b.provenance) (PL.fold-Con Below below_step at c ps)) ∙ prov in
         let heads : heads_below (map heads_of ps) 0 ≡ [] = sym (ap (λ hs. drop 1 hs) (PL.fold-Con (List HeadAt) heads_step at c ps)) ∙ none in
         let free = all_free ps 0 shaped heads in
-        let f = both (is_named c.ty (Named t)) (are_of (map (fits_type types) ps) (fields_of types c)) (sym (fits-Con types at c ps (Named t)) ∙ fits) in
+        let f = and_parts (is_named c.ty (Named t)) (are_of (map (fits_type types) ps) (fields_of types c)) (sym (fits-Con types at c ps (Named t)) ∙ fits) in
         let ty : t ≡ c.ty = same_nat t c.ty f.0 in
         let fields : fields_of types c ≡ Some ts = ap (λ y. fields_in (slice_get types y) c.con) (sym ty) ∙ ap (λ y. fields_in (slice_get types t) y) con ∙ is_fields in
         let all : all_of_types (map (fits_type types) ps) ts ≡ true = ap (are_of (map (fits_type types) ps)) (sym fields) ∙ f.1 in
@@ -176,7 +177,7 @@ module _ (types : List DataDecl) where
     num = λ at n t k vs r m. absurd (let h : Int 64 ≡ Named t = sym (ap root_type (outs-Num at n)) ∙ r in cc);
     con = λ at c ps each t k vs r m.
         let h : is_con c.con (map matches_of ps) (V.Con k vs) ≡ true = sym (ap (is_con c.con (map matches_of ps)) (outs-Con k vs)) ∙ sym (matches-Con (Con k vs) at c ps) ∙ m in
-        root_con k at c ps ∙ (both (c.con == k) (all_pass (map matches_of ps) vs) h).0;
+        root_con k at c ps ∙ (and_parts (c.con == k) (all_pass (map matches_of ps) vs) h).0;
   })
 
 -- Leaves -----------------------------------------------------------------------------------------

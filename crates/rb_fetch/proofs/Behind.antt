@@ -20,7 +20,7 @@ use Rattle.rb_layout.specs.Positions.{leaf_of, layout_of}
 use Rattle.rb_rel.specs.Switches.{depth_of, inner_heads, mend_of}
 use Rattle.rb_rel.proofs.Agreeing.{lawful}
 use Rattle.rb_fragment.specs.Adding.{Adds}
-use Rattle.rb_fragment.specs.Arms.{AreHoles, AreOfOneWay, ArePatchable, closed}
+use Rattle.rb_fragment.specs.Arms.{AreHoles, AreOfOneWay, ArePatchable, with_targets}
 use Rattle.rb_fragment.specs.Pieces.{Branches, CodePiece}
 use Rattle.rb_fragment.specs.Plan.{Plan, Rep, words_needed}
 use Rattle.rb_fragment.specs.Slots.{AllBelow}
@@ -30,7 +30,7 @@ use Rattle.rb_fragment.proofs.Pieces.{piece_weaken}
 use Rattle.rb_compose.specs.declared.subvalue.Subvalue.{Subvalue}
 use Rattle.rb_fetch.specs.declared.choice.Way.{Way}
 use Rattle.rb_fetch.specs.declared.known.Seen.{Seen}
-use Rattle.rb_fetch.specs.Finding.{FindsLeaf, HasLeaf, leaf_count, leaves_within}
+use Rattle.rb_fetch.specs.Finding.{FindsLeaf, HasLeaf, leaf_count, layout_leaf_count}
 use Rattle.rb_fetch.specs.inner.Choosing.{AreOpen, AreWaysOf, BranchIn, BranchesDone, BranchesStand, ChoosesBelow, ChoosesBy, ChoosesUnder, HasLeaves, IsPartIn, IsPlaceOf, AreInnerWords, ChoiceIsReady, IsWayAt, PartsHold, TakesOneWay, left_of, look_cost}
 use Rattle.rb_fetch.specs.inner.Heads.{is_among, leaf_known, shown_heads}
 use Rattle.rb_fetch.proofs.Branching.{behind_same, way_piece, whole_adds, whole_grows}
@@ -74,10 +74,10 @@ module _ (agreed : LaidOut) (flat : agreed.layouts ≡ flat_layouts agreed.cover
     (finds : FindsLeaf agreed s words old e holes) (holes_are : AreHoles (length old.code) (leaf_count agreed s) e.code holes) (one : AreOfOneWay holes)
     (done : BranchesDone agreed t leaves seen xs path s words count e q starts ways) where
   many_holes : AreHoles (length old.code) count e.code holes
-  many_holes = subst (λ n. AreHoles (length old.code) n e.code holes) (ap leaves_within has.1 ∙ has.2) holes_are
+  many_holes = subst (λ n. AreHoles (length old.code) n e.code holes) (ap layout_leaf_count has.1 ∙ has.2) holes_are
 
   abbrev whole : Sheet
-  whole = closed q holes starts
+  whole = with_targets q holes starts
 
   pub look_open : Grows old.code e.code → AreOpen (length old.code) whole.code ways
   look_open g =

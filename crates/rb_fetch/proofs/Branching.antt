@@ -10,7 +10,7 @@ use Rattle.rb_target.specs.Sheet.{Sheet}
 use Rattle.rb_target.specs.Targets.{IsHoleAmong}
 use Rattle.rb_target.proofs.Growing.{Keeps-trans}
 use Rattle.rb_fragment.specs.Adding.{Adds}
-use Rattle.rb_fragment.specs.Arms.{AreHoles, AreOfOneWay, closed}
+use Rattle.rb_fragment.specs.Arms.{AreHoles, AreOfOneWay, with_targets}
 use Rattle.rb_fragment.specs.Pieces.{Branches, CodePiece}
 use Rattle.rb_fragment.specs.Plan.{Plan}
 use Rattle.rb_fragment.specs.Slots.{AllBelow, AllFrom}
@@ -30,7 +30,7 @@ one_hole from count code h (x ∷ hs) (suc k, at) a = one_hole from count code h
 -- the code that goes one of so many ways, its holes closed: what stands in it and behind it
 module _ (b e q : Sheet) (count : ℕ) (holes : List Hole) (starts : List ℕ) (holes_are : AreHoles (length b.code) count e.code holes) (longer : Grows e.code q.code) where
   abbrev whole : Sheet
-  whole = closed q holes starts
+  whole = with_targets q holes starts
 
   -- behind it nothing changes
   pub behind_same : (pc : ℕ) → length e.code ≤ pc → slice_get whole.code pc ≡ slice_get q.code pc
@@ -70,7 +70,7 @@ module _ (b e q : Sheet) (count : ℕ) (holes : List Hole) (starts : List ℕ) (
             let len = whole_length in
             let grown = choice.adds.grows.longer in
             let on = longer.longer in
-            let of_choice : AgreesBut final (closed e holes starts).code (length b.code) (length e.code) Nowhere = record {
+            let of_choice : AgreesBut final (with_targets e holes starts).code (length b.code) (length e.code) Nowhere = record {
               same = λ pc lo hi out.
                   agrees.same pc lo (omega (arith, hi, len, on)) (λ o. let h = opens pc o in omega (arith, h, hi))
                   ∙ at_closed q holes starts pc ∙ ap (retarget_all pc holes starts) (longer.same pc hi) ∙ sym (at_closed e holes starts pc);

@@ -1,6 +1,7 @@
 -- The choice of a construction's leaf, as its callers see it.
 use Rattle.std.proofs.Common.{◌≡◌, ℕ, zero, suc, ◌+◌, map, length, List, [], ◌∷◌, Bool, true, Some, None, refl, sym, subst, ap, ◌∙◌, arith}
 use Rattle.std.specs.Prelude.{slice_get}
+use Rattle.std.proofs.lemmas.Bool.{and_parts}
 use Rattle.std.proofs.lemmas.Option.{same_Some}
 use Rattle.rb_core.specs.declared.value.Value.{Value, Con}
 use Rattle.rb_core.specs.declared.value.Value.TheVariants.{outs-Con}
@@ -28,7 +29,6 @@ use Rattle.rb_layout.specs.Flattening.{flat_layouts}
 use Rattle.rb_layout.specs.Positions.{layout_of, leaves_of_layout, open_positions}
 use Rattle.rb_rel.specs.Switches.{HeadAt, choose_of, heads_below, heads_of}
 use Rattle.rb_rel.proofs.Agreeing.{lawful}
-use Rattle.rb_rel.proofs.Lists.{both}
 use Rattle.rb_fragment.specs.declared.held.Held.{Held}
 use Rattle.rb_fragment.specs.Holding.{AllGiven, AreHeld, held_type}
 use Rattle.rb_fragment.specs.Pieces.{Branches}
@@ -90,14 +90,14 @@ typed_each types vs ts [] k h kinds typed e = absurd cc
 typed_each types vs [] (x ∷ hs) k h kinds typed e = absurd cc
 typed_each types [] (t ∷ ts) (x ∷ hs) k h kinds typed e = absurd cc
 typed_each types (v ∷ vs) (t ∷ ts) (x ∷ hs) zero h kinds typed e =
-    let b = both (is_of_type types v t) (all_of_types (map (is_of_type types) vs) ts) typed in
+    let b = and_parts (is_of_type types v t) (all_of_types (map (is_of_type types) vs) ts) typed in
     let kind : t ≡ h.ty = sym (heads_same (held_type x) t (map held_type hs) ts kinds) ∙ ap held_type (same_Some x h e) in
     (v, refl, ap (is_of_type types v) (sym kind) ∙ b.0)
   where
     heads_same : (a b : Ty) (xs ys : List Ty) → a ∷ xs ≡ b ∷ ys → a ≡ b
     heads_same a b xs ys e1 = same_Some a b (ap (λ zs. slice_get zs 0) e1)
 typed_each types (v ∷ vs) (t ∷ ts) (x ∷ hs) (suc k) h kinds typed e =
-    let b = both (is_of_type types v t) (all_of_types (map (is_of_type types) vs) ts) typed in
+    let b = and_parts (is_of_type types v t) (all_of_types (map (is_of_type types) vs) ts) typed in
     typed_each types vs ts hs k h (tails_same (held_type x) t (map held_type hs) ts kinds) b.1 e
 
 pub held_each : (plan : Plan) (clean : Bool) (s : List ℕ) (m : Memory) (hs : List Held) (vs : List Value) (k : ℕ) (h : Held) (u : Value) → AreHeld plan clean s m hs vs → slice_get hs k ≡ Some h → slice_get vs k ≡ Some u

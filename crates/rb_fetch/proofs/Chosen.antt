@@ -16,7 +16,7 @@ use Rattle.rb_core.specs.WellNumbered.{Below, below_step, either, may_be_below}
 use Rattle.rb_core.proofs.PatternLaws as PL
 use Rattle.rb_target.specs.declared.instr.Instr.TheVariants.{Jump}
 use Rattle.rb_target.specs.Growth.{Grows}
-use Rattle.rb_target.specs.Sheet.{Sheet, pushed}
+use Rattle.rb_target.specs.Sheet.{Sheet, with_more}
 use Rattle.rb_target.proofs.Growing.{Grows-append, Keeps-refl, get-seam}
 use Rattle.rb_layout.specs.declared.agreed.LaidOut.{LaidOut}
 use Rattle.rb_layout.specs.declared.layout.Layout.{Layout}
@@ -207,7 +207,7 @@ module _ (agreed : LaidOut) (typed : IsTyped agreed.covered.program) (flat : agr
     the_way = record { pc = length old.code; leaf = n; fields = xs }
 
     abbrev ended : Sheet
-    ended = pushed old (Jump (length old.code + 1))
+    ended = with_more old (Jump (length old.code + 1))
 
     end_adds : Adds plan old ended
     end_adds = push_adds plan old (Jump (length old.code + 1)) (record { bounded = tt; slots_fit = tt; targets = (omega arith, omega arith); calls = tt })

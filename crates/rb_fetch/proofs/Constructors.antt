@@ -3,6 +3,7 @@
 use Rattle.std.proofs.Common.{◌≡◌, ℕ, zero, suc, ◌+◌, ◌==◌, ◌&&◌, map, List, [], ◌∷◌, ◌++◌, true, Option, Some, None, refl, sym, subst, ap, ◌∙◌, arith, inl, inr}
 use Rattle.std.specs.Prelude.{slice_get}
 use Rattle.std.specs.List.{list_all}
+use Rattle.std.proofs.lemmas.Bool.{and_parts}
 use Rattle.std.proofs.lemmas.Option.{same_Some}
 use Rattle.rb_core.specs.declared.value.Value.{Value, out-Value, roll-Value, roll-out-Value}
 use Rattle.rb_core.specs.declared.value.Value as Values
@@ -22,7 +23,7 @@ use Rattle.rb_core.proofs.MatchingForms.{matches-Wild, matches-Var, matches-Con}
 use Rattle.rb_core.proofs.ValueLaws.{is_of_type-Con}
 use Rattle.rb_rel.specs.Switches.{HeadAt, head_below, heads_below, heads_of, heads_step}
 use Rattle.rb_rel.specs.Provenances.{fits_type, is_named}
-use Rattle.rb_rel.proofs.Lists.{both, and_true, get-append, get-map, get-left, get-right, get-mapped}
+use Rattle.rb_rel.proofs.Lists.{and_true, get-append, get-map, get-left, get-right, get-mapped}
 use Rattle.rb_rel.proofs.Opens.{fits-Con}
 use Rattle.rb_rel.proofs.Reading.{same_nat}
 use Rattle.rb_fetch.specs.inner.Choosing.{HasAll, HasCon, root_con}
@@ -64,7 +65,7 @@ in_fields : (ps : List Pat) → PL.Each Shows ps → (vs : List Value) → all_p
 in_fields [] each vs pass i k h e = absurd cc
 in_fields (p ∷ ps) each [] pass i k h e = absurd cc
 in_fields (p ∷ ps) each (v ∷ vs) pass i k h e =
-    let b = both (matches_of p v) (all_pass (map matches_of ps) vs) pass in
+    let b = and_parts (matches_of p v) (all_pass (map matches_of ps) vs) pass in
     elim (get-append (map (head_below i) (heads_of p)) (heads_below (map heads_of ps) (i + 1)) k h e) [
       | inl a ↦
           let g = get-map (head_below i) (heads_of p) k h a in
@@ -88,12 +89,12 @@ con_shows : (at : ℕ) (c : ConRef) (ps : List Pat) → PL.Each Shows ps → (v 
     → HasAll (record { path = []; con = c } ∷ heads_below (map heads_of ps) 0) v
 con_shows at c ps each v (V.Num n) e m k h is = absurd cc
 con_shows at c ps each v (V.Con j vs) e m zero h is =
-    let b = both (c.con == j) (all_pass (map matches_of ps) vs) m in
+    let b = and_parts (c.con == j) (all_pass (map matches_of ps) vs) m in
     let same : c.con ≡ j = same_nat c.con j b.0 in
     let here : record { path = []; con = c } ≡ h = same_Some _ h is in
     subst (λ (x : HeadAt). HasCon v x.path x.con.con) here (v, refl, ap root_con e ∙ ap Some (sym same))
 con_shows at c ps each v (V.Con j vs) e m (suc k) h is =
-    let b = both (c.con == j) (all_pass (map matches_of ps) vs) m in
+    let b = and_parts (c.con == j) (all_pass (map matches_of ps) vs) m in
     let f = in_fields ps each vs b.1 0 k h is in
     let z : 0 + f.number ≡ f.number = omega arith in
     let to : part_at v h.path ≡ Some f.has.0 =
@@ -125,9 +126,9 @@ module _ (types : List DataDecl) where
   fields_match (p ∷ ps) each vs [] i v at below fits typed has = absurd cc
   fields_match (p ∷ ps) each [] (t ∷ ts) i v at below fits typed has = absurd cc
   fields_match (p ∷ ps) each (x ∷ vs) (t ∷ ts) i v at below fits typed has =
-      let b = both (may_be_below (fold-Pat Below below_step p)) (list_all may_be_below (map (fold-Pat Below below_step) ps)) below in
-      let f = both (fits_type types p t) (all_of_types (map (fits_type types) ps) ts) fits in
-      let g = both (is_of_type types x t) (all_of_types (map (is_of_type types) vs) ts) typed in
+      let b = and_parts (may_be_below (fold-Pat Below below_step p)) (list_all may_be_below (map (fold-Pat Below below_step) ps)) below in
+      let f = and_parts (fits_type types p t) (all_of_types (map (fits_type types) ps) ts) fits in
+      let g = and_parts (is_of_type types x t) (all_of_types (map (is_of_type types) vs) ts) typed in
       let z : i + 0 ≡ i = omega arith in
       let here : sub_at (Some v) i ≡ Some x = ap (sub_at (Some v)) (sym z) ∙ at 0 in
       let first : matches_of p x ≡ true = each.0 x t b.0 f.0 g.0 (λ k h e.
@@ -153,7 +154,7 @@ module _ (types : List DataDecl) where
       let h = has 0 (record { path = []; con = c }) refl in
       let same : v ≡ h.0 = same_Some v h.0 h.1 in
       let con : j ≡ c.con = same_Some j c.con (ap root_con (sym e) ∙ ap (λ u. root_con (out-Value u)) same ∙ h.2) in
-      let f = both (is_named c.ty ty) (are_of (map (fits_type types) ps) (fields_of types c)) fits in
+      let f = and_parts (is_named c.ty ty) (are_of (map (fits_type types) ps) (fields_of types c)) fits in
       let is : ty ≡ Named c.ty = named_type 0 c.ty 0 ty f.0 in
       let made : v ≡ Values.Con j vs = sym (roll-out-Value v) ∙ ap roll-Value e ∙ rolled j vs in
       let of : are_of (map (is_of_type types) vs) (fields_of types c) ≡ true =

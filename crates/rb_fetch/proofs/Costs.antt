@@ -2,6 +2,7 @@
 use Rattle.std.proofs.Common.{◌≡◌, ℕ, zero, suc, ◌+◌, ◌≤◌, ◌==◌, map, List, [], ◌∷◌, ◌++◌, ◌⊎◌, inl, inr, Bool, true, false, Some, refl, sym, ap, ◌∙◌, arith}
 use Rattle.std.specs.Prelude.{slice_get, not, if◌then◌else◌}
 use Rattle.std.specs.List.{filter, flat_map, sum_by}
+use Rattle.std.proofs.lemmas.Bool.{and_parts}
 use Rattle.std.proofs.lemmas.Option.{same_Some}
 use Rattle.std.proofs.lemmas.List.Sums.{sum_by-cons}
 use Rattle.rb_core.specs.declared.program.Program.{Program}
@@ -11,7 +12,7 @@ use Rattle.rb_layout.specs.declared.layout.Layout.{Layout}
 use Rattle.rb_layout.specs.Flattening.{flat_layouts, same_path}
 use Rattle.rb_layout.specs.Positions.{layout_of, leaves_of_layout}
 use Rattle.rb_rel.specs.Switches.{HeadAt, choose_of, distinct_places, greatest, inner_heads, is_leaf_for, mend_leaf, mend_of, places_of, same_place}
-use Rattle.rb_rel.proofs.Lists.{both, and_true, get-left, get-right}
+use Rattle.rb_rel.proofs.Lists.{and_true, get-left, get-right}
 use Rattle.rb_rel.proofs.Mending.{mending_recurs}
 use Rattle.rb_rel.proofs.Reading.{same_nat}
 use Rattle.rb_fetch.specs.inner.Choosing.{is_left, left_of, look_cost}
@@ -27,7 +28,7 @@ path_same [] [] e = refl
 path_same [] (j ∷ q) e = absurd cc
 path_same (i ∷ p) [] e = absurd cc
 path_same (i ∷ p) (j ∷ q) e =
-    let b = both (i == j) (same_path p q) e in
+    let b = and_parts (i == j) (same_path p q) e in
     ap (λ n. n ∷ p) (same_nat i j b.0) ∙ ap (λ r. j ∷ r) (path_same p q b.1)
 
 pub path_self : (p : List ℕ) → same_path p p ≡ true
@@ -125,7 +126,7 @@ record IsPlaced (hs : List HeadAt) (h : HeadAt) : Type 0 where
 
 same_place_is : (a b : HeadAt) → same_place a b ≡ true → (a.path ≡ b.path) × (a.con.ty ≡ b.con.ty)
 same_place_is a b e =
-    let p = both (same_path a.path b.path) (a.con.ty == b.con.ty) e in
+    let p = and_parts (same_path a.path b.path) (a.con.ty == b.con.ty) e in
     (path_same a.path b.path p.0, same_nat a.con.ty b.con.ty p.1)
 
 placed : (hs : List HeadAt) (k : ℕ) (h : HeadAt) → slice_get hs k ≡ Some h → IsPlaced hs h

@@ -2,6 +2,7 @@
 use Rattle.std.proofs.Common.{◌≡◌, ℕ, zero, suc, ◌+◌, ◌≤◌, ◌==◌, map, length, take, List, [], ◌∷◌, ◌++◌, Bool, true, Option, Some, None, refl, sym, subst, ap, ◌∙◌, arith}
 use Rattle.std.specs.Prelude.{slice_get}
 use Rattle.std.specs.List.{sum_by}
+use Rattle.std.proofs.lemmas.Bool.{and_parts}
 use Rattle.std.proofs.lemmas.Option.{same_Some}
 use Rattle.std.proofs.lemmas.List.{append-nil}
 use Rattle.rb_core.specs.declared.value.Value.{Value, out-Value, roll-Value, roll-out-Value}
@@ -30,7 +31,6 @@ use Rattle.rb_layout.specs.Agreement.{Agrees, AreAgreed}
 use Rattle.rb_layout.specs.Flattening.{flat_layouts}
 use Rattle.rb_layout.specs.Positions.{layout_of, leaf_of, root_type, types_or_none}
 use Rattle.rb_rel.specs.Switches.{choose_of, mend_leaf}
-use Rattle.rb_rel.proofs.Lists.{both}
 use Rattle.rb_rel.proofs.Reading.{same_nat}
 use Rattle.rb_fragment.specs.declared.held.Held.{Held}
 use Rattle.rb_fragment.specs.Holding.{AreHeld, held_type}
@@ -82,13 +82,13 @@ passed : (ps : List Pat) (vs : List Value) → all_pass (map matches_of ps) vs �
 passed [] [] e = refl
 passed [] (v ∷ vs) e = absurd cc
 passed (p ∷ ps) [] e = absurd cc
-passed (p ∷ ps) (v ∷ vs) e = ap suc (passed ps vs (both (matches_of p v) (all_pass (map matches_of ps) vs) e).1)
+passed (p ∷ ps) (v ∷ vs) e = ap suc (passed ps vs (and_parts (matches_of p v) (all_pass (map matches_of ps) vs) e).1)
 
 as_many : (types : List DataDecl) (vs : List Value) (ts : List Ty) → all_of_types (map (is_of_type types) vs) ts ≡ true → length vs ≡ length ts
 as_many types [] [] e = refl
 as_many types [] (t ∷ ts) e = absurd cc
 as_many types (v ∷ vs) [] e = absurd cc
-as_many types (v ∷ vs) (t ∷ ts) e = ap suc (as_many types vs ts (both (is_of_type types v t) (all_of_types (map (is_of_type types) vs) ts) e).1)
+as_many types (v ∷ vs) (t ∷ ts) e = ap suc (as_many types vs ts (and_parts (is_of_type types v t) (all_of_types (map (is_of_type types) vs) ts) e).1)
 
 made-roll : (k : ℕ) (us : List Value) → roll-Value (V.Con k us) ≡ Values.Con k us
 unfolding roll-Value denote.Hole.Carrier.roll
@@ -112,7 +112,7 @@ made types at c ps u of m = go (out-Value u) refl (sym (matches-Con u at c ps) �
     go : (lv : Value-F Value) → out-Value u ≡ lv → is_con c.con (map matches_of ps) lv ≡ true → IsMade types c ps u
     go (V.Num n) e m1 = absurd cc
     go (V.Con k us) e m1 =
-        let b = both (c.con == k) (all_pass (map matches_of ps) us) m1 in
+        let b = and_parts (c.con == k) (all_pass (map matches_of ps) us) m1 in
         let same : c.con ≡ k = same_nat c.con k b.0 in
         let subs_are : subs u ≡ us = ap subs_in e in
         let of1 : are_of (map (is_of_type types) us) (fields_of types c) ≡ true = ap (λ n. are_of (map (is_of_type types) us) (fields_in (slice_get types c.ty) n)) same ∙ sym (rolled k us (sym (roll-out-Value u) ∙ ap roll-Value e)) ∙ of in

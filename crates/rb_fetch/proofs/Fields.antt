@@ -1,6 +1,7 @@
 -- The reads of a field mean words that represent the part of a value there.
 use Rattle.std.proofs.Common.{◌≡◌, ℕ, zero, suc, ◌+◌, ◌<◌, ◌≤◌, ◌⊎◌, inl, inr, List, [], ◌∷◌, ◌++◌, length, map, true, Option, Some, None, refl, sym, subst, ap, ◌∙◌, arith, length-append}
 use Rattle.std.specs.Prelude.{slice_get, slice_index, nat_le}
+use Rattle.std.proofs.lemmas.Bool.{and_parts}
 use Rattle.std.proofs.lemmas.Bool.Decides.{nat_tests}
 use Rattle.std.proofs.lemmas.List.{length-map}
 use Rattle.std.proofs.lemmas.Option.{same_Some, slice_get_within}
@@ -23,7 +24,7 @@ use Rattle.rb_layout.specs.Positions.{Open, open_positions, layout_of}
 use Rattle.rb_layout.proofs.OpenPositions.{position-typed}
 use Rattle.rb_rel.specs.Relation.{shape_length, word_count}
 use Rattle.rb_rel.proofs.Agreeing.{lawful}
-use Rattle.rb_rel.proofs.Lists.{both, get-append-at}
+use Rattle.rb_rel.proofs.Lists.{get-append-at}
 use Rattle.rb_rel.proofs.Represented.{Represents-int, Represents-count, opened_at}
 use Rattle.rb_rel.proofs.Widths.{positions_typed}
 use Rattle.rb_fragment.specs.declared.reads.Read.{Read, Slot}
@@ -95,7 +96,7 @@ module _ (plan : Plan) (typed : IsTyped plan.program) (agreed : AreAgreed plan.p
       let held : HoldsInt f.leaf path width =
       (λ i lt. unit_there f.leaf (Int width) path i (law.all_held t f.layout n f.leaf is_layout f.is_leaf f.number (record { path = path; ty = Int width }) i open1 lt)) in
       let declared = positions_typed plan.program.types typed.numbered.types f.leaf.prov t (law.provenances.root t f.layout n f.leaf is_layout f.is_leaf) f.number (record { path = path; ty = Int width }) open1 in
-      let low = (both (nat_le 1 width) (nat_le width 64) declared).1 in
+      let low = (and_parts (nat_le 1 width) (nat_le width 64) declared).1 in
       let narrow : width ≤ 64 = grind (arith, nat_tests, low) in
       let ra = reads narrow held in
       record {

@@ -46,7 +46,7 @@ use Rattle.rb_fragment.proofs.MakingAll.{slots_fit, slots_meant}
 use Rattle.rb_fragment.proofs.Adding.{Adds-refl}
 use Rattle.rb_fetch.specs.Fetching.{StepsFit, LocFits}
 use Rattle.rb_fetch.specs.inner.Fetching.{AreSmall}
-use Rattle.rb_fetch.specs.Finding.{HasLeafMeant, IsPlanOf, FindsLeaf, FindsLeafOf, leaves_within, leaf_count}
+use Rattle.rb_fetch.specs.Finding.{HasLeafMeant, IsPlanOf, FindsLeaf, FindsLeafOf, layout_leaf_count, leaf_count}
 use Rattle.rb_fetch.specs.inner.Looking.{TreeFits, LeavesBelow, IsLeafHole, Looks}
 use Rattle.rb_fetch.proofs.Fitting.{readable_leaf, resolved_fits, root_widths}
 use Rattle.rb_fetch.proofs.Numbers.{loc_of, counted, stands}
@@ -181,7 +181,7 @@ module _ (agreed : LaidOut) (typed : IsTyped agreed.covered.program) (flat : agr
       finds_holes =
           let is1 : layout_of (flat_layouts agreed.covered.program) t ≡ Some layout = ap (λ ls. layout_of ls t) (sym flat) ∙ is in
           let below = leaves_below agreed.covered.program typed agrees t layout is1 in
-          subst (λ n. AreHoles (length old.code) n new.code holes) (ap leaves_within (sym is)) (are_holes (length old.code) (length layout.leaves) new.code holes
+          subst (λ n. AreHoles (length old.code) n new.code holes) (ap layout_leaf_count (sym is)) (are_holes (length old.code) (length layout.leaves) new.code holes
           (λ h i. (
             elim (looks.more.new h i) [ inl j ↦ absurd (nothing h j) | inr r ↦ r.0 ],
             elim (looks.leaves (length layout.leaves) below h i) [ inl j ↦ absurd (nothing h j) | inr r ↦ r ],

@@ -17,8 +17,10 @@ use Rattle.rb_layout.specs.declared.layout.WordRef.{WordRef}
 use Rattle.rb_core.specs.declared.layout_decl.LayoutDecl.{LayoutDecl}
 use Rattle.rb_core.specs.Layouts.{provenances, is_short_layout}
 use Rattle.rb_core.specs.WellNumbered.{layout_is_numbered, provenance_is_numbered, is_between}
+use Rattle.rb_core.proofs.MatchingLemmas.{all_at}
 use Rattle.std.proofs.lemmas.Bool.Decides.{nat_tests}
 use Rattle.std.specs.List.{list_all}
+use Rattle.std.proofs.lemmas.Bool.{and_parts}
 use Rattle.rb_layout.specs.A1.{A1, HasShape}
 use Rattle.rb_layout.specs.A2.{widths_of}
 use Rattle.rb_layout.specs.A4.{IsBlockWidth, HasBlocks}
@@ -29,8 +31,7 @@ use Rattle.rb_layout.specs.Positions.{layout_of}
 use Rattle.rb_layout.specs.Words.{words_in, words_of_block, flat_at, begins_at, bytes_taken}
 use Rattle.rb_rel.specs.Relation.{IsFound}
 use Rattle.rb_rel.proofs.Declared.{declared, decl_at}
-use Rattle.rb_rel.proofs.Provenances.{all_at}
-use Rattle.rb_rel.proofs.Lists.{both, get-mapped}
+use Rattle.rb_rel.proofs.Lists.{get-mapped}
 use Rattle.rb_rel.proofs.Parts.{IsTidyLeaf}
 use Rattle.rb_rel.proofs.Reading.{chosen, leb_is, block_in-is, word_beginning-is, reads_loc}
 use Rattle.rb_rel.proofs.Tidy.{tidy_leaves}
@@ -97,7 +98,7 @@ module _ (leaf : Leaf) (ok : IsReadable leaf) where
       go None is h = absurd cc
       go (Some f) is h =
           let c = chosen (leb 1 l && leb (o + l) f.width) (record { ref = r; word = f; o = o; l = l }) x h in
-          let b = both (leb 1 l) (leb (o + l) f.width) c.0 in
+          let b = and_parts (leb 1 l) (leb (o + l) f.width) c.0 in
           let low = leb_is 1 l b.0 in
           let high = leb_is (o + l) f.width b.1 in
           let wide = short r.block r.word f is in
@@ -145,7 +146,7 @@ shape_short : (p : Program) → IsTyped p → A1 p → (t : ℕ) (d : LayoutDecl
 shape_short p typed a1 t d is j w e =
     let at = decl_at p.layouts t d is in
     let a = all_at (layout_is_numbered p.types) p.layouts at.0 d typed.numbered.layouts at.1 in
-    let b = both (nat_lt d.ty (length p.types)) (is_between 1 8 (length d.shape) && (list_all (provenance_is_numbered p.types) (provenances d.tree) && is_short_layout d.tree)) a in
+    let b = and_parts (nat_lt d.ty (length p.types)) (is_between 1 8 (length d.shape) && (list_all (provenance_is_numbered p.types) (provenances d.tree) && is_short_layout d.tree)) a in
     let lt : d.ty < length p.types = (let h = b.0 in grind (arith, nat_tests, h)) in
     let here : t < length p.types = omega (arith, lt, at.2) in
     low (decl_of p.layouts t) is (a1 t here)

@@ -5,6 +5,7 @@ use Rattle.std.proofs.Math.Nat.{mod-eq_of_lt}
 use Rattle.std.proofs.Math.Pow.{pow_mono}
 use Rattle.std.proofs.lemmas.Nat.{pow-add}
 use Rattle.std.specs.Prelude.{slice_get, slice_index, nat_le}
+use Rattle.std.proofs.lemmas.Bool.{and_parts}
 use Rattle.std.proofs.lemmas.List.{length-map}
 use Rattle.std.proofs.lemmas.Option.{same_Some}
 use Rattle.rb_core.specs.declared.layout_decl.Loc.{Loc}
@@ -23,27 +24,27 @@ use Rattle.rb_fragment.specs.Reads.{where_some, word_of_load, mean, is_range, is
 use Rattle.rb_fragment.specs.WordReads.{AreMeant, AllFit}
 use Rattle.rb_fragment.proofs.MakingAll.{meant-at, slots_fit, slots_meant}
 use Rattle.rb_fragment.proofs.Pieces.{straight_weaken}
-use Rattle.rb_fragment.proofs.ReadForms.{both, mean-Bits, mean-Address, mean-Loaded, fits-Bits, fits-Address, fits-Loaded}
+use Rattle.rb_fragment.proofs.ReadForms.{mean-Bits, mean-Address, mean-Loaded, fits-Bits, fits-Address, fits-Loaded}
 use Rattle.rb_fetch.specs.Fetching.{StepsFit, LocFits, IsReadAt, FetchesLoc}
 use Rattle.rb_fetch.specs.inner.Fetching.{AreSmall, FetchesAt}
 use Rattle.rb_fetch.specs.declared.span.Span.{Span}
-use Rattle.rb_compose.specs.Counts.{capped}
+use Rattle.rb_compose.specs.Counts.{capped_bits}
 use Rattle.rb_fetch.specs.inner.Reads.{FitsWidth, Spans, IsSameRange, ReadsRange, is_all, reach, step_span, span_on, read_or, SpansLoc}
 
 -- Fitting
 
-capped-is : (n : ℕ) → n ≤ 64 → capped n ≡ n
+capped-is : (n : ℕ) → n ≤ 64 → capped_bits n ≡ n
 capped-is n le = omega (arith, le)
 
-range_yes : (o l : ℕ) → IsRange o l → is_range (capped o) (capped l) ≡ true
+range_yes : (o l : ℕ) → IsRange o l → is_range (capped_bits o) (capped_bits l) ≡ true
 range_yes o l r =
     let co = capped-is o (omega (arith, r.0, r.1)) in
     let cl = capped-is l (omega (arith, r.1)) in
     let low : nat_le 1 l ≡ true = grind (arith, nat_tests, r.0) in
     let high : nat_le (o + l) 64 ≡ true = grind (arith, nat_tests, r.1) in
-    ap (λ k. is_range k (capped l)) co ∙ ap (λ k. is_range o k) cl ∙ ap (λ t. t && nat_le (o + l) 64) low ∙ high
+    ap (λ k. is_range k (capped_bits l)) co ∙ ap (λ k. is_range o k) cl ∙ ap (λ t. t && nat_le (o + l) 64) low ∙ high
 
-width_capped : (w : ℕ) → IsWidth w → capped w ≡ w
+width_capped : (w : ℕ) → IsWidth w → capped_bits w ≡ w
 width_capped w (inl e) = omega (arith, e)
 width_capped w (inr (inl e)) = omega (arith, e)
 width_capped w (inr (inr (inl e))) = omega (arith, e)
@@ -60,7 +61,7 @@ width_yes w (inr (inr (inr e))) = ap is_width e
 all_is : (width : Option ℕ) (o l : ℕ) → is_all width o l ≡ true → (o ≡ 0) × (width ≡ Some l)
 all_is None o l h = absurd cc
 all_is (Some width) o l h =
-    let e = both (o == 0) (l == width) h in (eqb-true o 0 e.0, ap Some (sym (eqb-true l width e.1)))
+    let e = and_parts (o == 0) (l == width) h in (eqb-true o 0 e.0, ap Some (sym (eqb-true l width e.1)))
 
 reach_range : (width : Option ℕ) (o l : ℕ) → IsRange o l → IsRange o (reach width o l)
 reach_range width o l range = go (is_all width o l) refl
@@ -83,28 +84,28 @@ reach_bits width o l w range small = go (is_all width o l) refl
     go false is = refl
 
 module _ (n : ℕ) where
-  address_fits : (r : Read) (o l align : ℕ) → fits n r ≡ true → IsRange o l → fits n (Address r (capped o) (capped l) align) ≡ true
-  address_fits r o l align f range = fits-Address n r (capped o) (capped l) align ∙ ap (λ t. t && is_range (capped o) (capped l)) f ∙ range_yes o l range
+  address_fits : (r : Read) (o l align : ℕ) → fits n r ≡ true → IsRange o l → fits n (Address r (capped_bits o) (capped_bits l) align) ≡ true
+  address_fits r o l align f range = fits-Address n r (capped_bits o) (capped_bits l) align ∙ ap (λ t. t && is_range (capped_bits o) (capped_bits l)) f ∙ range_yes o l range
 
-  loaded_fits : (r : Read) (byte width : ℕ) → fits n r ≡ true → byte ≤ 511 → IsWidth width → fits n (Loaded r byte (capped width)) ≡ true
+  loaded_fits : (r : Read) (byte width : ℕ) → fits n r ≡ true → byte ≤ 511 → IsWidth width → fits n (Loaded r byte (capped_bits width)) ≡ true
   loaded_fits r byte width f low wide =
       let few : nat_le byte 511 ≡ true = grind (arith, nat_tests, low) in
-      fits-Loaded n r byte (capped width) ∙ ap (λ t. t && (nat_le byte 511 && is_width (capped width))) f ∙ ap (λ t. t && is_width (capped width)) few
+      fits-Loaded n r byte (capped_bits width) ∙ ap (λ t. t && (nat_le byte 511 && is_width (capped_bits width))) f ∙ ap (λ t. t && is_width (capped_bits width)) few
       ∙ ap is_width (width_capped width wide) ∙ width_yes width wide
 
   pub span_fits : (steps : List Step) (p : Span) → fits n p.read ≡ true → StepsFit p.o p.l steps → fits n (span_on p steps).read ≡ true
   span_fits [] p f h = f
   span_fits (s ∷ steps) p f h =
       span_fits steps (step_span p s)
-      (loaded_fits (Address p.read (capped p.o) (capped (reach p.width p.o p.l)) s.align) s.byte s.width (address_fits p.read p.o (reach p.width p.o p.l) s.align f (reach_range p.width p.o p.l h.0)) h.1 h.2) h.3
+      (loaded_fits (Address p.read (capped_bits p.o) (capped_bits (reach p.width p.o p.l)) s.align) s.byte s.width (address_fits p.read p.o (reach p.width p.o p.l) s.align f (reach_range p.width p.o p.l h.0)) h.1 h.2) h.3
 
   pub word_fits : (words : List Read) (k : ℕ) → AllFit n words → k < length words → fits n (read_or (slice_get words k)) ≡ true
   word_fits [] k all lt = absurd (omega (arith, lt))
   word_fits (r ∷ words) zero all lt = all.0
   word_fits (r ∷ words) (suc k) all lt = word_fits words k all.1 (omega (arith, lt))
 
-  pub bits_fit : (p : Span) → fits n p.read ≡ true → IsRange p.o p.l → fits n (Bits p.read (capped p.o) (capped p.l)) ≡ true
-  bits_fit p f range = fits-Bits n p.read (capped p.o) (capped p.l) ∙ ap (λ t. t && is_range (capped p.o) (capped p.l)) f ∙ range_yes p.o p.l range
+  pub bits_fit : (p : Span) → fits n p.read ≡ true → IsRange p.o p.l → fits n (Bits p.read (capped_bits p.o) (capped_bits p.l)) ≡ true
+  bits_fit p f range = fits-Bits n p.read (capped_bits p.o) (capped_bits p.l) ∙ ap (λ t. t && is_range (capped_bits p.o) (capped_bits p.l)) f ∙ range_yes p.o p.l range
 
 -- a step goes on from any range
 range_first : (steps : List Step) (o l : ℕ) → StepsFit o l steps → IsRange o l
@@ -177,12 +178,12 @@ module _ (s : List ℕ) (m : Memory) (good : IsGood m) (x : ℕ) where
       let q = after_some (load_of m a t.byte t.width) (λ k. read_from m k t.o t.l steps) x e in
       let low = address_small m a t.byte t.width q.0 good q.1 in
       let whole : a % 2 ^ 64 ≡ a = mod-eq_of_lt (omega (arith, low)) in
-      let address = Address p.read (capped o) (capped n) t.align in
+      let address = Address p.read (capped_bits o) (capped_bits n) t.align in
       let at : mean address s m ≡ Some a =
-      mean-Address p.read (capped o) (capped n) t.align s m ∙ ap (λ v. where_some v (λ k. Some (take_of k (capped o) (capped n) * t.align % 2 ^ 64))) h.is_word
-      ∙ ap (λ k. Some (take_of w k (capped n) * t.align % 2 ^ 64)) co ∙ ap (λ k. Some (take_of w o k * t.align % 2 ^ 64)) cn ∙ ap (λ k. Some (k * t.align % 2 ^ 64)) same ∙ ap (λ k. Some k) whole in
-      let next : mean (Loaded address t.byte (capped t.width)) s m ≡ Some q.0 =
-      mean-Loaded address t.byte (capped t.width) s m ∙ ap (λ v. where_some v (λ base. word_of_load (load_of m base t.byte (capped t.width)))) at
+      mean-Address p.read (capped_bits o) (capped_bits n) t.align s m ∙ ap (λ v. where_some v (λ k. Some (take_of k (capped_bits o) (capped_bits n) * t.align % 2 ^ 64))) h.is_word
+      ∙ ap (λ k. Some (take_of w k (capped_bits n) * t.align % 2 ^ 64)) co ∙ ap (λ k. Some (take_of w o k * t.align % 2 ^ 64)) cn ∙ ap (λ k. Some (k * t.align % 2 ^ 64)) same ∙ ap (λ k. Some k) whole in
+      let next : mean (Loaded address t.byte (capped_bits t.width)) s m ≡ Some q.0 =
+      mean-Loaded address t.byte (capped_bits t.width) s m ∙ ap (λ v. where_some v (λ base. word_of_load (load_of m base t.byte (capped_bits t.width)))) at
       ∙ ap (λ k. word_of_load (load_of m a t.byte k)) cw ∙ ap word_of_load q.1 in
       span_means steps (step_span p t) (take_of q.0 t.o t.l) fit.3
       (record { word = q.0; is_word = next; small = load_small m a t.byte t.width q.0 good q.1; are_bits = refl }) q.2
@@ -213,14 +214,14 @@ module _ (s : List ℕ) (m : Memory) (good : IsGood m) (x : ℕ) where
 
 -- Ranges as reads
 
-bits_mean : (s : List ℕ) (m : Memory) (x : ℕ) (p : Span) → IsRange p.o p.l → Spans p s m x → mean (Bits p.read (capped p.o) (capped p.l)) s m ≡ Some x
+bits_mean : (s : List ℕ) (m : Memory) (x : ℕ) (p : Span) → IsRange p.o p.l → Spans p s m x → mean (Bits p.read (capped_bits p.o) (capped_bits p.l)) s m ≡ Some x
 bits_mean s m x p range h =
     let co = capped-is p.o (omega (arith, range.0, range.1)) in
     let cl = capped-is p.l (omega (arith, range.1)) in
-    mean-Bits p.read (capped p.o) (capped p.l) s m ∙ ap (λ v. where_some v (λ k. Some (take_of k (capped p.o) (capped p.l)))) h.is_word
-    ∙ ap (λ k. Some (take_of h.word k (capped p.l))) co ∙ ap (λ k. Some (take_of h.word p.o k)) cl ∙ ap Some (sym h.are_bits)
+    mean-Bits p.read (capped_bits p.o) (capped_bits p.l) s m ∙ ap (λ v. where_some v (λ k. Some (take_of k (capped_bits p.o) (capped_bits p.l)))) h.is_word
+    ∙ ap (λ k. Some (take_of h.word k (capped_bits p.l))) co ∙ ap (λ k. Some (take_of h.word p.o k)) cl ∙ ap Some (sym h.are_bits)
 
-pub bits_read : (p : Span) → ReadsRange p (Bits p.read (capped p.o) (capped p.l))
+pub bits_read : (p : Span) → ReadsRange p (Bits p.read (capped_bits p.o) (capped_bits p.l))
 bits_read p = record {
   fit = λ k f range. bits_fit k p f range;
   means = λ s m x range h. bits_mean s m x p range h;
@@ -248,7 +249,7 @@ pub narrower : (p : Span) (r : Read) (from count : ℕ) → p.read ≡ Bits r fr
 narrower p r from count is inside short = record {
   long = refl;
   range = λ range. (range.0, omega (arith, inside, short));
-  fit = λ k f. (both (fits k r) (is_range from count) (sym (fits-Bits k r from count) ∙ ap (fits k) (sym is) ∙ f)).0;
+  fit = λ k f. (and_parts (fits k r) (is_range from count) (sym (fits-Bits k r from count) ∙ ap (fits k) (sym is) ∙ f)).0;
   means = λ s m x h.
       let g = some_of (mean r s m) (λ w. Some (take_of w from count)) h.word (sym (mean-Bits r from count s m) ∙ ap (λ (y : Read). mean y s m) (sym is) ∙ h.is_word) in
       let part : take_of g.0 from count ≡ h.word = same_Some (take_of g.0 from count) h.word g.2 in

@@ -5,7 +5,7 @@ use Rattle.std.proofs.lemmas.Option.{same_Some}
 use Rattle.rb_core.specs.declared.layout_decl.Loc.{Loc}
 use Rattle.rb_target.specs.declared.body.Hole.{Hole}
 use Rattle.rb_target.specs.Growth.{Grows}
-use Rattle.rb_target.specs.Sheet.{Sheet, pushed, IsHole, patched}
+use Rattle.rb_target.specs.Sheet.{Sheet, with_more, IsHole, with_target_at}
 use Rattle.rb_target.proofs.Growing.{below_or, Grows-trans, Grows-append}
 use Rattle.rb_target.proofs.Shapes.{patch_is}
 use Rattle.rb_layout.specs.declared.layout.FlatTree.{FlatTree, Split, Leaf}
@@ -27,7 +27,7 @@ before_less k (Some j) (inr e) = let s = same_Some j k e in omega (arith, s)
 
 module _ (words : List Read) (widths : List ℕ) (tree : FlatTree) (arms : List FlatArm) (other : Option FlatTree) (old : Sheet) (hs0 : List Hole) where
   pub looks_start : (loc : Loc) (c : Sheet) (slot pc : ℕ) → tree ≡ Split loc arms other → FetchesAt words widths loc old c slot → Grows old.code c.code → pc ≡ length c.code
-      → ArmsDone words widths tree arms other old hs0 pc 0 (pushed c (switch_of c slot arms other)) hs0
+      → ArmsDone words widths tree arms other old hs0 pc 0 (with_more c (switch_of c slot arms other)) hs0
   looks_start loc c slot pc is fetches grown at = record {
     grows = Grows-trans _ _ _ grown (Grows-append _ _);
     loc = loc;
@@ -68,21 +68,21 @@ module _ (words : List Read) (widths : List ℕ) (tree : FlatTree) (arms : List 
           (split_hole words widths d.loc arms other d.fetched d.slot hs0 (IsBefore k) b hs d.done (Some k) fresh n (ap under_arm at ∙ ap Some leaf));
     })
 
-    patched_grows : (h : Hole) (c : Sheet) (hs' : List Hole) → length old.code ≤ h.pc → IsHole b.code h → Grows (patched b h (length b.code)).code c.code → Grows old.code c.code
+    patched_grows : (h : Hole) (c : Sheet) (hs' : List Hole) → length old.code ≤ h.pc → IsHole b.code h → Grows (with_target_at b h (length b.code)).code c.code → Grows old.code c.code
     patched_grows h c hs' low hole g =
         let p = patch_is b h (length b.code) hole in
         record {
           longer = omega (arith, d.grows.longer, p.long, g.longer);
-          same = λ q lt. let ne : q ≢ h.pc = omega (arith, lt, low) in let in1 : q < length (patched b h (length b.code)).code = omega (arith, lt, d.grows.longer, p.long) in g.same q in1 ∙ p.elsewhere q ne ∙ d.grows.same q lt;
+          same = λ q lt. let ne : q ≢ h.pc = omega (arith, lt, low) in let in1 : q < length (with_target_at b h (length b.code)).code = omega (arith, lt, d.grows.longer, p.long) in g.same q in1 ∙ p.elsewhere q ne ∙ d.grows.same q lt;
         }
 
     from_low : length old.code ≤ length d.fetched.code
     from_low = d.longer.longer
 
     pub arm_look : (a : FlatArm) (c : Sheet) (hs' : List Hole) → slice_get arms k ≡ Some a
-        → let h : Hole = record { pc = pc; arm = Some k; leaf = 0 } in Grows (patched b h (length b.code)).code c.code → Looks words widths a.under (patched b h (length b.code)) hs c hs' → ArmsDone words widths tree arms other old hs0 pc (k + 1) c hs'
+        → let h : Hole = record { pc = pc; arm = Some k; leaf = 0 } in Grows (with_target_at b h (length b.code)).code c.code → Looks words widths a.under (with_target_at b h (length b.code)) hs c hs' → ArmsDone words widths tree arms other old hs0 pc (k + 1) c hs'
     arm_look a c hs' at =
-        subst (λ q. let h : Hole = record { pc = q; arm = Some k; leaf = 0 } in Grows (patched b h (length b.code)).code c.code → Looks words widths a.under (patched b h (length b.code)) hs c hs' → ArmsDone words widths tree arms other old hs0 q (k + 1) c hs') (sym d.at)
+        subst (λ q. let h : Hole = record { pc = q; arm = Some k; leaf = 0 } in Grows (with_target_at b h (length b.code)).code c.code → Looks words widths a.under (with_target_at b h (length b.code)) hs c hs' → ArmsDone words widths tree arms other old hs0 q (k + 1) c hs') (sym d.at)
         (λ g look.
         let h : Hole = record { pc = length d.fetched.code; arm = Some k; leaf = 0 } in
         record {
@@ -116,9 +116,9 @@ module _ (words : List Read) (widths : List ℕ) (tree : FlatTree) (arms : List 
           (split_looks words widths d.loc arms other d.fetched d.slot hs0 old d.fetches d.longer (λ x. IsBefore k x ⊎ (x ≡ None)) b _ (split_hole words widths d.loc arms other d.fetched d.slot hs0 (IsBefore k) b hs d.done None (λ h. h) n at) in_arms))
 
       pub else_look : (u : FlatTree) (c : Sheet) (hs' : List Hole) → other ≡ Some u
-          → let h : Hole = record { pc = pc; arm = None; leaf = 0 } in Grows (patched b h (length b.code)).code c.code → Looks words widths u (patched b h (length b.code)) hs c hs' → Grows old.code c.code × Looks words widths tree old hs0 c hs'
+          → let h : Hole = record { pc = pc; arm = None; leaf = 0 } in Grows (with_target_at b h (length b.code)).code c.code → Looks words widths u (with_target_at b h (length b.code)) hs c hs' → Grows old.code c.code × Looks words widths tree old hs0 c hs'
       else_look u c hs' at =
-          subst (λ q. let h : Hole = record { pc = q; arm = None; leaf = 0 } in Grows (patched b h (length b.code)).code c.code → Looks words widths u (patched b h (length b.code)) hs c hs' → Grows old.code c.code × Looks words widths tree old hs0 c hs') (sym d.at)
+          subst (λ q. let h : Hole = record { pc = q; arm = None; leaf = 0 } in Grows (with_target_at b h (length b.code)).code c.code → Looks words widths u (with_target_at b h (length b.code)) hs c hs' → Grows old.code c.code × Looks words widths tree old hs0 c hs') (sym d.at)
           (λ g look.
           let h : Hole = record { pc = length d.fetched.code; arm = None; leaf = 0 } in (
             patched_grows h c hs' from_low (subst (λ q. let x : Hole = record { pc = q; arm = None; leaf = 0 } in IsHole b.code x) d.at (else_is_hole u at)) g,

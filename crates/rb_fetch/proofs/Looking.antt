@@ -11,8 +11,8 @@ use Rattle.rb_target.specs.declared.instr.Instr.{Instr}
 use Rattle.rb_target.specs.declared.instr.Instr.TheVariants.{Jump, Switch}
 use Rattle.rb_target.specs.declared.body.Hole.{Hole}
 use Rattle.rb_target.specs.Growth.{AgreesBut, Nowhere, Grows, Keeps}
-use Rattle.rb_target.specs.Meaning.{Next, taken, switched, target_of, after_switch}
-use Rattle.rb_target.specs.Sheet.{Sheet, pushed, IsHoleIn, IsHole, patched}
+use Rattle.rb_target.specs.Meaning.{Next, taken, with_switch, target_of, after_switch}
+use Rattle.rb_target.specs.Sheet.{Sheet, with_more, IsHoleIn, IsHole, with_target_at}
 use Rattle.rb_target.specs.Targets.{without_targets, without_targets_in, target_at, target_in, IsHoleAmong, IsOpenTarget}
 use Rattle.rb_target.specs.Validity.{IsTarget}
 use Rattle.rb_target.proofs.Finishing.{agrees-sub}
@@ -60,7 +60,7 @@ hole_kept old new h g hole = subst (λ o. IsHoleIn o h.arm) (sym (g.same h.pc (h
 
 -- A leaf
 
-pub looks_leaf : (words : List Read) (widths : List ℕ) (n : ℕ) (old : Sheet) (hs0 : List Hole) → let h : Hole = record { pc = length old.code; arm = None; leaf = n } in Looks words widths (Leaf n) old hs0 (pushed old (Jump (length old.code + 1))) (hs0 ++ h ∷ [])
+pub looks_leaf : (words : List Read) (widths : List ℕ) (n : ℕ) (old : Sheet) (hs0 : List Hole) → let h : Hole = record { pc = length old.code; arm = None; leaf = n } in Looks words widths (Leaf n) old hs0 (with_more old (Jump (length old.code + 1))) (hs0 ++ h ∷ [])
 looks_leaf words widths n old hs0 =
     let h : Hole = record { pc = length old.code; arm = None; leaf = n } in
     let pc = length old.code in
@@ -152,7 +152,7 @@ module _ (words : List Read) (widths : List ℕ) (loc : Loc) (arms : List FlatAr
   else_forward q (Some t) = (omega arith, omega arith)
 
   -- the switch stands, and no arm is done
-  pub split_start : Done (λ x. ⊥) (pushed c switch) hs0
+  pub split_start : Done (λ x. ⊥) (with_more c switch) hs0
   split_start =
       let len : length (c.code ++ switch ∷ []) ≡ pc + 1 = length-append c.code (switch ∷ []) in
       record {
@@ -253,9 +253,9 @@ module _ (words : List Read) (widths : List ℕ) (loc : Loc) (arms : List FlatAr
         }
 
     -- a target that is set leads to the code of the tree
-    module _ (tree : FlatTree) (at : under_at arms other x ≡ Some tree) (b' : Sheet) (hs' : List Hole) (grows : Grows (patched b (here x 0) (length b.code)).code b'.code) (look : Looks words widths tree (patched b (here x 0) (length b.code)) hs b' hs') where
+    module _ (tree : FlatTree) (at : under_at arms other x ≡ Some tree) (b' : Sheet) (hs' : List Hole) (grows : Grows (with_target_at b (here x 0) (length b.code)).code b'.code) (look : Looks words widths tree (with_target_at b (here x 0) (length b.code)) hs b' hs') where
       abbrev e : Sheet
-      e = patched b (here x 0) (length b.code)
+      e = with_target_at b (here x 0) (length b.code)
 
       p : IsPatched b (here x 0) (length b.code) e
       p = patch_is b (here x 0) (length b.code) (hole_at (slice_get b.code pc) x tree at d.shaped)
@@ -356,7 +356,7 @@ module _ (words : List Read) (widths : List ℕ) (loc : Loc) (arms : List FlatAr
             } in
             let r = (st.runs ws wk.value small).runs final callee next law agrees s w (omega (arith, more1, le', long)) (good, meant, wk.is_read) in
             let s1 = r.1 in
-            let w1 = switched (taken r.2) in
+            let w1 = with_switch (taken r.2) in
             let a = fin pc low d.long in
             let shaped = a.shapes ∙ d.shaped in
             let sw = switch_shape (slice_get final pc) slot (then_some (is_some other) (pc + 1)) (open_arms_of (pc + 1) arms) shaped in

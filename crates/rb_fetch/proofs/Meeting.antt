@@ -20,7 +20,7 @@ use Rattle.rb_target.specs.declared.body.Hole.{Hole}
 use Rattle.rb_target.specs.Growth.{AgreesBut, Grows, Nowhere}
 use Rattle.rb_target.specs.Laws.{Law}
 use Rattle.rb_target.specs.Meaning.{World, CallEnd as Run, Next, Callee, slots_at, taken}
-use Rattle.rb_target.specs.Sheet.{Sheet, pushed}
+use Rattle.rb_target.specs.Sheet.{Sheet, with_more}
 use Rattle.rb_target.proofs.Growing.{Agrees-part, Grows-append, Keeps-trans, get-seam}
 use Rattle.rb_layout.specs.declared.layout.Layout.{Layout}
 use Rattle.rb_layout.specs.declared.layout.Leaf.{Leaf}
@@ -34,13 +34,13 @@ use Rattle.rb_rel.proofs.Typing.{Represents-typed}
 use Rattle.rb_rel.specs.Placing.{Laid, Fits, Over, blocks_of, lay}
 use Rattle.rb_fragment.specs.declared.held.Held.{Held}
 use Rattle.rb_fragment.specs.Adding.{Adds}
-use Rattle.rb_fragment.specs.Arms.{AreHoles, AreOfOneWay, AreShared, ArmIn, ArmsAre, ArmsIn, CanClose, HasHole, IsJoin, closed, whole_match}
+use Rattle.rb_fragment.specs.Arms.{AreHoles, AreOfOneWay, AreShared, ArmIn, ArmsAre, ArmsIn, CanClose, HasHole, IsJoin, with_targets, whole_match}
 use Rattle.rb_fragment.specs.Fragments.{Comes}
 use Rattle.rb_fragment.specs.Holding.{AreHeld, held_type}
 use Rattle.rb_fragment.specs.Owing.{Ends}
 use Rattle.rb_fragment.specs.Pieces.{Branches}
 use Rattle.rb_fragment.specs.Plan.{Plan, Rep, words_needed}
-use Rattle.rb_fragment.specs.Slots.{AllBelow, AllFrom, SlotsAreApart, copies, joining}
+use Rattle.rb_fragment.specs.Slots.{AllBelow, AllFrom, SlotsAreApart, copies, with_join}
 use Rattle.rb_fragment.proofs.Adding.{Adds-refl, Adds-trans}
 use Rattle.rb_fragment.proofs.Holds.{AllBelow-more}
 use Rattle.rb_fragment.proofs.Matches.{arms_more, match_adds, match_chooses, match_slots}
@@ -56,7 +56,7 @@ use Rattle.rb_fetch.specs.declared.choice.Way.{Way}
 use Rattle.rb_fetch.specs.declared.construct.Met.{Met}
 use Rattle.rb_fetch.specs.inner.Choice.{Chooses, IsWay}
 use Rattle.rb_fetch.specs.Constructing.{AreAsShown, IsConstructed}
-use Rattle.rb_fetch.specs.inner.Constructing.{ArmIsMade, ArmsAreMade, EmitsArm, EmitsArms, IsMet, IsShared, WaysMeet, MakesArm, MakesNumber, Reaches, met_in, moved, moved_from, moved_to}
+use Rattle.rb_fetch.specs.inner.Constructing.{ArmIsMade, ArmsAreMade, EmitsArm, EmitsArms, IsMet, IsShared, WaysMeet, MakesArm, MakesNumber, Reaches, meeting_slots, with_moves, move_sources, move_targets}
 
 -- What a run owes ----------------------------------------------------------------------------------
 
@@ -71,34 +71,34 @@ ends_map (Fits bs p) v left most most1 out out1 m Ok Ok1 same le f r =
 
 -- Where arms meet ----------------------------------------------------------------------------------
 
-moved_is : (c : Sheet) (into : Option (List ℕ)) (slots : List ℕ) → moved c into slots ≡ record c { code = c.code ++ copies (moved_to into) (moved_from into slots) }
+moved_is : (c : Sheet) (into : Option (List ℕ)) (slots : List ℕ) → with_moves c into slots ≡ record c { code = c.code ++ copies (move_targets into) (move_sources into slots) }
 moved_is c None slots = sym (ap (λ k. let s : Sheet = record c { code = k } in s) (append-nil c.code))
 moved_is c (Some xs) slots = refl
 
-pub met_is : (into : Option (List ℕ)) (slots : List ℕ) (c c2 c3 : Sheet) (pc : ℕ) → c2 ≡ moved c into slots → pc ≡ length c2.code → c3 ≡ pushed c2 (Jump (pc + 1))
-    → IsMet into slots c c3 (record { into = met_in into slots; join = record { pc = pc; arm = None; leaf = 0 } })
+pub met_is : (into : Option (List ℕ)) (slots : List ℕ) (c c2 c3 : Sheet) (pc : ℕ) → c2 ≡ with_moves c into slots → pc ≡ length c2.code → c3 ≡ with_more c2 (Jump (pc + 1))
+    → IsMet into slots c c3 (record { into = meeting_slots into slots; join = record { pc = pc; arm = None; leaf = 0 } })
 met_is into slots c c2 c3 pc e0 at e3 =
-    let instrs = copies (moved_to into) (moved_from into slots) in
+    let instrs = copies (move_targets into) (move_sources into slots) in
     let e2 = e0 ∙ moved_is c into slots in
     let len : pc ≡ length c.code + length instrs = at ∙ ap (λ (k : Sheet). length k.code) e2 ∙ length-append c.code instrs in
     let last : Instr = Jump (length c.code + length instrs + 1) in
     record {
       shared = refl;
-      code = e3 ∙ ap (λ (k : Sheet). pushed k (Jump (pc + 1))) e2 ∙ ap (λ k. let s : Sheet = record c { code = (c.code ++ instrs) ++ Jump (k + 1) ∷ [] } in s) len
+      code = e3 ∙ ap (λ (k : Sheet). with_more k (Jump (pc + 1))) e2 ∙ ap (λ k. let s : Sheet = record c { code = (c.code ++ instrs) ++ Jump (k + 1) ∷ [] } in s) len
           ∙ ap (λ k. let s : Sheet = record c { code = k } in s) (append_assoc c.code instrs (last ∷ []));
       join = ap (λ k. let x : Hole = record { pc = k; arm = None; leaf = 0 } in x) len;
     }
 
 pub met_join : (into : Option (List ℕ)) (slots : List ℕ) (c d : Sheet) (r : Met) → IsMet into slots c d r → IsJoin (length c.code) d.code r.join × Grows c.code d.code
 met_join into slots c d r j =
-    let moved = copies (moved_to into) (moved_from into slots) in
-    let last : Instr = Jump (length c.code + length moved + 1) in
-    let code : d.code ≡ c.code ++ (moved ++ last ∷ []) = ap (λ (k : Sheet). k.code) j.code in
-    let pc : r.join.pc ≡ length c.code + length moved = ap (λ (h : Hole). h.pc) j.join in
+    let with_moves = copies (move_targets into) (move_sources into slots) in
+    let last : Instr = Jump (length c.code + length with_moves + 1) in
+    let code : d.code ≡ c.code ++ (with_moves ++ last ∷ []) = ap (λ (k : Sheet). k.code) j.code in
+    let pc : r.join.pc ≡ length c.code + length with_moves = ap (λ (h : Hole). h.pc) j.join in
     let leaf : r.join.leaf ≡ 0 = ap (λ (h : Hole). h.leaf) j.join in
     let none : r.join.arm ≡ None = ap (λ (h : Hole). h.arm) j.join in
-    let at : slice_get d.code r.join.pc ≡ Some last = ap (λ k. slice_get k r.join.pc) (code ∙ sym (append_assoc c.code moved (last ∷ []))) ∙ ap (λ k. slice_get ((c.code ++ moved) ++ last ∷ []) k) (pc ∙ sym (length-append c.code moved)) ∙ get-seam (c.code ++ moved) last [] in
-    ((omega (arith, pc), leaf, (length c.code + length moved + 1, at, none)), subst (λ k. Grows c.code k) (sym code) (Grows-append c.code (moved ++ last ∷ [])))
+    let at : slice_get d.code r.join.pc ≡ Some last = ap (λ k. slice_get k r.join.pc) (code ∙ sym (append_assoc c.code with_moves (last ∷ []))) ∙ ap (λ k. slice_get ((c.code ++ with_moves) ++ last ∷ []) k) (pc ∙ sym (length-append c.code with_moves)) ∙ get-seam (c.code ++ with_moves) last [] in
+    ((omega (arith, pc), leaf, (length c.code + length with_moves + 1, at, none)), subst (λ k. Grows c.code k) (sym code) (Grows-append c.code (with_moves ++ last ∷ [])))
 
 pub met_starts : (into : Option (List ℕ)) (slots : List ℕ) (a c d : Sheet) (r : Met) → Grows a.code c.code → IsMet into slots c d r → IsJoin (length a.code) d.code r.join
 met_starts into slots a c d r g j = let x = (met_join into slots c d r j).0 in let longer = g.longer in (omega (arith, x.0, longer), x.1, x.2)
@@ -109,7 +109,7 @@ module _ (plan : Plan) (t : ℕ) (layout : Layout) (way : Way) (leaf : Leaf) (is
     (made : LeafIsMade plan t way.leaf layout leaf way.fields a c slots) (same : length ds ≡ length fs) (from : AllFrom n ds) (below_ds : AllBelow c.slots ds) (below_fs : AllBelow c.slots fs)
     (moves : (s : List ℕ) → c.slots ≤ length s → slots_at (copied s ds fs) into ≡ slots_at s slots) where
   abbrev d : Sheet
-  d = joining c ds fs
+  d = with_join c ds fs
 
   abbrev join : ℕ
   join = length c.code + length (copies ds fs)
@@ -174,7 +174,7 @@ module _ (plan : Plan) (t : ℕ) (layout : Layout) (way : Way) (leaf : Leaf) (is
         });
         same = λ xs e. absurd cc;
         makes = subst (λ xs. MakesArm plan t layout way n xs a d r.join.pc) (sym j.shared)
-            (subst (λ (x : Sheet). MakesArm plan t layout way n slots a x r.join.pc) (sym j.code) (subst (λ k. MakesArm plan t layout way n slots a (joining c [] []) k) (sym (ap (λ (h : Hole). h.pc) j.join)) m));
+            (subst (λ (x : Sheet). MakesArm plan t layout way n slots a x r.join.pc) (sym j.code) (subst (λ k. MakesArm plan t layout way n slots a (with_join c [] []) k) (sym (ap (λ (h : Hole). h.pc) j.join)) m));
       }
   arm_is_made (Some xs) j shared =
       let up = made.adds.more in
@@ -193,7 +193,7 @@ module _ (plan : Plan) (t : ℕ) (layout : Layout) (way : Way) (leaf : Leaf) (is
         });
         same = λ ys e. j.shared ∙ same_Some xs ys e;
         makes = subst (λ ys. MakesArm plan t layout way n ys a d r.join.pc) (sym j.shared)
-            (subst (λ (x : Sheet). MakesArm plan t layout way n xs a x r.join.pc) (sym j.code) (subst (λ k. MakesArm plan t layout way n xs a (joining c xs slots) k) (sym (ap (λ (h : Hole). h.pc) j.join)) m));
+            (subst (λ (x : Sheet). MakesArm plan t layout way n xs a x r.join.pc) (sym j.code) (subst (λ k. MakesArm plan t layout way n xs a (with_join c xs slots) k) (sym (ap (λ (h : Hole). h.pc) j.join)) m));
       }
 
 given-more : (plan : Plan) (n k : ℕ) (leaf : Leaf) (xs : List Subvalue) → n ≤ k → AreGivenAt plan n (open_positions plan.program.types leaf.prov) xs → AreGivenAt plan k (open_positions plan.program.types leaf.prov) xs
@@ -228,7 +228,7 @@ module _ (t : ℕ) (leaves : List Leaf) (ways : List Way) (i : ℕ) (e q d : She
         arms = arms_more i e q d joins starts r.join P are (stand plan layout n into i reach x.same before.arms) x.adds.grows x.adds.more one does;
       }
     where
-      stand : (plan : Plan) (layout : Layout) (n : ℕ) (into : Option (List ℕ)) (k : ℕ) → Reaches k into → ((xs : List ℕ) → into ≡ Some xs → r.into ≡ xs) → ArmsIn k e q joins starts (MakesNumber plan t layout ways n (moved_to into))
+      stand : (plan : Plan) (layout : Layout) (n : ℕ) (into : Option (List ℕ)) (k : ℕ) → Reaches k into → ((xs : List ℕ) → into ≡ Some xs → r.into ≡ xs) → ArmsIn k e q joins starts (MakesNumber plan t layout ways n (move_targets into))
           → ArmsIn k e q joins starts (MakesNumber plan t layout ways n r.into)
       stand plan layout n None zero reach is old = λ k lt. absurd (omega (arith, lt))
       stand plan layout n None (suc k) reach is old = absurd reach
@@ -258,7 +258,7 @@ module _ (n count : ℕ) (b e q : Sheet) (holes joins : List Hole) (starts : Lis
   ends = length q.code ∷ []
 
   abbrev inner : Sheet
-  inner = closed q holes starts
+  inner = with_targets q holes starts
 
   pub whole_length : length (whole_match q holes starts joins).code ≡ length q.code
   whole_length = closed_length inner joins ends ∙ closed_length q holes starts
@@ -404,7 +404,7 @@ ways_constructs plan typed agreed layout con hs shown b e new choices held is_la
 pub ways_grow : (t : ℕ) (leaves : List Leaf) (b e new : Sheet) (choices : Choices) (held : Held) → Grows b.code e.code → AreHoles (length b.code) (length choices.ways) e.code choices.holes → WaysMeet t leaves choices e new held → Grows b.code new.code
 ways_grow t leaves b e new choices held g holes_are meets =
     let q = meets.last in
-    let inner = closed q choices.holes meets.starts in
+    let inner = with_targets q choices.holes meets.starts in
     let ends = length q.code ∷ [] in
     let len = closed_length inner meets.joins ends ∙ closed_length q choices.holes meets.starts in
     let are = meets.are in

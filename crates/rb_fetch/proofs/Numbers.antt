@@ -10,6 +10,7 @@ use Rattle.rb_core.specs.declared.layout_decl.LayItem.{LayItem}
 use Rattle.rb_core.specs.declared.layout_decl.Arm.{Arm}
 use Rattle.rb_core.specs.declared.layout_decl.LayTree.{LayTree, Split, Leaf}
 use Rattle.rb_core.specs.declared.layout_decl.LayTree.TheFolds.{fold_out-Arm}
+use Rattle.rb_core.proofs.LayoutInduction.{tree-induction}
 use Rattle.rb_layout.specs.declared.layout.FlatTree.{FlatTree}
 use Rattle.rb_layout.specs.declared.layout.FlatTree as X
 use Rattle.rb_layout.specs.declared.layout.FlatTree.TheFolds.{fold_out-FlatArm}
@@ -112,7 +113,7 @@ else_counted loc arms other each o n =
 
 -- leaves are numbered from n on, as many as there are
 pub counted : (tree : LayTree) → Counted tree
-counted = D.tree-induction Counted (record { split = split_counted; split_else = else_counted; leaf = leaf_counted })
+counted = tree-induction Counted (record { split = split_counted; split_else = else_counted; leaf = leaf_counted })
 
 -- Splits above leaves
 

@@ -2,8 +2,10 @@
 use Rattle.std.proofs.Common.{◌≡◌, ℕ, zero, suc, ◌+◌, ◌≤◌, ◌==◌, map, length, List, [], ◌∷◌, ◌++◌, Bool, true, false, Option, Some, None, refl, sym, subst, ap, ◌∙◌, arith}
 use Rattle.std.specs.Prelude.{slice_get, drop, if◌then◌else◌}
 use Rattle.std.specs.List.{list_all, sum_by}
+use Rattle.std.proofs.lemmas.Bool.{and_parts}
 use Rattle.std.proofs.lemmas.List.Sums.{sum_by-cons}
 use Rattle.std.proofs.lemmas.Option.{same_Some}
+use Rattle.std.proofs.lemmas.List.Folds.{list_all-map}
 use Rattle.rb_core.specs.declared.value.Value.{Value, out-Value, roll-Value, roll-out-Value}
 use Rattle.rb_core.specs.declared.value.Value as Values
 use Rattle.rb_core.specs.declared.value.Value.TheOpen as V
@@ -24,6 +26,7 @@ use Rattle.rb_core.specs.Values.{subs, subs_in, sub_at, part_at, part_from, all_
 use Rattle.rb_core.specs.WellNumbered.{Below, below_step, either, may_be_below}
 use Rattle.rb_core.proofs.PatternLaws as PL
 use Rattle.rb_core.proofs.MatchingForms.{matches-Con}
+use Rattle.rb_core.proofs.MatchingLemmas.{all_at}
 use Rattle.rb_layout.specs.declared.layout.Layout.{Layout}
 use Rattle.rb_layout.specs.declared.layout.Leaf.{Leaf}
 use Rattle.rb_layout.specs.Agreement.{Agrees, AreAgreed}
@@ -35,7 +38,7 @@ use Rattle.rb_layout.proofs.Walks.{type_at_walked}
 use Rattle.rb_rel.specs.Switches.{HeadAt, choose_of, greatest, head_below, heads_below, heads_of, heads_step, mend_leaf, mend_of}
 use Rattle.rb_rel.proofs.Agreeing.{lawful}
 use Rattle.rb_rel.specs.Provenances.{fits_type, is_named}
-use Rattle.rb_rel.proofs.Lists.{both, get-mapped}
+use Rattle.rb_rel.proofs.Lists.{get-mapped}
 use Rattle.rb_rel.proofs.Mending.{mending_recurs}
 use Rattle.rb_rel.proofs.Opens.{fits-Con}
 use Rattle.rb_rel.proofs.Reading.{same_nat}
@@ -71,20 +74,15 @@ module _ (types : List DataDecl) where
   types_at [] ts j q u all e h = absurd cc
   types_at (p ∷ ps) [] j q u all e h = absurd cc
   types_at (p ∷ ps) (t ∷ ts) zero q u all e h =
-      let b = both (fits_type types p t) (all_of_types (map (fits_type types) ps) ts) all in
+      let b = and_parts (fits_type types p t) (all_of_types (map (fits_type types) ps) ts) all in
       ap (λ x. fits_type types x u) (sym (same_Some p q e)) ∙ ap (fits_type types p) (sym (same_Some t u h)) ∙ b.0
-  types_at (p ∷ ps) (t ∷ ts) (suc j) q u all e h = types_at ps ts j q u (both (fits_type types p t) (all_of_types (map (fits_type types) ps) ts) all).1 e h
-
-  shaped_at : (ps : List Pat) (j : ℕ) (q : Pat) → list_all may_be_below (map shape_of ps) ≡ true → slice_get ps j ≡ Some q → may_be_below (shape_of q) ≡ true
-  shaped_at [] j q all e = absurd cc
-  shaped_at (p ∷ ps) zero q all e = ap (λ x. may_be_below (shape_of x)) (sym (same_Some p q e)) ∙ (both (may_be_below (shape_of p)) (list_all may_be_below (map shape_of ps)) all).0
-  shaped_at (p ∷ ps) (suc j) q all e = shaped_at ps j q (both (may_be_below (shape_of p)) (list_all may_be_below (map shape_of ps)) all).1 e
+  types_at (p ∷ ps) (t ∷ ts) (suc j) q u all e h = types_at ps ts j q u (and_parts (fits_type types p t) (all_of_types (map (fits_type types) ps) ts) all).1 e h
 
   as_many : (ps : List Pat) (ts : List Ty) → all_of_types (map (fits_type types) ps) ts ≡ true → length ps ≡ length ts
   as_many [] [] e = refl
   as_many [] (t ∷ ts) e = absurd cc
   as_many (p ∷ ps) [] e = absurd cc
-  as_many (p ∷ ps) (t ∷ ts) e = ap suc (as_many ps ts (both (fits_type types p t) (all_of_types (map (fits_type types) ps) ts) e).1)
+  as_many (p ∷ ps) (t ∷ ts) e = ap suc (as_many ps ts (and_parts (fits_type types p t) (all_of_types (map (fits_type types) ps) ts) e).1)
 
   -- a constructor at its place
   pub record IsConPlace (c : ConRef) (ps : List Pat) (ty : Ty) : Type 0 where
@@ -97,7 +95,7 @@ module _ (types : List DataDecl) where
 
   pub con_place : (at : ℕ) (c : ConRef) (ps : List Pat) (ty : Ty) → IsPlace (Con at c ps) ty → IsConPlace c ps ty
   con_place at c ps ty good =
-      let b = both (is_named c.ty ty) (are_of (map (fits_type types) ps) (fields_of types c)) (sym (fits-Con types at c ps ty) ∙ good.fits) in
+      let b = and_parts (is_named c.ty ty) (are_of (map (fits_type types) ps) (fields_of types c)) (sym (fits-Con types at c ps ty) ∙ good.fits) in
       let shaped : list_all may_be_below (map shape_of ps) ≡ true = sym (ap may_be_below (PL.fold-Con Below below_step at c ps)) ∙ good.shaped in
       by (fields_of types c) refl (named ty b.0) b.1 shaped
     where
@@ -111,7 +109,7 @@ module _ (types : List DataDecl) where
 
   -- the subpattern at a field
   pub field_place : (c : ConRef) (ps : List Pat) (ty : Ty) (x : IsConPlace c ps ty) (j : ℕ) (q : Pat) (u : Ty) → slice_get ps j ≡ Some q → slice_get x.fields j ≡ Some u → IsPlace q u
-  field_place c ps ty x j q u e h = record { fits = types_at ps x.fields j q u x.fit e h; shaped = shaped_at ps j q x.shaped e }
+  field_place c ps ty x j q u e h = record { fits = types_at ps x.fields j q u x.fit e h; shaped = all_at (λ p. may_be_below (shape_of p)) ps j q (sym (list_all-map may_be_below shape_of ps) ∙ x.shaped) e }
 
   abbrev Steps : Pat → Type 0
   Steps p = (ty : Ty) (i : ℕ) (q : Pat) (u : Ty) → IsPlace p ty → sub_pattern types p i ≡ Some (q, u) → IsPlace q u
@@ -164,7 +162,7 @@ module _ (types : List DataDecl) where
       go : (l : Value-F Value) → out-Value v ≡ l → is_con c.con (map matches_of ps) l ≡ true → IsConOf c ps v
       go (V.Num n) is h = absurd cc
       go (V.Con k us) is h =
-          let b = both (c.con == k) (all_pass (map matches_of ps) us) h in
+          let b = and_parts (c.con == k) (all_pass (map matches_of ps) us) h in
           let same : k ≡ c.con = sym (same_nat c.con k b.0) in
           record {
             fields = us;
@@ -177,14 +175,14 @@ module _ (types : List DataDecl) where
   passed_at [] us j q x pass e h = absurd cc
   passed_at (p ∷ ps) [] j q x pass e h = absurd cc
   passed_at (p ∷ ps) (u ∷ us) zero q x pass e h =
-      ap (λ y. matches_of y x) (sym (same_Some p q e)) ∙ ap (matches_of p) (sym (same_Some u x h)) ∙ (both (matches_of p u) (all_pass (map matches_of ps) us) pass).0
-  passed_at (p ∷ ps) (u ∷ us) (suc j) q x pass e h = passed_at ps us j q x (both (matches_of p u) (all_pass (map matches_of ps) us) pass).1 e h
+      ap (λ y. matches_of y x) (sym (same_Some p q e)) ∙ ap (matches_of p) (sym (same_Some u x h)) ∙ (and_parts (matches_of p u) (all_pass (map matches_of ps) us) pass).0
+  passed_at (p ∷ ps) (u ∷ us) (suc j) q x pass e h = passed_at ps us j q x (and_parts (matches_of p u) (all_pass (map matches_of ps) us) pass).1 e h
 
   pub passed_many : (ps : List Pat) (us : List Value) → all_pass (map matches_of ps) us ≡ true → length us ≡ length ps
   passed_many [] [] e = refl
   passed_many [] (u ∷ us) e = absurd cc
   passed_many (p ∷ ps) [] e = absurd cc
-  passed_many (p ∷ ps) (u ∷ us) e = ap suc (passed_many ps us (both (matches_of p u) (all_pass (map matches_of ps) us) e).1)
+  passed_many (p ∷ ps) (u ∷ us) e = ap suc (passed_many ps us (and_parts (matches_of p u) (all_pass (map matches_of ps) us) e).1)
 
   abbrev Matches : Pat → Type 0
   Matches p = (i : ℕ) (q : Pat) (u : Ty) (v x : Value) → sub_pattern types p i ≡ Some (q, u) → matches_of p v ≡ true → slice_get (subs v) i ≡ Some x → matches_of q x ≡ true

@@ -2,7 +2,7 @@
 use Rattle.std.proofs.Common.{◌≡◌, inl, inr, ℕ, zero, suc, ◌+◌, ◌<◌, ◌≤◌, ◌^◌, Bool, true, false, List, [], ◌∷◌, ◌++◌, map, Option, Some, None, refl, sym, subst, ap, ◌∙◌, arith, is_some}
 use Rattle.std.specs.Prelude.{slice_get, nat_eq, ◌&&◌, if◌then◌else◌}
 use Rattle.std.specs.List.{flat_map}
-use Rattle.std.proofs.lemmas.Bool.{false≢true}
+use Rattle.std.proofs.lemmas.Bool.{false≢true, and_parts}
 use Rattle.std.proofs.lemmas.Bool.Decides.{nat_tests}
 use Rattle.std.proofs.lemmas.Option.{same_Some}
 use Rattle.rb_core.specs.declared.layout_decl.Loc.{Loc}
@@ -17,10 +17,10 @@ use Rattle.rb_rel.specs.Reading.{walk, walk_at}
 use Rattle.rb_rel.proofs.Trees.{walk_under}
 use Rattle.rb_rel.specs.Switches.{greatest, nesting}
 use Rattle.rb_rel.proofs.Counting as N
-use Rattle.rb_rel.proofs.Lists.{both, get-append}
+use Rattle.rb_rel.proofs.Lists.{get-append}
 use Rattle.rb_target.proofs.Shapes.{next_arm, pick}
 use Rattle.rb_fetch.specs.Fetching.{LocFits}
-use Rattle.rb_fetch.specs.Pruning.{group_at, GroupsBelow, group_step, group_arm, group_of, is_group, lead_all, leads_else, agreed_group, shared_group, pruned_split, joined_with, joined_of, keep_arm, live_arms, leaf_for, prune_step, prune_arm, pruned_of, walk_in, nesting_in, Prunes}
+use Rattle.rb_fetch.specs.Pruning.{group_at, GroupsBelow, group_step, group_arm, group_of, is_group, lead_all, leads_else, agreed_group, shared_group, pruned_split, joined_or_pruned, joined_split, keep_arm, live_arms, leaf_for, prune_step, prune_arm, pruned_of, walk_in, nesting_in, Prunes}
 use Rattle.rb_fetch.specs.inner.Pruning.{pruned_under}
 use Rattle.rb_fetch.specs.inner.Looking.{SplitFits, TreeFits, LeavesBelow, under_arm, under_at}
 use Rattle.rb_fetch.proofs.LeafNumbers.{leaf_is_below, split_below}
@@ -57,9 +57,9 @@ IsChild t arms other = (p : Option ℕ) × (under_at arms other p ≡ Some t)
 lead_each : (g : ℕ) (arms : List FlatArm) → lead_all g arms ≡ true → (k : ℕ) (t : FlatTree) → under_arm (slice_get arms k) ≡ Some t → group_of t ≡ Some g
 lead_each g [] all k t e = absurd cc
 lead_each g (a ∷ arms) all zero t e =
-    let b = both (is_group (group_of a.under) g) (lead_all g arms) all in
+    let b = and_parts (is_group (group_of a.under) g) (lead_all g arms) all in
     ap group_of (sym (same_Some a.under t e)) ∙ is_group-true (group_of a.under) g b.0
-lead_each g (a ∷ arms) all (suc k) t e = let b = both (is_group (group_of a.under) g) (lead_all g arms) all in lead_each g arms b.1 k t e
+lead_each g (a ∷ arms) all (suc k) t e = let b = and_parts (is_group (group_of a.under) g) (lead_all g arms) all in lead_each g arms b.1 k t e
 
 lead_else : (g : ℕ) (other : Option FlatTree) → leads_else g other ≡ true → (t : FlatTree) → other ≡ Some t → group_of t ≡ Some g
 lead_else g None all t e = absurd cc
@@ -72,7 +72,7 @@ agreed (Some h) arms other g e = go (lead_all h arms && leads_else h other) refl
     go : (u : Bool) → (lead_all h arms && leads_else h other) ≡ u → ◌≡◌ {A = Option ℕ} (if u then Some h else None) (Some g) → (Some h ≡ Some g) × (lead_all g arms ≡ true) × (leads_else g other ≡ true)
     go true all is =
         let same : h ≡ g = same_Some h g is in
-        let b = both (lead_all h arms) (leads_else h other) all in
+        let b = and_parts (lead_all h arms) (leads_else h other) all in
         (ap Some same, ap (λ k. lead_all k arms) (sym same) ∙ b.0, ap (λ k. leads_else k other) (sym same) ∙ b.1)
     go false all is = absurd cc
 
@@ -93,7 +93,7 @@ module _ (P : Option FlatTree → Type 0) (loc : Loc) (arms : List FlatArm) (oth
   abbrev Alone : FlatTree → Type 0
   Alone t = (u : FlatTree) → IsChild u arms other → u ≡ t
 
-  pub joined_cases : (((t : FlatTree) → IsChild t arms other → ⊥) → P None) → ((t : FlatTree) → IsChild t arms other → Alone t → P (Some t)) → P (Some (Split loc arms other)) → P (joined_of loc arms other)
+  pub joined_cases : (((t : FlatTree) → IsChild t arms other → ⊥) → P None) → ((t : FlatTree) → IsChild t arms other → Alone t → P (Some t)) → P (Some (Split loc arms other)) → P (joined_split loc arms other)
   joined_cases none one split = go (shared_group arms other) refl
     where
       kept : (xs : List FlatArm) (o : Option FlatTree) → xs ≡ arms → o ≡ other → P (pruned_split loc xs o)
@@ -120,7 +120,7 @@ module _ (P : Option FlatTree → Type 0) (loc : Loc) (arms : List FlatArm) (oth
           first u (Some k, e) = absurd cc
       kept (a ∷ xs) (Some t) is at = subst (λ ys. P (Some (Split loc ys (Some t)))) (sym is) (subst (λ p. P (Some (Split loc arms p))) (sym at) split)
 
-      go : (o : Option ℕ) → shared_group arms other ≡ o → P (joined_with o loc arms other)
+      go : (o : Option ℕ) → shared_group arms other ≡ o → P (joined_or_pruned o loc arms other)
       go None e = kept arms other refl refl
       go (Some g) e =
           let c = has_child arms other g e in
@@ -140,7 +140,7 @@ module _ (groups : List (Option ℕ)) where
   pub pruned-Leaf : (n : ℕ) → pruned_of groups (Leaf n) ≡ leaf_for (group_at groups n)
   pruned-Leaf n = F.fold-Leaf (Option FlatTree) (Under (Option FlatTree)) (prune_step groups) prune_arm n
 
-  pub pruned-Split : (loc : Loc) (arms : List FlatArm) (other : Option FlatTree) → pruned_of groups (Split loc arms other) ≡ joined_of loc (live arms) (pruned_else other)
+  pub pruned-Split : (loc : Loc) (arms : List FlatArm) (other : Option FlatTree) → pruned_of groups (Split loc arms other) ≡ joined_split loc (live arms) (pruned_else other)
   pruned-Split loc arms None = F.fold-Split (Option FlatTree) (Under (Option FlatTree)) (prune_step groups) prune_arm loc arms
   pruned-Split loc arms (Some t) = F.fold-Split-else (Option FlatTree) (Under (Option FlatTree)) (prune_step groups) prune_arm loc arms t
 
@@ -306,13 +306,13 @@ module _ (groups : List (Option ℕ)) where
     child_good : (t' : FlatTree) → IsChild t' lives left → (t : FlatTree) × IsChild t arms other × IsPruned groups t (Some t')
     child_good t' child = let c = live_child groups arms other t' child in (c.0, c.1, subst (IsPruned groups c.0) c.2 (each c.0 c.1))
 
-    split_walks : (ws : List ℕ) (m : Memory) (leaf g : ℕ) → walk Tree ws m ≡ Some leaf → group_at groups leaf ≡ Some g → walk_in (joined_of loc lives left) ws m ≡ Some g
+    split_walks : (ws : List ℕ) (m : Memory) (leaf g : ℕ) → walk Tree ws m ≡ Some leaf → group_at groups leaf ≡ Some g → walk_in (joined_split loc lives left) ws m ≡ Some g
     split_walks ws m leaf g w is =
         let wk = walked loc arms other ws m leaf w in
         let goes = (each wk.tree (pick (literals arms) wk.value, wk.is_tree)).prunes.walks ws m leaf g wk.walks is in
         go wk (pruned_of groups wk.tree) refl goes
       where
-        go : (wk : Walked loc arms other ws m leaf) (o : Option FlatTree) → pruned_of groups wk.tree ≡ o → walk_in o ws m ≡ Some g → walk_in (joined_of loc lives left) ws m ≡ Some g
+        go : (wk : Walked loc arms other ws m leaf) (o : Option FlatTree) → pruned_of groups wk.tree ≡ o → walk_in o ws m ≡ Some g → walk_in (joined_split loc lives left) ws m ≡ Some g
         go wk None at h = absurd cc
         go wk (Some t') at h =
             let picked = live_pick groups arms other wk.value wk.tree t' wk.is_tree at in
@@ -322,7 +322,7 @@ module _ (groups : List (Option ℕ)) where
             (λ t c same. ap (λ (u : FlatTree). walk u ws m) (sym (same t' child)) ∙ h)
             (walk-Split loc lives left ws m ∙ ap (λ r. walk_at r (map walk_under lives) (map_opt walk left) ws m) wk.is_read ∙ arms-is lives left wk.value ws m ∙ ap (λ o. walk_opt o ws m) picked ∙ h)
 
-    split_nested : nesting_in (joined_of loc lives left) ≤ nesting Tree
+    split_nested : nesting_in (joined_split loc lives left) ≤ nesting Tree
     split_nested =
         joined_cases (λ o. nesting_in o ≤ nesting Tree) loc lives left
         (λ no. omega arith)
@@ -335,7 +335,7 @@ module _ (groups : List (Option ℕ)) where
             let all = split_nests d loc lives left (λ t child. let c = child_good t child in let a = c.2.prunes.nests in let b = nested loc arms other c.1.0 c.0 c.1.1 in omega (arith, a, b, e)) in
             omega (arith, all, e)
 
-    split_good : IsPruned groups Tree (joined_of loc lives left)
+    split_good : IsPruned groups Tree (joined_split loc lives left)
     split_good = record {
       prunes = record { walks = split_walks; nests = split_nested };
       fits = λ n f.

@@ -2,6 +2,7 @@
 use Rattle.std.proofs.Common.{◌≡◌, ℕ, ◌+◌, ◌-◌, ◌*◌, ◌%◌, ◌^◌, ◌<◌, ◌≤◌, ◌==◌, ◌&&◌, min, List, [], ◌∷◌, ◌++◌, map, Bool, true, Option, Some, None, refl, sym, subst, ap, ◌∙◌, arith}
 use Rattle.std.specs.Prelude.{slice_index, nat_le}
 use Rattle.std.specs.List.{list_all}
+use Rattle.std.proofs.lemmas.Bool.{and_parts}
 use Rattle.std.proofs.lemmas.Bool.Decides.{nat_tests}
 use Rattle.std.proofs.Math.Nat.{div-eq_of_lt}
 use Rattle.rb_bits.specs.Words.{take_of, put_of}
@@ -13,7 +14,7 @@ use Rattle.rb_layout.specs.declared.layout.Leaf.{Leaf}
 use Rattle.rb_layout.specs.declared.layout.Part.{Part}
 use Rattle.rb_layout.specs.declared.layout.Kind.TheVariants.{Bits}
 use Rattle.rb_rel.specs.Relation.{HoldsKind}
-use Rattle.rb_rel.proofs.Lists.{both, and_true}
+use Rattle.rb_rel.proofs.Lists.{and_true}
 use Rattle.rb_rel.proofs.Reading.{same_nat}
 use Rattle.rb_fragment.specs.declared.reads.Read.{Read, Joined}
 use Rattle.rb_fragment.specs.declared.reads.Share.{Share}
@@ -69,7 +70,7 @@ map_last f (y ∷ xs) x = ap (λ zs. f y ∷ zs) (map_last f xs x)
 all_last : (bs : List Bool) (b : Bool) → list_all (λ c. c) bs ≡ true → b ≡ true → list_all (λ c. c) (bs ++ b ∷ []) ≡ true
 all_last [] b h e = and_true b true e refl
 all_last (c ∷ bs) b h e =
-    let f = both c (list_all (λ d. d) bs) h in and_true c (list_all (λ d. d) (bs ++ b ∷ [])) f.0 (all_last bs b f.1 e)
+    let f = and_parts c (list_all (λ d. d) bs) h in and_true c (list_all (λ d. d) (bs ++ b ∷ [])) f.0 (all_last bs b f.1 e)
 
 range_yes : (o l : ℕ) → 1 ≤ l → o + l ≤ 64 → is_range o l ≡ true
 range_yes o l low high =
@@ -172,7 +173,7 @@ pub whole_reads : (leaf : Leaf) (words : List Read) (read : Read) (width : ℕ) 
     → ReadsPart leaf words read p.l p.kind → ReadsAs leaf words read (λ subs. take_of (slice_index (subs path) 0) 0 width)
 whole_reads leaf words read width path p wanted whole rp =
     let b = bit_part width 0 path p wanted in
-    let w = both (p.l == width) (first_bit p.kind == 0) whole in
+    let w = and_parts (p.l == width) (first_bit p.kind == 0) whole in
     let long : p.l ≡ width = same_nat p.l width w.0 in
     let first : b.0 ≡ 0 = sym (ap first_bit b.1) ∙ same_nat (first_bit p.kind) 0 w.1 in
     part_reads leaf words read p.l p.kind rp (λ subs. take_of (slice_index (subs path) 0) 0 width)

@@ -1,6 +1,7 @@
 -- The parts of a leaf, as ranges of reads.
 use Rattle.std.proofs.Common.{Bool, ◌^◌, ◌≡◌, ℕ, ◌+◌, ◌<◌, ◌≤◌, ◌==◌, ◌&&◌, List, [], ◌∷◌, true, Option, Some, None, refl, sym, subst, ap, ◌∙◌, arith}
 use Rattle.std.specs.Prelude.{slice_get, slice_index, leb, ltb}
+use Rattle.std.proofs.lemmas.Bool.{and_parts}
 use Rattle.std.proofs.lemmas.Grind.{common_steps}
 use Rattle.std.proofs.lemmas.Option.{same_Some}
 use Rattle.rb_bytes.specs.Memory.{Memory}
@@ -23,7 +24,7 @@ use Rattle.rb_rel.specs.Relation.{HoldsKind, LeafStands}
 use Rattle.rb_rel.proofs.Holding.{path_is}
 use Rattle.rb_rel.proofs.Known.{ltb_is}
 use Rattle.rb_rel.proofs.Lawful.{HoldsUnit, Holder}
-use Rattle.rb_rel.proofs.Lists.{both, and_true}
+use Rattle.rb_rel.proofs.Lists.{and_true}
 use Rattle.rb_rel.proofs.Parts.{part_read}
 use Rattle.rb_rel.proofs.Reading.{chosen, same_nat, leb_is}
 use Rattle.rb_fragment.specs.declared.reads.Read.{Read, Slot}
@@ -117,7 +118,7 @@ unit_there leaf ty path i h none = none h.ref.block h.ref.word h.word h.is_word 
 
 word_kind : (s i l : ℕ) (path : List ℕ) (k : Kind) → holds_unit (Named s) path i l k ≡ true → k ≡ Word path i
 word_kind s i l path (Word p j) e =
-    let b = both (same_path p path) (j == i) e in ap (λ q. Word q j) (path_is p path b.0) ∙ ap (Word path) (same_nat j i b.1)
+    let b = and_parts (same_path p path) (j == i) e in ap (λ q. Word q j) (path_is p path b.0) ∙ ap (Word path) (same_nat j i b.1)
 word_kind s i l path (Const c) e = absurd cc
 word_kind s i l path (Bits p a) e = absurd cc
 word_kind s i l path (Pointer align b) e = absurd cc
@@ -128,7 +129,7 @@ word_part s i path p e = word_kind s i p.l path p.kind e
 
 bit_kind : (width i l : ℕ) (path : List ℕ) (k : Kind) → holds_unit (Int width) path i l k ≡ true → (a : ℕ) × (k ≡ Bits path a) × (a ≤ i) × (i < a + l)
 bit_kind width i l path (Bits p a) e =
-    let b = both (same_path p path) (leb a i && ltb i (a + l)) e in let c = both (leb a i) (ltb i (a + l)) b.1 in
+    let b = and_parts (same_path p path) (leb a i && ltb i (a + l)) e in let c = and_parts (leb a i) (ltb i (a + l)) b.1 in
     (a, ap (λ q. Bits q a) (path_is p path b.0), leb_is a i c.0, ltb_is i (a + l) c.1)
 bit_kind width i l path (Const c) e = absurd cc
 bit_kind width i l path (Word p j) e = absurd cc

@@ -1,6 +1,7 @@
 -- The leaves of a construction that can still be its value's, where some constructors of the value are known.
 use Rattle.std.proofs.Common.{◌≡◌, ℕ, zero, suc, ◌+◌, ◌==◌, List, [], ◌∷◌, Bool, true, false, Some, refl, sym, subst, ap, ◌∙◌, arith}
 use Rattle.std.specs.Prelude.{slice_get, if◌then◌else◌}
+use Rattle.std.proofs.lemmas.Bool.{and_parts}
 use Rattle.std.proofs.lemmas.Option.{same_Some}
 use Rattle.rb_core.specs.declared.value.Value.{Value}
 use Rattle.rb_core.specs.declared.types.DataDecl.{DataDecl}
@@ -9,7 +10,7 @@ use Rattle.rb_layout.specs.declared.layout.Leaf.{Leaf}
 use Rattle.rb_layout.specs.Flattening.{same_path}
 use Rattle.rb_layout.specs.Positions.{leaf_of, layout_of}
 use Rattle.rb_rel.specs.Switches.{HeadAt, inner_heads, is_leaf_for}
-use Rattle.rb_rel.proofs.Lists.{both, and_true}
+use Rattle.rb_rel.proofs.Lists.{and_true}
 use Rattle.rb_rel.proofs.Reading.{same_nat}
 use Rattle.rb_fetch.specs.inner.Choosing.{HasAll, HasCon}
 use Rattle.rb_fetch.specs.Finding.{leaf_within}
@@ -77,8 +78,8 @@ at-from path con h f = go (same_path h.path path) refl
 pub can-of : (path : List ℕ) (con : ℕ) (hs : List HeadAt) → can_be path con hs ≡ true → (k : ℕ) (h : HeadAt) → slice_get hs k ≡ Some h → h.path ≡ path → h.con.con ≡ con
 can-of path con [] e k h is same = absurd cc
 can-of path con (x ∷ hs) e zero h is same =
-    let b = both (is_at path con x) (can_be path con hs) e in at-of path con h (ap (is_at path con) (sym (same_Some x h is)) ∙ b.0) same
-can-of path con (x ∷ hs) e (suc k) h is same = can-of path con hs (both (is_at path con x) (can_be path con hs) e).1 k h is same
+    let b = and_parts (is_at path con x) (can_be path con hs) e in at-of path con h (ap (is_at path con) (sym (same_Some x h is)) ∙ b.0) same
+can-of path con (x ∷ hs) e (suc k) h is same = can-of path con hs (and_parts (is_at path con x) (can_be path con hs) e).1 k h is same
 
 pub can-from : (path : List ℕ) (con : ℕ) (hs : List HeadAt) → ((k : ℕ) (h : HeadAt) → slice_get hs k ≡ Some h → h.path ≡ path → h.con.con ≡ con) → can_be path con hs ≡ true
 can-from path con [] f = refl

@@ -107,10 +107,10 @@ leaf_within None n = None
 leaf_within (Some layout) n = slice_get layout.leaves n
 
 -- how many leaves a layout has; 0 without a layout
-abbrev pub leaves_within : Option Layout → ℕ
-leaves_within None = 0
-leaves_within (Some layout) = length layout.leaves
+abbrev pub layout_leaf_count : Option Layout → ℕ
+layout_leaf_count None = 0
+layout_leaf_count (Some layout) = length layout.leaves
 
 -- how many leaves the layout of type t has; 0 where t has no layout
 abbrev pub leaf_count : LaidOut → ℕ → ℕ
-leaf_count agreed t = leaves_within (layout_of agreed.layouts t)
+leaf_count agreed t = layout_leaf_count (layout_of agreed.layouts t)

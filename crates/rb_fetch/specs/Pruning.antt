@@ -89,14 +89,14 @@ pruned_split loc [] (Some t) = Some t
 pruned_split loc (a ∷ arms) (Some t) = Some (Flat.Split loc (a ∷ arms) (Some t))
 
 -- a split whose ways all lead to the given group is that group's leaf; without a group it is what `pruned_split` leaves
-abbrev pub joined_with : Option ℕ → Loc → List FlatArm → Option FlatTree → Option FlatTree
-joined_with None loc arms other = pruned_split loc arms other
-joined_with (Some g) loc arms other = Some (Flat.Leaf g)
+abbrev pub joined_or_pruned : Option ℕ → Loc → List FlatArm → Option FlatTree → Option FlatTree
+joined_or_pruned None loc arms other = pruned_split loc arms other
+joined_or_pruned (Some g) loc arms other = Some (Flat.Leaf g)
 
 -- what is left of a split of the bits at a location, with these arms and perhaps an else, which are pruned already:
 -- the leaf of a group where all of them lead to it
-abbrev pub joined_of : Loc → List FlatArm → Option FlatTree → Option FlatTree
-joined_of loc arms other = joined_with (shared_group arms other) loc arms other
+abbrev pub joined_split : Loc → List FlatArm → Option FlatTree → Option FlatTree
+joined_split loc arms other = joined_or_pruned (shared_group arms other) loc arms other
 
 -- the arms with one more in front, for the literal and over the tree; as they are where no tree is given
 abbrev pub keep_arm : ℕ → Option FlatTree → List FlatArm → List FlatArm
@@ -120,7 +120,7 @@ leaf_for (Some g) = Some (Flat.Leaf g)
 
 -- one step of `pruned_of`: what is left of a leaf, or of a split whose arms and else are pruned already
 abbrev pub prune_step : List (Option ℕ) → FlatTree-F (Option FlatTree) (Under (Option FlatTree)) → Option FlatTree
-prune_step groups (T.Split loc arms other) = joined_of loc (live_arms arms) (live_else other)
+prune_step groups (T.Split loc arms other) = joined_split loc (live_arms arms) (live_else other)
 prune_step groups (T.Leaf n) = leaf_for (group_at groups n)
 
 -- one step of `pruned_of` at an arm: its literal, with what is left of the tree below it

@@ -79,7 +79,7 @@ pub(crate) struct Source<'a> {
 // The code of the leaves of a part: the numbers of the instructions at which that of each leaf
 // begins, and all ways out.
 #[derive(Drop)]
-struct Branches {
+struct LeafCode {
     starts: Seq<usize>,
     ways: Seq<Way>,
 }
@@ -123,15 +123,15 @@ fn holes_of(alloc: Global, ways: &[Way]) -> Result<Seq<Hole>, AllocError>
     Ok(holes)
 }
 
-/// Code that looks into the arguments `args`, which are in slots and match the patterns `shown`,
-/// until the leaf of the construction by `con` is known, and leaves by the hole of a way to that
-/// leaf. `depth` calls may be nested still.
-///
-/// # Errors
-///
-/// Want of memory; the same answer at a `depth` of 0.
+// Code that looks into the arguments `args`, which are in slots and match the patterns `shown`,
+// until the leaf of the construction by `con` is known, and leaves by the hole of a way to that
+// leaf. `depth` calls may be nested still.
+//
+// # Errors
+//
+// Want of memory; the same answer at a `depth` of 0.
 #[cycle(fetching)]
-pub(crate) fn choose_leaf_at(
+fn choose_leaf_at(
     alloc: Global,
     body: &mut Body,
     agreed: &Agreed,
@@ -306,7 +306,7 @@ fn choose_each(
     seen: &mut Seen,
     part: &Part,
     count: usize,
-) -> Result<Branches, AllocError>
+) -> Result<LeafCode, AllocError>
     ensures done { IfOk result (λ b. BranchesDone whole.now.agreed.now whole.now.ty whole.now.leaves.now
         seen.old parts.old part.now.place.now.path part.now.place.now.con.ty part.now.words.now
         count body.old body.new b.starts b.ways) }
@@ -325,7 +325,7 @@ fn choose_each(
             return Err(AllocError);
         }
     }
-    Ok(Branches { starts, ways })
+    Ok(LeafCode { starts, ways })
 }
 
 // The code that goes on where `part` has leaf number `inner` of its type: it chooses among those

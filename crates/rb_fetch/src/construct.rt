@@ -13,7 +13,7 @@ ghost use Rattle.rb_fragment.specs.Arms.{AreHoles, ArmsAre, IsJoin};
 ghost use Rattle.rb_compose.specs.Making.{MakesLeaf};
 ghost use Rattle.rb_fetch.specs.Constructing.{Constructs};
 ghost use Rattle.rb_fetch.specs.inner.Choosing.{parts_from};
-ghost use Rattle.rb_fetch.specs.inner.Constructing.{EmitsArm, EmitsArms, IsAlone, IsMet, WaysMeet, met_in, moved};
+ghost use Rattle.rb_fetch.specs.inner.Constructing.{EmitsArm, EmitsArms, IsAlone, IsMet, WaysMeet, meeting_slots, with_moves};
 
 use crate::choice::{Choices, Way};
 use crate::choosing::construct_at;
@@ -227,8 +227,8 @@ fn emit_moved(
     into: Option<Seq<usize>>,
     slots: Seq<usize>,
 ) -> Result<Seq<usize>, AllocError>
-    ensures shared { IfOk result (λ xs. xs ≡ met_in into slots) }
-    ensures code { OnOk result (body.new ≡ moved body.old into slots) }
+    ensures shared { IfOk result (λ xs. xs ≡ meeting_slots into slots) }
+    ensures code { OnOk result (body.new ≡ with_moves body.old into slots) }
 {
     match into {
         None => Ok(slots),

@@ -4,7 +4,7 @@
 //! a number that code can make from slots and loads. `agreed` has the program and its layouts, `ty`
 //! is a data type by number, and `leaf` a leaf by its number in the layout of that type.
 
-ghost use Rattle.std.specs.Prelude.{◌≡◌, Some, IfOk, IfSome, OnOk, slice_get};
+ghost use Rattle.std.specs.Prelude.{◌≡◌, Some, IfOk, OnOk};
 ghost use Rattle.rb_target.specs.Growth.{Grows};
 ghost use Rattle.rb_fetch.specs.Fields.{FetchesField, ReadsField};
 ghost use Rattle.rb_fetch.specs.inner.Fields as fields;

@@ -6,7 +6,7 @@
 //! type, and `con` of type `u32` is a constructor by number in its own type. `path` is a position.
 //! A look is code that finds the leaf of the part at a position.
 
-ghost use Rattle.std.specs.Prelude.{◌≡◌, ◌++◌, ◌∷◌, [], map, IfOk, MatchOption, OnOk, slice_get};
+ghost use Rattle.std.specs.Prelude.{◌≡◌, ◌++◌, ◌∷◌, [], map, IfOk, MatchOption, OnOk};
 ghost use Rattle.std.specs.Option.{option_copied};
 ghost use Rattle.rb_layout.specs.Flattening.{same_path};
 ghost use Rattle.rb_rel.specs.Switches.{heads_below, heads_of, inner_heads};

@@ -26,9 +26,9 @@
 //!
 //! Leaves that are treated alike need not be told apart, nor one from leaves that can't be here.
 //! [`look::find_group_of`] is given a group for each leaf, or none for a leaf that can't be here, and leaves by the
-//! hole of the group. It looks by a tree that is [`prune::pruned`] first: a split below which one way is left is
-//! that way, and one whose ways all lead to one group is that group. So a run does no more switches than before,
-//! and where one group is left it does none.
+//! hole of the group. It looks by the tree that [`prune::pruned_tree`] makes of it: a split below which one way is
+//! left is that way, and one whose ways all lead to one group is that group. So a run does no more switches than
+//! before, and where one group is left it does none.
 //!
 //! Behind the hole of leaf 1 the fields are known. [`field::field_reads`] says what the words of a field
 //! are, without any code: each of them is held by one part of the leaf, and the way to that part leads from

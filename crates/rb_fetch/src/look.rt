@@ -6,17 +6,17 @@
 //! and `ty` is the data type of the value, by number; where that has no layout there is no code,
 //! and no hole.
 
-ghost use Rattle.std.specs.Prelude.{◌≡◌, ℕ, ◌+◌, ◌<◌, ◌≤◌, ◌^◌, ◌++◌, ◌∷◌, [], None, IfOk, OnOk, length};
+ghost use Rattle.std.specs.Prelude.{◌≡◌, ℕ, ◌+◌, ◌<◌, ◌++◌, ◌∷◌, [], None, IfOk, OnOk, length};
 ghost use Rattle.rb_target.specs.declared.instr.Instr.TheVariants.{Jump};
 ghost use Rattle.rb_target.specs.Growth.{Grows};
-ghost use Rattle.rb_target.specs.Sheet.{IsHole, patched, pushed};
+ghost use Rattle.rb_target.specs.Sheet.{IsHole, with_target_at, with_more};
 ghost use Rattle.rb_fragment.specs.Arms.{AreHoles, AreOfOneWay};
 ghost use Rattle.rb_fetch.specs.Finding.{FindsGroup, FindsGroupOf, FindsLeaf, FindsLeafOf, leaf_count};
 ghost use Rattle.rb_fetch.specs.Pruning.{GroupsBelow};
 ghost use Rattle.rb_fetch.specs.inner.Looking.{open_arms_of, Looks};
 
 use crate::fetch::fetch_bits;
-use crate::prune::pruned;
+use crate::prune::pruned_tree;
 use rb_core::seq::Seq;
 use rb_fragment::reads::{Read, slot_reads};
 use rb_layout::agreed::Agreed;
@@ -134,7 +134,7 @@ pub fn find_group_of(
     let Some(layout) = agreed.layouts().get(ty as usize) else {
         return Ok(holes);
     };
-    match pruned(alloc, &layout.tree, groups)? {
+    match pruned_tree(alloc, &layout.tree, groups)? {
         None => Ok(holes),
         Some(tree) => {
             let widths = layout.shape.as_slice();
@@ -206,7 +206,7 @@ fn way_out(pc: usize, arm: Option<usize>, leaf: usize) -> Hole
 
 // Code of a tree that is one leaf: a jump, which is added to `holes` as a hole of that leaf.
 fn leave(body: &mut Body, leaf: usize, holes: &mut Seq<Hole>) -> Result<(), AllocError>
-    ensures code { OnOk result (body.new ≡ pushed body.old (Jump (length body.old.code + 1))) }
+    ensures code { OnOk result (body.new ≡ with_more body.old (Jump (length body.old.code + 1))) }
     ensures holes { OnOk result (holes.new
         ≡ holes.old ++ record { pc = length body.old.code; arm = None; leaf = leaf } ∷ []) }
 {
@@ -221,7 +221,7 @@ fn leave(body: &mut Body, leaf: usize, holes: &mut Seq<Hole>) -> Result<(), Allo
 fn lead_here(body: &mut Body, pc: usize, arm: Option<usize>)
     requires inside { IsHole body.old.code (record { pc = pc; arm = arm; leaf = 0 }) }
     requires forward { pc < length body.old.code }
-    ensures { body.new ≡ patched body.old (record { pc = pc; arm = arm; leaf = 0 }) (length body.old.code) }
+    ensures { body.new ≡ with_target_at body.old (record { pc = pc; arm = arm; leaf = 0 }) (length body.old.code) }
 {
     let here = body.len();
     body.patch(&way_out(pc, arm, 0), here);

@@ -3,7 +3,7 @@
 //! A field is what stands at a path, field numbers from the root of the leaf's values. Blocks,
 //! words and units are numbered from 0.
 
-ghost use Rattle.std.specs.Prelude.{◌≡◌, ◌==◌, ◌&&◌, MatchOption, Some, slice_get};
+ghost use Rattle.std.specs.Prelude.{◌≡◌, ◌==◌, ◌&&◌, MatchOption, Some};
 ghost use Rattle.rb_layout.specs.A6 as held;
 ghost use Rattle.rb_layout.specs.Flattening.{same_path};
 ghost use Rattle.rb_layout.specs.Readable.{AreShort};

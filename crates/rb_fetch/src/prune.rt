@@ -5,7 +5,7 @@
 //! tree has groups in place of leaves.
 
 ghost use Rattle.std.specs.Prelude.{◌≡◌, IfOk, map};
-ghost use Rattle.rb_fetch.specs.Pruning.{few_of, group_at, group_of, is_group, joined_of, pruned_split, lead_all, leads_else, leaf_for, live_arms, pruned_of, Prunes, shared_group};
+ghost use Rattle.rb_fetch.specs.Pruning.{few_of, group_at, group_of, is_group, joined_split, pruned_split, lead_all, leads_else, leaf_for, live_arms, pruned_of, Prunes, shared_group};
 ghost use Rattle.rb_fetch.specs.inner.Pruning.{pruned_under};
 
 use rb_core::boxed::Boxed;
@@ -104,7 +104,7 @@ fn few(alloc: Global, loc: &Loc, arms: Seq<FlatArm>) -> Result<Option<FlatTree>,
 
 // A split of the bits at `loc`, with these arms and perhaps an else; what stands there where one
 // way alone is left, and None where none is.
-fn kept(
+fn remaining_split(
     alloc: Global,
     loc: &Loc,
     arms: Seq<FlatArm>,
@@ -126,23 +126,23 @@ fn kept(
 }
 
 // A split of the bits at `loc` with these arms and perhaps an else, all pruned already: the leaf of
-// a group where all of them lead to it without a split. Else it is what `kept` leaves, and None
+// a group where all of them lead to it without a split. Else it is what `remaining_split` leaves, and None
 // where nothing is left.
-fn joined(
+fn join_split(
     alloc: Global,
     loc: &Loc,
     arms: Seq<FlatArm>,
     other: Option<FlatTree>,
 ) -> Result<Option<FlatTree>, AllocError>
-    ensures { IfOk result (λ r. r ≡ joined_of loc.now arms other) }
+    ensures { IfOk result (λ r. r ≡ joined_split loc.now arms other) }
 {
     match shared_group(arms.as_slice(), &other) {
         Some(group) => Ok(Some(FlatTree::Leaf(group))),
-        None => kept(alloc, loc, arms, other),
+        None => remaining_split(alloc, loc, arms, other),
     }
 }
 
-// The tree that `pruned` answers for this tree and these groups. The call nests as deep as the
+// The tree that `pruned_tree` answers for this tree and these groups. The call nests as deep as the
 // tree.
 #[cycle(pruning)]
 fn prune(
@@ -158,12 +158,12 @@ fn prune(
             let arms = prune_arms(alloc, arms.as_slice(), groups)?;
             match other {
                 None => {
-                    let left = joined(alloc, loc, arms, None)?;
+                    let left = join_split(alloc, loc, arms, None)?;
                     Ok(left)
                 }
                 Some(tree) => {
                     let other = prune(alloc, tree.get(), groups)?;
-                    let left = joined(alloc, loc, arms, other)?;
+                    let left = join_split(alloc, loc, arms, other)?;
                     Ok(left)
                 }
             }
@@ -199,7 +199,7 @@ fn prune_arms(
 /// # Errors
 ///
 /// Want of memory.
-pub fn pruned(
+pub fn pruned_tree(
     alloc: Global,
     tree: &FlatTree,
     groups: &[Option<u32>],

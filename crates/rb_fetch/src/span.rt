@@ -37,7 +37,7 @@ pub fn span_at(
     ensures { IfOk result (λ span. SpansLoc words.now width loc.now span) }
 {
     let read = word_at(alloc, words, loc.word)?;
-    let first = narrowed(Span {
+    let first = narrowed_span(Span {
         read,
         width,
         o: loc.o,
@@ -49,7 +49,7 @@ pub fn span_at(
 
 // The same bits, where their word is itself a range of bits of another read, as bits of that one,
 // if they lie within; else the range as it is.
-fn narrowed(span: Span) -> Span
+fn narrowed_span(span: Span) -> Span
     ensures { IsSameRange span result }
 {
     let Span { read, width, o, l } = span;

@@ -17,10 +17,10 @@ use rb_fragment::reads::Read;
 use rb_layout::layout::{Block, Leaf};
 use std::alloc::{AllocError, Global};
 
-/// The location of the part at a spot of the leaf. In a block it is that of the pointer to the
-/// block, with one step more.
+// The location of the part at a spot of the leaf. In a block it is that of the pointer to the
+// block, with one step more.
 #[cycle(way)]
-pub(crate) fn location(alloc: Global, leaf: &Leaf, spot: Spot) -> Result<Loc, AllocError>
+fn location(alloc: Global, leaf: &Leaf, spot: Spot) -> Result<Loc, AllocError>
     requires leaf { IsAgreedLeaf leaf.now }
     requires spot { IsSpot leaf.now spot }
     ensures { IfOk result (λ loc. LeadsTo leaf.now loc spot.entry.part.now.l spot.entry.part.now.kind) }

@@ -3,7 +3,7 @@ use Rattle.std.proofs.Common.{◌≡◌, ℕ, ◌+◌, ◌<◌, ◌≤◌, ◌�
 use Rattle.std.proofs.lemmas.Option.{slice_get_within, same_Some}
 use Rattle.std.specs.Prelude.{slice_get, Contains}
 use Rattle.rb_target.specs.declared.instr.Instr.{Instr}
-use Rattle.rb_target.specs.Sheet.{Sheet, pushed, with_slot}
+use Rattle.rb_target.specs.Sheet.{Sheet, with_more, with_slot}
 use Rattle.rb_target.specs.Validity.{dests}
 use Rattle.rb_fragment.specs.Adding.{Adds, IsFitting, IsWrittenFrom}
 use Rattle.rb_fragment.specs.Plan.{Plan}
@@ -52,7 +52,7 @@ module _ (plan : Plan) where
     }
 
   -- one instruction that writes one fresh slot
-  pub Adds-one : (a : Sheet) (i : Instr) → Contains (dests i) a.slots → IsFitting plan (a.slots + 1) (length a.code + 1) (length a.code) i → Adds plan a (pushed (with_slot a) i)
+  pub Adds-one : (a : Sheet) (i : Instr) → Contains (dests i) a.slots → IsFitting plan (a.slots + 1) (length a.code + 1) (length a.code) i → Adds plan a (with_more (with_slot a) i)
   Adds-one a i writes fits = record {
     grows = Grows-append a.code (i ∷ []);
     more = omega arith;
@@ -69,7 +69,7 @@ module _ (plan : Plan) where
   }
 
   -- one instruction that writes no slot
-  pub push_adds : (a : Sheet) (i : Instr) → IsFitting plan a.slots (length a.code + 1) (length a.code) i → Adds plan a (pushed a i)
+  pub push_adds : (a : Sheet) (i : Instr) → IsFitting plan a.slots (length a.code + 1) (length a.code) i → Adds plan a (with_more a i)
   push_adds a i fits = record {
     grows = Grows-append a.code (i ∷ []);
     more = omega arith;

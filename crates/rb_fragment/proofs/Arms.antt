@@ -10,7 +10,7 @@ use Rattle.rb_bytes.specs.Memory.{Memory, IsGood}
 use Rattle.rb_target.specs.declared.instr.Instr.{Instr}
 use Rattle.rb_target.specs.declared.instr.Instr.TheVariants.{Jump}
 use Rattle.rb_target.specs.Meaning.{World, slots_at}
-use Rattle.rb_target.specs.Sheet.{Sheet, pushed}
+use Rattle.rb_target.specs.Sheet.{Sheet, with_more}
 use Rattle.rb_target.specs.declared.body.Hole.{Hole}
 use Rattle.rb_fragment.proofs.Adding.{Adds-trans}
 use Rattle.rb_fragment.proofs.Holds.{AllBelow-more}
@@ -23,7 +23,7 @@ use Rattle.rb_fragment.specs.Holding.{AreGiven, Holds, IsOfLocal}
 use Rattle.rb_fragment.specs.Owing.{Does}
 use Rattle.rb_fragment.specs.Pieces.{AtEnd, IsLater, CodePiece}
 use Rattle.rb_fragment.specs.Plan.{Plan, Rep, words_needed}
-use Rattle.rb_fragment.specs.Slots.{AllBelow, AllFrom, SlotsAreApart, IsDistinct, IsOneOf, copies, joining, slots_from}
+use Rattle.rb_fragment.specs.Slots.{AllBelow, AllFrom, SlotsAreApart, IsDistinct, IsOneOf, copies, with_join, slots_from}
 use Rattle.rb_fragment.specs.declared.held.Held.{Held}
 use Rattle.rb_fragment.specs.declared.held.Joined.{Joined}
 use Rattle.rb_fragment.specs.declared.held.Local.{Local}
@@ -46,7 +46,7 @@ module _ (plan : Plan) (clean : Bool) (calls : Calls) (n : ℕ) (t : Ty) (a b c 
   wide = record c { slots = m }
 
   abbrev whole : Sheet
-  whole = joining wide into ys
+  whole = with_join wide into ys
 
   abbrev join : ℕ
   join = length c.code + length (copies into ys)
@@ -80,8 +80,9 @@ module _ (plan : Plan) (clean : Bool) (calls : Calls) (n : ℕ) (t : Ty) (a b c 
         let d2 = subst (λ l. Does plan r.2.switches (next (length b.code) r.1 r.2) r.2.memory (eb calls l env) Mid) r.5.left d1 in
         let d3 = subst (λ m. Does plan r.2.switches (next (length b.code) r.1 r.2) m (eb calls w.left env) Mid) r.5.memory d2 in
         let Ok1 = λ (v : Value) (w' : World). (s2 : List ℕ) × (out ≡ next (length c.code) s2 w') × Keeps n s s2 × (length s2 ≡ length s) × Rep plan w'.memory clean t v (slots_at s2 ys) in
-        let d4 = does_map plan (w.switches + extra) r.2.switches out (next (length b.code) r.1 r.2) Ok1 Mid w.memory (eb calls w.left env) (omega (arith, r.5.switches)) (r.3 ∙ ap (λ pc. next pc r.1 r.2) r.6.0)
-        (λ v w' q. (q.0, r.3 ∙ ap (λ pc. next pc r.1 r.2) r.6.0 ∙ q.1, Keeps-trans n n s r.1 q.0 (omega arith) r.4 (record { long = q.2.long; same = λ x lt. q.2.same x (omega (arith, lt, bind.low, bind.adds.more)) }), q.2.long ∙ r.4.long, q.3)) d3 in
+        let bound : out ≡ next (length b.code) r.1 r.2 = ◌∙◌ {b = next r.0 r.1 r.2} {c = next (length b.code) r.1 r.2} r.3 (ap (λ pc. next pc r.1 r.2) r.6.0) in
+        let d4 = does_map plan (w.switches + extra) r.2.switches out (next (length b.code) r.1 r.2) Ok1 Mid w.memory (eb calls w.left env) (omega (arith, r.5.switches)) bound
+        (λ v w' q. (q.0, ◌∙◌ {a = out} {b = next (length b.code) r.1 r.2} bound q.1, Keeps-trans n n s r.1 q.0 (omega arith) r.4 (record { long = q.2.long; same = λ x lt. q.2.same x (omega (arith, lt, bind.low, bind.adds.more)) }), q.2.long ∙ r.4.long, q.3)) d3 in
         does_later plan (w.switches + extra) out (Comes plan clean out next join n t into s) Ok1 w.memory (eb calls w.left env)
         (λ v w' q.
         let ran = copies_run final callee next law into ys (length c.code) q.0 w' there in
@@ -111,17 +112,17 @@ shared_code None c held = refl
 shared_code (Some h) c held = refl
 
 pub joined_is : (into : Option Held) (held : Held) (c c1 c2 c3 : Sheet) (h : Held) (pc : ℕ) → h ≡ shared_held into c held → c1 ≡ shared_sheet into c held
-    → c2 ≡ record c1 { code = c1.code ++ copies h.slots held.slots } → pc ≡ length c2.code → c3 ≡ pushed c2 (Jump (pc + 1)) → JoinedIs into held c c3 (record { into = h; join = record { pc = pc; arm = None; leaf = 0 } })
+    → c2 ≡ record c1 { code = c1.code ++ copies h.slots held.slots } → pc ≡ length c2.code → c3 ≡ with_more c2 (Jump (pc + 1)) → JoinedIs into held c c3 (record { into = h; join = record { pc = pc; arm = None; leaf = 0 } })
 joined_is into held c c1 c2 c3 h pc e e1 e2 at e3 =
     let moved = copies h.slots held.slots in
     let same : c1.code ≡ c.code = ap (λ (k : Sheet). k.code) e1 ∙ shared_code into c held in
     let len : pc ≡ length c1.code + length moved = at ∙ ap (λ (k : Sheet). length k.code) e2 ∙ length-append c1.code moved in
     let last : Instr = Jump (length c1.code + length moved + 1) in
-    let code : c3 ≡ joining c1 h.slots held.slots = e3 ∙ ap (λ (k : Sheet). pushed k (Jump (pc + 1))) e2 ∙ ap (λ k. let s : Sheet = record c1 { code = (c1.code ++ moved) ++ Jump (k + 1) ∷ [] } in s) len
+    let code : c3 ≡ with_join c1 h.slots held.slots = e3 ∙ ap (λ (k : Sheet). with_more k (Jump (pc + 1))) e2 ∙ ap (λ k. let s : Sheet = record c1 { code = (c1.code ++ moved) ++ Jump (k + 1) ∷ [] } in s) len
     ∙ ap (λ k. let s : Sheet = record c1 { code = k } in s) (append_assoc c1.code moved (last ∷ [])) in
     record {
       shared = e;
-      code = code ∙ ap (λ (k : Sheet). joining k h.slots held.slots) e1;
+      code = code ∙ ap (λ (k : Sheet). with_join k h.slots held.slots) e1;
       join = ap (λ k. let x : Hole = record { pc = k; arm = None; leaf = 0 } in x) (len ∙ ap (λ k. length k + length moved) same);
     }
 
@@ -150,11 +151,11 @@ module _ (plan : Plan) (t : Ty) (n : ℕ) (a b q d : Sheet) (inner : List Local)
     pub shared : AreShared n d.slots (words_needed plan t) r.into.slots
     pub does : (calls : Calls) (i : Case) → CodeArm plan (clean i) calls n a d r.join.pc extra (Pre i) (λ left. eb calls left (env i)) t r.into.slots
 
-  done : (m : ℕ) → d ≡ joining (record q { slots = m }) r.into.slots hy.slots → r.join.pc ≡ length q.code + length (copies r.into.slots hy.slots) → q.slots ≤ m
+  done : (m : ℕ) → d ≡ with_join (record q { slots = m }) r.into.slots hy.slots → r.join.pc ≡ length q.code + length (copies r.into.slots hy.slots) → q.slots ≤ m
       → AreShared n m (words_needed plan t) r.into.slots → ((x : ℕ) → q.slots ≤ x → x < m → IsOneOf x r.into.slots) → SlotsAreApart r.into.slots hy.slots → IsArm
   done m code join room sh new apart =
       let zs = r.into.slots in
-      let w = joining (record q { slots = m }) zs hy.slots in
+      let w = with_join (record q { slots = m }) zs hy.slots in
       let ys_low = AllBelow-more q.slots m hy.slots room body.given in
       let adds0 = Adds-trans plan a q w (Adds-trans plan a b q ab body.adds) (joining_adds plan q m zs hy.slots room sh.below ys_low (sh.count ∙ sym body.count) new) in
       record {

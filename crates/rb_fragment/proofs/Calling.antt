@@ -16,7 +16,7 @@ use Rattle.rb_fragment.proofs.Holds.{AllBelow-more}
 use Rattle.rb_fragment.proofs.Moves.{below-all, put_gives, put_kept, slots_from-above, slots_from-below, slots_from-contain, slots_from-length}
 use Rattle.rb_fragment.proofs.Represented.{Rep-count}
 use Rattle.rb_fragment.specs.Adding.{Adds, IsFitting}
-use Rattle.rb_fragment.specs.Fragments.{AnyValues, Applies, Comes, calling}
+use Rattle.rb_fragment.specs.Fragments.{AnyValues, Applies, Comes, with_call}
 use Rattle.rb_fragment.specs.Holding.{AllGiven, AreHeld, all_slots, held_type}
 use Rattle.rb_fragment.specs.Owing.{Ends, GivesValue}
 use Rattle.rb_fragment.specs.Plan.{Plan, Rep, Reps, types_of, words_needed_by, words_needed}
@@ -69,7 +69,7 @@ module _ (plan : Plan) (a : Sheet) (g : ℕ) (f : Fun) (hs : List Held) (is : sl
   instr = Call g ds froms
 
   abbrev after : Sheet
-  after = calling plan a g f hs
+  after = with_call plan a g f hs
 
   fits : IsFitting plan after.slots (length a.code + 1) (length a.code) instr
   fits = record {

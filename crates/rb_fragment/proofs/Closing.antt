@@ -5,10 +5,10 @@ use Rattle.std.proofs.lemmas.Option.{same_Some}
 use Rattle.std.specs.Prelude.{slice_get, slice_index}
 use Rattle.rb_target.specs.declared.instr.Instr.{Instr}
 use Rattle.rb_target.specs.declared.body.Hole.{Hole}
-use Rattle.rb_target.specs.Sheet.{Sheet, patched}
+use Rattle.rb_target.specs.Sheet.{Sheet, with_target_at}
 use Rattle.rb_fragment.proofs.Fragments.{one}
 use Rattle.rb_fragment.proofs.Patching.{AreAllHoles, all_holes_patched}
-use Rattle.rb_fragment.specs.Arms.{AreOfOneWay, closed}
+use Rattle.rb_fragment.specs.Arms.{AreOfOneWay, with_targets}
 use Rattle.rb_target.proofs.Finishing.{finishes_patched, finishes_plain, leads_patched}
 use Rattle.rb_target.proofs.Shapes.{patch_is}
 use Rattle.rb_target.specs.Growth.{AgreesBut, Nowhere}
@@ -54,12 +54,12 @@ pub record IsClosed (final : List Instr) (b : Sheet) (hs : List Hole) (ts : List
   pub finishes : Finishes final b.code hs lo hi
   pub leads : (h : Hole) → IsHoleAmong h hs → lo ≤ h.pc → h.pc < hi → target_in (slice_get final h.pc) h.arm ≡ Some (slice_index ts h.leaf)
 
-pub closed_is : (final : List Instr) (hs : List Hole) (ts : List ℕ) (b : Sheet) (lo hi : ℕ) → AgreesBut final (closed b hs ts).code lo hi Nowhere → AreAllHoles b.code hs → AreOfOneWay hs → IsClosed final b hs ts lo hi
+pub closed_is : (final : List Instr) (hs : List Hole) (ts : List ℕ) (b : Sheet) (lo hi : ℕ) → AgreesBut final (with_targets b hs ts).code lo hi Nowhere → AreAllHoles b.code hs → AreOfOneWay hs → IsClosed final b hs ts lo hi
 closed_is final [] ts b lo hi agrees holes one = record { finishes = finishes_plain final b.code [] lo hi agrees; leads = λ h i. absurd (in_none h i) }
 closed_is final (h ∷ hs) ts b lo hi agrees holes one =
     let t = slice_index ts h.leaf in
     let p = patch_is b h t holes.0 in
-    let k = closed_is final hs ts (patched b h t) lo hi agrees (all_holes_patched b h t hs holes.1) (λ x y i j e f. one x y (in_tail h hs x i) (in_tail h hs y j) e f) in
+    let k = closed_is final hs ts (with_target_at b h t) lo hi agrees (all_holes_patched b h t hs holes.1) (λ x y i j e f. one x y (in_tail h hs x i) (in_tail h hs y j) e f) in
     let here : lo ≤ h.pc → h.pc < hi → target_in (slice_get final h.pc) h.arm ≡ Some t = λ low high. elim (is_open hs h.pc h.arm) [
       | inl o ↦
           let there = k.leads o.0 o.1 (omega (arith, o.2, low)) (omega (arith, o.2, high)) in

@@ -9,7 +9,7 @@ use Rattle.rb_bytes.specs.Memory.{Memory}
 use Rattle.rb_bytes.specs.Laws.{Extends}
 use Rattle.rb_target.specs.declared.instr.Instr.{Instr}
 use Rattle.rb_target.specs.Meaning.{World, Next, Callee, act, taken, slots_at}
-use Rattle.rb_target.specs.Sheet.{Sheet, pushed, with_slot}
+use Rattle.rb_target.specs.Sheet.{Sheet, with_more, with_slot}
 use Rattle.rb_bytes.proofs.GrowthLemmas.{Grown-extends}
 use Rattle.rb_fragment.proofs.Laying.{bind, does_map, unit}
 use Rattle.rb_fragment.specs.Adding.{Adds}
@@ -44,7 +44,7 @@ module _ (plan : Plan) (clean : Bool) (calls : Calls) where
   pub one : (a : Sheet) (i : Instr) (Pre : List ℕ → Memory → Type 0) (o : ℕ → Outcome) (t : Ty)
       → ((next : Next) (callee : Callee) (pc : ℕ) (s : List ℕ) (w : World) → Pre s w.memory
       → (v : Value) × (word : ℕ) × (act i next callee pc s w ≡ next (pc + 1) (slice_set s a.slots word) w) × (o w.left ≡ value_outcome v w.left) × Rep plan w.memory clean t v (word ∷ []))
-      → Fragment plan clean calls a (pushed (with_slot a) i) Pre o t (a.slots ∷ [])
+      → Fragment plan clean calls a (with_more (with_slot a) i) Pre o t (a.slots ∷ [])
   one a i Pre o t does = record {
     runs = λ final callee next law rel agrees s w long good pre.
         let code = a.code ++ i ∷ [] in

@@ -7,6 +7,7 @@ use Rattle.std.proofs.Math.Nat.{mod-eq_of_lt}
 use Rattle.std.proofs.lemmas.Nat.{mul-mod_first}
 use Rattle.std.specs.Prelude.{bit_and, slice_index, slice_set, nat_le}
 use Rattle.std.specs.List.{list_all}
+use Rattle.std.proofs.lemmas.Bool.{and_parts}
 use Rattle.rb_core.specs.WellNumbered.{either}
 use Rattle.rb_bits.specs.Words.{IsRange, mask_of, take_of, put_of}
 use Rattle.rb_bits.proofs.WordLemmas.{mask_fits, take_fits}
@@ -16,7 +17,7 @@ use Rattle.rb_target.specs.declared.instr.AluOp.TheVariants.{And, Mul}
 use Rattle.rb_target.specs.declared.instr.Instr.TheVariants.{Const, Alu, Take, Put, Load}
 use Rattle.rb_target.specs.Growth.{Keeps}
 use Rattle.rb_target.specs.Meaning.{alu_of}
-use Rattle.rb_target.specs.Sheet.{Sheet, pushed, with_slot}
+use Rattle.rb_target.specs.Sheet.{Sheet, with_more, with_slot}
 use Rattle.rb_target.proofs.Growing.{Keeps-set}
 use Rattle.rb_fragment.specs.declared.reads.Read.{Read, Slot, Number, Bits, Address, Loaded, Joined}
 use Rattle.rb_fragment.specs.declared.reads.Share.{Share}
@@ -30,13 +31,13 @@ use Rattle.rb_fragment.proofs.Adding.{Adds-refl, Adds-trans, Adds-one, push_adds
 use Rattle.rb_fragment.proofs.Pieces.{piece_none, piece_weaken, straight_seq, straight_weaken, straight_frame, straight_write}
 use Rattle.rb_fragment.proofs.Masks.{masked}
 use Rattle.rb_fragment.proofs.Steps.{set_same, straight_const, straight_take, straight_alu, straight_load}
-use Rattle.rb_fragment.proofs.ReadForms.{both, mean-Slot, mean-Number, mean-Bits, mean-Address, mean-Loaded, mean-Joined, meant-is, fits-Slot, fits-Bits, fits-Address, fits-Loaded, fits-Joined, fits-Share, over-kept}
+use Rattle.rb_fragment.proofs.ReadForms.{mean-Slot, mean-Number, mean-Bits, mean-Address, mean-Loaded, mean-Joined, meant-is, fits-Slot, fits-Bits, fits-Address, fits-Loaded, fits-Joined, fits-Share, over-kept}
 
 -- Tests and what they say
 
 pub range_is : (o l : ℕ) → is_range o l ≡ true → IsRange o l
 range_is o l h =
-    let f = both (nat_le 1 l) (nat_le (o + l) 64) h in
+    let f = and_parts (nat_le 1 l) (nat_le (o + l) 64) h in
     let low : 1 ≤ l = grind (arith, nat_tests, f.0) in let high : o + l ≤ 64 = grind (arith, nat_tests, f.1) in (low, high)
 
 either_is : (a b : Bool) (A B : Type 0) → (a ≡ true → A) → (b ≡ true → B) → either a b ≡ true → A ⊎ B
@@ -101,20 +102,20 @@ module _ (plan : Plan) where
             (λ s m pre. same_Some (slice_index s x) y (sym (mean-Slot x s m) ∙ pre.1));
       }
 
-  pub made_number : (c : ℕ) (a : Sheet) → c < 2 ^ 64 → MakesReadIn plan (Number c) a (pushed (with_slot a) (Const a.slots c)) a.slots
+  pub made_number : (c : ℕ) (a : Sheet) → c < 2 ^ 64 → MakesReadIn plan (Number c) a (with_more (with_slot a) (Const a.slots c)) a.slots
   made_number c a small = record {
     adds = Adds-one plan a (Const a.slots c) (0, omega arith, refl) (record { bounded = small; slots_fit = omega arith; targets = tt; calls = tt });
     given = omega arith;
     runs = λ x.
-        let b = pushed (with_slot a) (Const a.slots c) in
+        let b = with_more (with_slot a) (Const a.slots c) in
         straight_weaken plan a.slots a b (λ s m. c ≡ x) (λ s m. IsGood m × (mean (Number c) s m ≡ Some x)) (λ s m. slice_index s a.slots ≡ x) (λ s m. slice_index s a.slots ≡ x)
         (λ s m pre. same_Some c x (sym (mean-Number c s m) ∙ pre.1)) (λ s m p. p) (straight_const plan a.slots a (omega arith) (λ k m. k ≡ x) c small);
   }
 
-  pub made_bits : (r : Read) (o l : ℕ) (a b : Sheet) (xs k : ℕ) → fits k (Bits r o l) ≡ true → MakesReadIn plan r a b xs → MakesReadIn plan (Bits r o l) a (pushed (with_slot b) (Take b.slots xs o l)) b.slots
+  pub made_bits : (r : Read) (o l : ℕ) (a b : Sheet) (xs k : ℕ) → fits k (Bits r o l) ≡ true → MakesReadIn plan r a b xs → MakesReadIn plan (Bits r o l) a (with_more (with_slot b) (Take b.slots xs o l)) b.slots
   made_bits r o l a b xs k fit made =
-      let range = range_is o l (both (fits k r) (is_range o l) (sym (fits-Bits k r o l) ∙ fit)).1 in
-      let c = pushed (with_slot b) (Take b.slots xs o l) in
+      let range = range_is o l (and_parts (fits k r) (is_range o l) (sym (fits-Bits k r o l) ∙ fit)).1 in
+      let c = with_more (with_slot b) (Take b.slots xs o l) in
       then_makes r (Bits r o l) a b c xs b.slots made
       (Adds-one plan b (Take b.slots xs o l) (0, omega arith, refl) (record { bounded = range; slots_fit = (omega arith, omega (arith, made.given)); targets = tt; calls = tt })) (omega arith)
       (λ w x m. take_of w o l ≡ x)
@@ -122,12 +123,12 @@ module _ (plan : Plan) where
       (λ w x. straight_weaken plan a.slots b c (λ s m. take_of (slice_index s xs) o l ≡ x) (λ s m. (IsGood m × (take_of w o l ≡ x)) × (slice_index s xs ≡ w)) (λ s m. slice_index s b.slots ≡ x) (λ s m. slice_index s b.slots ≡ x)
       (λ s m pre. ap (λ y. take_of y o l) pre.1 ∙ pre.0.1) (λ s m p. p) (straight_take plan a.slots b made.adds.more (λ y m. y ≡ x) xs o l made.given range))
 
-  pub made_loaded : (r : Read) (byte width : ℕ) (a b : Sheet) (xs k : ℕ) → fits k (Loaded r byte width) ≡ true → MakesReadIn plan r a b xs → MakesReadIn plan (Loaded r byte width) a (pushed (with_slot b) (Load b.slots xs byte width)) b.slots
+  pub made_loaded : (r : Read) (byte width : ℕ) (a b : Sheet) (xs k : ℕ) → fits k (Loaded r byte width) ≡ true → MakesReadIn plan r a b xs → MakesReadIn plan (Loaded r byte width) a (with_more (with_slot b) (Load b.slots xs byte width)) b.slots
   made_loaded r byte width a b xs k fit made =
-      let f = both (nat_le byte 511) (is_width width) (both (fits k r) _ (sym (fits-Loaded k r byte width) ∙ fit)).1 in
+      let f = and_parts (nat_le byte 511) (is_width width) (and_parts (fits k r) _ (sym (fits-Loaded k r byte width) ∙ fit)).1 in
       let low : byte ≤ 511 = grind (arith, nat_tests, f.0) in
       let wide = width_is width f.1 in
-      let c = pushed (with_slot b) (Load b.slots xs byte width) in
+      let c = with_more (with_slot b) (Load b.slots xs byte width) in
       then_makes r (Loaded r byte width) a b c xs b.slots made
       (Adds-one plan b (Load b.slots xs byte width) (0, omega arith, refl) (record { bounded = (low, wide); slots_fit = (omega arith, omega (arith, made.given)); targets = tt; calls = tt })) (omega arith)
       (λ w x m. load_of m w byte width ≡ Ok x)
@@ -142,7 +143,7 @@ module _ (plan : Plan) where
   module _ (p q : Read) (unit : ℕ) (a b : Sheet) (xs : ℕ) (small : unit < 2 ^ 64) (made : MakesReadIn plan p a b xs)
       (opened : (s : List ℕ) (m : Memory) (x : ℕ) → mean q s m ≡ Some x → (w : ℕ) × (mean p s m ≡ Some w) × (w * unit % 2 ^ 64 ≡ x)) where
     abbrev b1 : Sheet
-    b1 = pushed (with_slot b) (Const b.slots unit)
+    b1 = with_more (with_slot b) (Const b.slots unit)
 
     abbrev b2 : Sheet
     b2 = multiple xs unit b
@@ -173,9 +174,9 @@ module _ (plan : Plan) where
 
   -- a range, the unit, and their product
   pub made_address : (r : Read) (o l align : ℕ) (a b : Sheet) (xs k : ℕ) → fits k (Address r o l align) ≡ true → align < 2 ^ 64 → MakesReadIn plan r a b xs
-      → let c = pushed (with_slot b) (Take b.slots xs o l) in MakesReadIn plan (Address r o l align) a (multiple b.slots align c) (c.slots + 1)
+      → let c = with_more (with_slot b) (Take b.slots xs o l) in MakesReadIn plan (Address r o l align) a (multiple b.slots align c) (c.slots + 1)
   made_address r o l align a b xs k fit small made =
-      let c = pushed (with_slot b) (Take b.slots xs o l) in
+      let c = with_more (with_slot b) (Take b.slots xs o l) in
       let fit_bits : fits k (Bits r o l) ≡ true = fits-Bits k r o l ∙ sym (fits-Address k r o l align) ∙ fit in
       made_multiple (Bits r o l) (Address r o l align) align a c b.slots small (made_bits r o l a b xs k fit_bits made)
       (λ s m x e.
@@ -197,10 +198,10 @@ module _ (plan : Plan) where
   -- a range that stands in its place, and the bits beside it masked off
   module _ (r : Read) (o l : ℕ) (a b : Sheet) (xs : ℕ) (range : IsRange o l) (made : MakesReadIn plan r a b xs) where
     abbrev m1 : Sheet
-    m1 = pushed (with_slot b) (Const b.slots (mask_of o l))
+    m1 = with_more (with_slot b) (Const b.slots (mask_of o l))
 
     abbrev m2 : Sheet
-    m2 = pushed (with_slot m1) (Alu And 64 m1.slots xs b.slots)
+    m2 = with_more (with_slot m1) (Alu And 64 m1.slots xs b.slots)
 
     masking_adds : Adds plan b m2
     masking_adds =
@@ -237,14 +238,14 @@ module _ (plan : Plan) where
 
   module _ (p : Share) (a b : Sheet) (xs k d : ℕ) (le : k ≤ d) (lt : d < a.slots) (fit : fits_share k p ≡ true) (made : MakesReadIn plan p.read a b xs) where
     abbrev c1 : Sheet
-    c1 = pushed (with_slot b) (Take b.slots xs p.o p.l)
+    c1 = with_more (with_slot b) (Take b.slots xs p.o p.l)
 
     abbrev c2 : Sheet
-    c2 = pushed c1 (Put d b.slots p.a p.l)
+    c2 = with_more c1 (Put d b.slots p.a p.l)
 
     ranges : IsRange p.o p.l × IsRange p.a p.l
     ranges =
-        let f = both (is_range p.o p.l) (is_range p.a p.l) (both (fits k p.read) _ (sym (fits-Share k p) ∙ fit)).1 in
+        let f = and_parts (is_range p.o p.l) (is_range p.a p.l) (and_parts (fits k p.read) _ (sym (fits-Share k p) ∙ fit)).1 in
         (range_is p.o p.l f.0, range_is p.a p.l f.1)
 
     take_adds : Adds plan b c1
@@ -317,7 +318,7 @@ module _ (plan : Plan) where
   fits_drop : (k : ℕ) (i : ℕ) (ps : List Share) → list_all (λ b. b) (map (fits_share k) ps) ≡ true → list_all (λ b. b) (map (fits_share k) (drop i ps)) ≡ true
   fits_drop k zero ps h = h
   fits_drop k (suc i) [] h = h
-  fits_drop k (suc i) (p ∷ ps) h = fits_drop k i ps (both (fits_share k p) _ h).1
+  fits_drop k (suc i) (p ∷ ps) h = fits_drop k i ps (and_parts (fits_share k p) _ h).1
 
   -- no share yet
   pub puts_none : (shares : List Share) (d : ℕ) (a : Sheet) → d < a.slots → PutsSome plan shares 0 d a a
@@ -332,7 +333,7 @@ module _ (plan : Plan) where
   pub puts_more : (shares : List Share) (i : ℕ) (p : Share) (a b c : Sheet) (d k : ℕ) → drop i shares ≡ p ∷ drop (i + 1) shares → k ≤ d → d < a.slots → list_all (λ b. b) (map (fits_share k) shares) ≡ true
       → PutsSome plan shares i d a b → PutsShare p d b c → PutsSome plan shares (i + 1) d a c
   puts_more shares i p a b c d k item le lt fit first second =
-      let here = both (fits_share k p) _ (sym (ap (λ l. list_all (λ b. b) (map (fits_share k) l)) item) ∙ fits_drop k i shares fit) in
+      let here = and_parts (fits_share k p) _ (sym (ap (λ l. list_all (λ b. b) (map (fits_share k) l)) item) ∙ fits_drop k i shares fit) in
       let one = second plan k le (omega (arith, lt, first.adds.more)) here.0 in
       record {
         adds = Adds-trans plan a b c first.adds one.adds;
@@ -363,13 +364,13 @@ module _ (plan : Plan) where
     pub runs : (x : ℕ) → Straight plan a.slots a b (λ s m. IsGood m × (mean (Joined shares) s m ≡ Some x)) (λ s m. IsGood m × (joined_over (slice_index s d) (map meant_of rest) s m ≡ Some x))
 
   -- a zero
-  pub begins_zero : (shares : List Share) (a : Sheet) (k : ℕ) → k ≤ a.slots → fits k (Joined shares) ≡ true → Begins shares shares a (pushed (with_slot a) (Const a.slots 0)) a.slots
+  pub begins_zero : (shares : List Share) (a : Sheet) (k : ℕ) → k ≤ a.slots → fits k (Joined shares) ≡ true → Begins shares shares a (with_more (with_slot a) (Const a.slots 0)) a.slots
   begins_zero shares a k le fit = record {
     adds = Adds-one plan a (Const a.slots 0) (0, omega arith, refl) (record { bounded = omega arith; slots_fit = omega arith; targets = tt; calls = tt });
     fresh = omega arith;
     given = omega arith;
     runs = λ x.
-        let b = pushed (with_slot a) (Const a.slots 0) in
+        let b = with_more (with_slot a) (Const a.slots 0) in
         let F : List ℕ → Memory → Type 0 = λ s m. IsGood m × (joined_over 0 (map meant_of shares) s m ≡ Some x) in
         straight_weaken plan a.slots a b (λ s m. F s m × (0 ≡ 0)) (λ s m. IsGood m × (mean (Joined shares) s m ≡ Some x)) (λ s m. F s m × (slice_index s a.slots ≡ 0))
         (λ s m. IsGood m × (joined_over (slice_index s a.slots) (map meant_of shares) s m ≡ Some x))
@@ -391,7 +392,7 @@ module _ (plan : Plan) where
   -- a first share at bit 0, taken
   pub begins_taken : (p : Share) (rest : List Share) (a b : Sheet) (d k : ℕ) → k ≤ a.slots → fits k (Joined (p ∷ rest)) ≡ true → p.a ≡ 0 → a.slots ≤ d → MakesReadIn plan (Bits p.read p.o p.l) a b d → Begins (p ∷ rest) rest a b d
   begins_taken p rest a b d k le fit low fresh made =
-      let fit_rest = (both (fits_share k p) (list_all (λ b. b) (map (fits_share k) rest)) (sym (fits-Joined k (p ∷ rest)) ∙ fit)).1 in
+      let fit_rest = (and_parts (fits_share k p) (list_all (λ b. b) (map (fits_share k) rest)) (sym (fits-Joined k (p ∷ rest)) ∙ fit)).1 in
       record {
         adds = made.adds;
         fresh = fresh;
@@ -430,7 +431,7 @@ module _ (plan : Plan) where
   -- the bits of a share that fits are a read that fits
   pub share_bits : (p : Share) (rest : List Share) (k : ℕ) → fits k (Joined (p ∷ rest)) ≡ true → (fits k p.read ≡ true) × (fits k (Bits p.read p.o p.l) ≡ true) × (list_all (λ b. b) (map (fits_share k) rest) ≡ true)
   share_bits p rest k fit =
-      let f = both (fits_share k p) (list_all (λ b. b) (map (fits_share k) rest)) (sym (fits-Joined k (p ∷ rest)) ∙ fit) in
-      let g = both (fits k p.read) _ (sym (fits-Share k p) ∙ f.0) in
-      let r = both (is_range p.o p.l) (is_range p.a p.l) g.1 in
+      let f = and_parts (fits_share k p) (list_all (λ b. b) (map (fits_share k) rest)) (sym (fits-Joined k (p ∷ rest)) ∙ fit) in
+      let g = and_parts (fits k p.read) _ (sym (fits-Share k p) ∙ f.0) in
+      let r = and_parts (is_range p.o p.l) (is_range p.a p.l) g.1 in
       (g.0, fits-Bits k p.read p.o p.l ∙ ap (λ t. t && is_range p.o p.l) g.0 ∙ r.0, f.1)

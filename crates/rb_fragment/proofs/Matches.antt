@@ -12,7 +12,7 @@ use Rattle.rb_target.specs.declared.instr.Instr.TheVariants.{Jump}
 use Rattle.rb_target.specs.declared.body.Hole.{Hole}
 use Rattle.rb_target.specs.Laws.{Law}
 use Rattle.rb_target.specs.Meaning.{World, Next, Callee, taken}
-use Rattle.rb_target.specs.Sheet.{Sheet, patched, IsHoleIn}
+use Rattle.rb_target.specs.Sheet.{Sheet, with_target_at, IsHoleIn}
 use Rattle.rb_fragment.proofs.Adding.{Adds-trans}
 use Rattle.rb_fragment.proofs.Closing.{closed_is}
 use Rattle.rb_fragment.proofs.Holds.{AllBelow-more}
@@ -20,7 +20,7 @@ use Rattle.rb_fragment.proofs.Laying.{does_later, does_map}
 use Rattle.rb_fragment.proofs.Patching.{AreClosable, adds_closed, all_holes_closed, all_holes_grow, all_holes_of, all_joins_holes, at_closed, closed_hole, closed_length, closed_slots, from_at, hole_from, hole_within, join_at, join_closed, join_from, jump_hole, retarget_all, retarget_none}
 use Rattle.rb_fragment.proofs.Pieces.{does_event, jumps, reached_does}
 use Rattle.rb_fragment.specs.Adding.{Adds}
-use Rattle.rb_fragment.specs.Arms.{AreHoles, AreJoins, AreOfOneWay, ArePatchable, CodeArm, ArmIn, ArmsAre, ArmsIn, HasHole, IsJoin, closed, whole_match}
+use Rattle.rb_fragment.specs.Arms.{AreHoles, AreJoins, AreOfOneWay, ArePatchable, CodeArm, ArmIn, ArmsAre, ArmsIn, HasHole, IsJoin, with_targets, whole_match}
 use Rattle.rb_fragment.specs.Fragments.{Comes, Fragment}
 use Rattle.rb_fragment.specs.Owing.{Does, CallsAgree}
 use Rattle.rb_fragment.specs.Pieces.{Branches, ReachesExit}
@@ -28,7 +28,7 @@ use Rattle.rb_fragment.specs.Plan.{Plan}
 use Rattle.rb_fragment.specs.Slots.{AllBelow, AllFrom}
 use Rattle.rb_target.proofs.Growing.{Grows-refl, Grows-trans, Keeps-trans, below_or}
 use Rattle.rb_target.specs.Growth.{AgreesBut, Grows, Nowhere}
-use Rattle.rb_target.specs.Targets.{IsHoleAmong}
+use Rattle.rb_target.specs.Targets.{IsHoleAmong, target_in}
 
 -- The arms
 
@@ -172,15 +172,15 @@ holes_patchable from e q (h ∷ hs) ts g a starts =
     let le = from_at (length e.code) ts h.leaf starts a.1 in
     (subst (λ o. IsHoleIn o h.arm) (sym (g.same h.pc lt)) a.2, a.1, omega (arith, lt, le), holes_patchable from e q hs ts g a.3 starts)
 
-pub joins_patchable : (from : ℕ) (q : Sheet) (hs : List Hole) (starts : List ℕ) (js : List Hole) → AreJoins from q.code js → ArePatchable (closed q hs starts).code js (length q.code ∷ [])
+pub joins_patchable : (from : ℕ) (q : Sheet) (hs : List Hole) (starts : List ℕ) (js : List Hole) → AreJoins from q.code js → ArePatchable (with_targets q hs starts).code js (length q.code ∷ [])
 joins_patchable from q hs starts [] j = tt
 joins_patchable from q hs starts (h ∷ js) j =
     let lt = slice_get_within q.code h.pc (Jump j.0.2.0) j.0.2.1 in
     let to : slice_index (length q.code ∷ []) h.leaf ≡ length q.code = ap (λ k. slice_index (length q.code ∷ []) k) j.0.1 in
     (closed_hole q hs starts h (jump_hole q.code h j.0.2), omega (arith, j.0.1), omega (arith, to, lt), joins_patchable from q hs starts js j.1)
 
-pub patch_step : (b b1 : Sheet) (h : Hole) (t : ℕ) (hs : List Hole) (ts : List ℕ) → b1 ≡ patched b h t → t ≡ slice_index ts h.leaf → closed b (h ∷ hs) ts ≡ closed b1 hs ts
-patch_step b b1 h t hs ts e at = ap (λ k. closed (patched b h k) hs ts) (sym at) ∙ ap (λ (k : Sheet). closed k hs ts) (sym e)
+pub patch_step : (b b1 : Sheet) (h : Hole) (t : ℕ) (hs : List Hole) (ts : List ℕ) → b1 ≡ with_target_at b h t → t ≡ slice_index ts h.leaf → with_targets b (h ∷ hs) ts ≡ with_targets b1 hs ts
+patch_step b b1 h t hs ts e at = ap (λ k. with_targets (with_target_at b h k) hs ts) (sym at) ∙ ap (λ (k : Sheet). with_targets k hs ts) (sym e)
 
 -- The whole: what chooses a way leads to its arm, and each arm to behind all.
 module _ (plan : Plan) (n most count : ℕ) (b e q : Sheet) (holes joins : List Hole) (starts : List ℕ) (Pre Mid : ℕ → List ℕ → Memory → Type 0)
@@ -189,7 +189,7 @@ module _ (plan : Plan) (n most count : ℕ) (b e q : Sheet) (holes joins : List 
   ends = length q.code ∷ []
 
   abbrev inner : Sheet
-  inner = closed q holes starts
+  inner = with_targets q holes starts
 
   abbrev whole : Sheet
   whole = whole_match q holes starts joins
@@ -212,7 +212,7 @@ module _ (plan : Plan) (n most count : ℕ) (b e q : Sheet) (holes joins : List 
     stands : (pc : ℕ) → length b.code ≤ pc → pc < length q.code → slice_get final pc ≡ retarget_all pc joins ends (retarget_all pc holes starts (slice_get q.code pc))
     stands pc lo hi = agrees.same pc lo (omega (arith, hi, len)) (λ x. x) ∙ at_closed inner joins ends pc ∙ ap (retarget_all pc joins ends) (at_closed q holes starts pc)
 
-    of_choice : AgreesBut final (closed e holes starts).code (length b.code) (length e.code) Nowhere
+    of_choice : AgreesBut final (with_targets e holes starts).code (length b.code) (length e.code) Nowhere
     of_choice = record {
       same = λ pc lo hi out.
           stands pc lo (omega (arith, hi, adds.grows.longer))
@@ -245,7 +245,7 @@ module _ (plan : Plan) (n most count : ℕ) (b e q : Sheet) (holes joins : List 
         let r = choice.leaves final callee next law all.finishes s w k (omega (arith, room, match_slots, adds.more)) good pre in
         let in_code = one_hole r.hole holes r.is_hole holes_are in
         let to = all.leads r.hole r.is_hole in_code.0 in_code.1 in
-        let same : r.target ≡ slice_index starts k = same_Some r.target (slice_index starts k) (sym r.is_target ∙ to ∙ ap (λ i. Some (slice_index starts i)) r.is_way) in
+        let same : r.target ≡ slice_index starts k = same_Some r.target (slice_index starts k) (◌∙◌ {b = target_in (slice_get final r.hole.pc) r.hole.arm} (sym r.is_target) to ∙ ap (λ i. Some (slice_index starts i)) r.is_way) in
         (r.target, r.slots, r.world, r.runs, r.keeps, r.later, (same, r.exit))
       where
         one_hole : (h : Hole) (hs : List Hole) → IsHoleAmong h hs → AreHoles (length b.code) count e.code hs → (length b.code ≤ h.pc) × (h.pc < length e.code)

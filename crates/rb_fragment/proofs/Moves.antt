@@ -14,7 +14,7 @@ use Rattle.rb_fragment.proofs.Pieces.{later-refl}
 use Rattle.rb_fragment.specs.Adding.{Adds, IsFitting, IsWrittenFrom}
 use Rattle.rb_fragment.specs.Pieces.{IsLater}
 use Rattle.rb_fragment.specs.Plan.{Plan}
-use Rattle.rb_fragment.specs.Slots.{AllBelow, AllFrom, SlotsAreApart, IsDistinct, IsOneOf, copies, joining, slots_from}
+use Rattle.rb_fragment.specs.Slots.{AllBelow, AllFrom, SlotsAreApart, IsDistinct, IsOneOf, copies, with_join, slots_from}
 use Rattle.rb_target.proofs.Growing.{Grows-append, Keeps-refl, Keeps-set, Keeps-trans, below_or, get-append, get-seam}
 use Rattle.rb_target.specs.Growth.{Keeps}
 use Rattle.rb_target.specs.Meaning.{from}
@@ -154,7 +154,7 @@ module _ (plan : Plan) (c0 : Sheet) (m : ℕ) (into ys : List ℕ) (room : c0.sl
   moved = copies into ys
 
   abbrev d : Sheet
-  d = joining c into ys
+  d = with_join c into ys
 
   abbrev last : Instr
   last = Jump (length c.code + length moved + 1)

@@ -8,10 +8,10 @@ use Rattle.rb_target.specs.declared.instr.SwitchArm.{SwitchArm}
 use Rattle.rb_target.specs.declared.instr.Instr.{Instr}
 use Rattle.rb_target.specs.declared.instr.Instr.TheVariants.{Const, Copy, Alu, Take, Put, Load, Store, Place, Jump, Switch, Call, Return}
 use Rattle.rb_target.specs.declared.body.Hole.{Hole}
-use Rattle.rb_target.specs.Sheet.{Sheet, retargeted, retargeted_arm, with_instr, patched, IsHole, IsHoleIn}
+use Rattle.rb_target.specs.Sheet.{Sheet, with_one_target, with_arm_target, with_instr, with_target_at, IsHole, IsHoleIn}
 use Rattle.rb_target.specs.Validity.{dests, IsTarget}
 use Rattle.rb_fragment.specs.Adding.{Adds, IsFitting, IsWrittenFrom}
-use Rattle.rb_fragment.specs.Arms.{AreHoles, AreJoins, ArePatchable, HasHole, IsOpenJump, closed}
+use Rattle.rb_fragment.specs.Arms.{AreHoles, AreJoins, ArePatchable, HasHole, IsOpenJump, with_targets}
 use Rattle.rb_fragment.specs.Plan.{Plan}
 use Rattle.rb_fragment.specs.Slots.{AllFrom}
 use Rattle.rb_target.proofs.Growing.{get-set_other, get-set_same}
@@ -22,12 +22,12 @@ use Rattle.rb_target.specs.Meaning.{from}
 -- One target
 
 module _ (plan : Plan) where
-  all_retargeted : (P : SwitchArm → Type 0) (arms : List SwitchArm) (k t : ℕ) → ((x : SwitchArm) → P x → P (record x { target = t })) → All P arms → All P (retargeted_arm arms k t)
+  all_retargeted : (P : SwitchArm → Type 0) (arms : List SwitchArm) (k t : ℕ) → ((x : SwitchArm) → P x → P (record x { target = t })) → All P arms → All P (with_arm_target arms k t)
   all_retargeted P [] k t f h = h
   all_retargeted P (x ∷ arms) zero t f h = All-cons P (record x { target = t }) arms (f x (All-head P x arms h)) (All-tail P x arms h)
-  all_retargeted P (x ∷ arms) (suc k) t f h = All-cons P x (retargeted_arm arms k t) (All-head P x arms h) (all_retargeted P arms k t f (All-tail P x arms h))
+  all_retargeted P (x ∷ arms) (suc k) t f h = All-cons P x (with_arm_target arms k t) (All-head P x arms h) (all_retargeted P arms k t f (All-tail P x arms h))
 
-  retarget_fits : (n long pc : ℕ) (i : Instr) (x : Option ℕ) (t : ℕ) → HoleView i x → pc < t → t ≤ long → IsFitting plan n long pc i → IsFitting plan n long pc (retargeted i x t)
+  retarget_fits : (n long pc : ℕ) (i : Instr) (x : Option ℕ) (t : ℕ) → HoleView i x → pc < t → t ≤ long → IsFitting plan n long pc i → IsFitting plan n long pc (with_one_target i x t)
   retarget_fits n long pc _ _ t (jump u) lt le f = record { bounded = tt; slots_fit = tt; targets = (lt, omega (arith, le)); calls = tt }
   retarget_fits n long pc _ _ t (other a u arms) lt le f = record { bounded = f.bounded; slots_fit = f.slots_fit; targets = ((lt, omega (arith, le)), f.targets.1); calls = tt }
   retarget_fits n long pc _ _ t (branch a o arms k h) lt le f = record {
@@ -43,9 +43,9 @@ module _ (plan : Plan) where
   writes_none _ _ s (branch a o arms k lt) h = omega (arith, h.1)
 
   -- a target that is set
-  module _ (a b : Sheet) (h : Hole) (t : ℕ) (g : Adds plan a b) (p : IsPatched b h t (patched b h t)) (low : length a.code ≤ h.pc) (forward : h.pc < t) (within : t ≤ length b.code) where
+  module _ (a b : Sheet) (h : Hole) (t : ℕ) (g : Adds plan a b) (p : IsPatched b h t (with_target_at b h t)) (low : length a.code ≤ h.pc) (forward : h.pc < t) (within : t ≤ length b.code) where
     abbrev c : Sheet
-    c = patched b h t
+    c = with_target_at b h t
 
     set_written : (s : ℕ) (x : IsWrittenFrom b.code (length a.code) s) → (q : Bool) → eqb x.0 h.pc ≡ q → IsWrittenFrom c.code (length a.code) s
     set_written s x true e =
@@ -59,7 +59,7 @@ module _ (plan : Plan) where
     set_fine pc i lo at true e =
         let same : pc ≡ h.pc = grind arith in
         let old : IsFitting plan b.slots (length b.code) h.pc p.old = g.fine h.pc p.old low p.is_old in
-        let is : retargeted p.old h.arm t ≡ i = same_Some (retargeted p.old h.arm t) i (sym p.here ∙ ap (λ n. slice_get c.code n) (sym same) ∙ at) in
+        let is : with_one_target p.old h.arm t ≡ i = same_Some (with_one_target p.old h.arm t) i (sym p.here ∙ ap (λ n. slice_get c.code n) (sym same) ∙ at) in
         subst (λ n. IsFitting plan b.slots (length b.code) n i) (sym same) (subst (λ (j : Instr). IsFitting plan b.slots (length b.code) h.pc j) is (retarget_fits b.slots (length b.code) h.pc p.old h.arm t p.view forward within old))
     set_fine pc i lo at false e =
         let ne : pc ≢ h.pc = grind arith in g.fine pc i lo (sym (p.elsewhere pc ne) ∙ at)
@@ -75,13 +75,13 @@ module _ (plan : Plan) where
 
 -- Several
 
-arms_length : (arms : List SwitchArm) (k t : ℕ) → length (retargeted_arm arms k t) ≡ length arms
+arms_length : (arms : List SwitchArm) (k t : ℕ) → length (with_arm_target arms k t) ≡ length arms
 arms_length [] k t = refl
 arms_length (arm ∷ arms) zero t = refl
 arms_length (arm ∷ arms) (suc k) t = ap suc (arms_length arms k t)
 
 -- what is a hole stays one
-hole_kept : (i : Instr) (arm arm' : Option ℕ) (t : ℕ) → IsHoleIn (Some i) arm → IsHoleIn (Some (retargeted i arm' t)) arm
+hole_kept : (i : Instr) (arm arm' : Option ℕ) (t : ℕ) → IsHoleIn (Some i) arm → IsHoleIn (Some (with_one_target i arm' t)) arm
 hole_kept (Jump o) None None t h = tt
 hole_kept (Jump o) None (Some k) t h = tt
 hole_kept (Jump o) (Some j) arm' t h = absurd h
@@ -106,48 +106,48 @@ hole_kept (Return fs) arm arm' t h = absurd h
 -- One place
 
 abbrev pub retarget_at : ℕ → Hole → ℕ → Option Instr → Option Instr
-retarget_at pc h t o = if eqb pc h.pc then option_map (λ i. retargeted i h.arm t) o else o
+retarget_at pc h t o = if eqb pc h.pc then option_map (λ i. with_one_target i h.arm t) o else o
 
 abbrev pub retarget_all : ℕ → List Hole → List ℕ → Option Instr → Option Instr
 retarget_all pc [] ts o = o
 retarget_all pc (h ∷ hs) ts o = retarget_all pc hs ts (retarget_at pc h (slice_index ts h.leaf) o)
 
-pub at_patched : (b : Sheet) (h : Hole) (t pc : ℕ) → slice_get (patched b h t).code pc ≡ retarget_at pc h t (slice_get b.code pc)
+pub at_patched : (b : Sheet) (h : Hole) (t pc : ℕ) → slice_get (with_target_at b h t).code pc ≡ retarget_at pc h t (slice_get b.code pc)
 at_patched b h t pc = go (slice_get b.code h.pc) refl (eqb pc h.pc) refl
   where
     go : (o : Option Instr) → slice_get b.code h.pc ≡ o → (e : Bool) → eqb pc h.pc ≡ e
-        → slice_get (with_instr o b.code h t) pc ≡ (if e then option_map (λ i. retargeted i h.arm t) (slice_get b.code pc) else slice_get b.code pc)
+        → slice_get (with_instr o b.code h t) pc ≡ (if e then option_map (λ i. with_one_target i h.arm t) (slice_get b.code pc) else slice_get b.code pc)
     go None at true e =
         let same : pc ≡ h.pc = grind arith in
-        let none : slice_get b.code pc ≡ None = ap (λ n. slice_get b.code n) same ∙ at in none ∙ sym (ap (option_map (λ i. retargeted i h.arm t)) none)
+        let none : slice_get b.code pc ≡ None = ap (λ n. slice_get b.code n) same ∙ at in none ∙ sym (ap (option_map (λ i. with_one_target i h.arm t)) none)
     go None at false e = refl
     go (Some i) at true e =
         let same : pc ≡ h.pc = grind arith in
         let some : slice_get b.code pc ≡ Some i = ap (λ n. slice_get b.code n) same ∙ at in
-        ap (λ n. slice_get (slice_set b.code h.pc (retargeted i h.arm t)) n) same ∙ get-set_same b.code h.pc (retargeted i h.arm t) (slice_get_within b.code h.pc i at)
-        ∙ sym (ap (option_map (λ i. retargeted i h.arm t)) some)
-    go (Some i) at false e = let ne : pc ≢ h.pc = grind arith in get-set_other b.code h.pc pc (retargeted i h.arm t) ne
+        ap (λ n. slice_get (slice_set b.code h.pc (with_one_target i h.arm t)) n) same ∙ get-set_same b.code h.pc (with_one_target i h.arm t) (slice_get_within b.code h.pc i at)
+        ∙ sym (ap (option_map (λ i. with_one_target i h.arm t)) some)
+    go (Some i) at false e = let ne : pc ≢ h.pc = grind arith in get-set_other b.code h.pc pc (with_one_target i h.arm t) ne
 
-pub at_closed : (b : Sheet) (hs : List Hole) (ts : List ℕ) (pc : ℕ) → slice_get (closed b hs ts).code pc ≡ retarget_all pc hs ts (slice_get b.code pc)
+pub at_closed : (b : Sheet) (hs : List Hole) (ts : List ℕ) (pc : ℕ) → slice_get (with_targets b hs ts).code pc ≡ retarget_all pc hs ts (slice_get b.code pc)
 at_closed b [] ts pc = refl
-at_closed b (h ∷ hs) ts pc = at_closed (patched b h (slice_index ts h.leaf)) hs ts pc ∙ ap (retarget_all pc hs ts) (at_patched b h (slice_index ts h.leaf) pc)
+at_closed b (h ∷ hs) ts pc = at_closed (with_target_at b h (slice_index ts h.leaf)) hs ts pc ∙ ap (retarget_all pc hs ts) (at_patched b h (slice_index ts h.leaf) pc)
 
 pub with_length : (o : Option Instr) (code : List Instr) (h : Hole) (t : ℕ) → length (with_instr o code h t) ≡ length code
 with_length None code h t = refl
-with_length (Some i) code h t = length-set code h.pc (retargeted i h.arm t)
+with_length (Some i) code h t = length-set code h.pc (with_one_target i h.arm t)
 
-pub closed_length : (b : Sheet) (hs : List Hole) (ts : List ℕ) → length (closed b hs ts).code ≡ length b.code
+pub closed_length : (b : Sheet) (hs : List Hole) (ts : List ℕ) → length (with_targets b hs ts).code ≡ length b.code
 closed_length b [] ts = refl
-closed_length b (h ∷ hs) ts = closed_length (patched b h (slice_index ts h.leaf)) hs ts ∙ with_length (slice_get b.code h.pc) b.code h (slice_index ts h.leaf)
+closed_length b (h ∷ hs) ts = closed_length (with_target_at b h (slice_index ts h.leaf)) hs ts ∙ with_length (slice_get b.code h.pc) b.code h (slice_index ts h.leaf)
 
-pub closed_slots : (b : Sheet) (hs : List Hole) (ts : List ℕ) → (closed b hs ts).slots ≡ b.slots
+pub closed_slots : (b : Sheet) (hs : List Hole) (ts : List ℕ) → (with_targets b hs ts).slots ≡ b.slots
 closed_slots b [] ts = refl
-closed_slots b (h ∷ hs) ts = closed_slots (patched b h (slice_index ts h.leaf)) hs ts
+closed_slots b (h ∷ hs) ts = closed_slots (with_target_at b h (slice_index ts h.leaf)) hs ts
 
 retarget_other : (pc : ℕ) (h : Hole) (t : ℕ) (o : Option Instr) → pc ≢ h.pc → retarget_at pc h t o ≡ o
 retarget_other pc h t o ne = go (eqb pc h.pc) refl
   where
-    go : (e : Bool) → eqb pc h.pc ≡ e → (if e then option_map (λ i. retargeted i h.arm t) o else o) ≡ o
+    go : (e : Bool) → eqb pc h.pc ≡ e → (if e then option_map (λ i. with_one_target i h.arm t) o else o) ≡ o
     go true e = let same : pc ≡ h.pc = grind arith in absurd (ne same)
     go false e = refl
 
@@ -162,8 +162,8 @@ module _ (pc from : ℕ) (code : List Instr) (ts : List ℕ) where
   abbrev end : ℕ
   end = slice_index ts 0
 
-  join_step : (h : Hole) → h.leaf ≡ 0 → h.arm ≡ None → (x : ℕ) → (e : Bool) → (if e then option_map (λ i. retargeted i h.arm (slice_index ts h.leaf)) (Some (Jump x)) else Some (Jump x)) ≡ (if e then Some (Jump end) else Some (Jump x))
-  join_step h leaf arm x true = ap (λ k. Some (retargeted (Jump x) k (slice_index ts h.leaf))) arm ∙ ap (λ k. Some (Jump (slice_index ts k))) leaf
+  join_step : (h : Hole) → h.leaf ≡ 0 → h.arm ≡ None → (x : ℕ) → (e : Bool) → (if e then option_map (λ i. with_one_target i h.arm (slice_index ts h.leaf)) (Some (Jump x)) else Some (Jump x)) ≡ (if e then Some (Jump end) else Some (Jump x))
+  join_step h leaf arm x true = ap (λ k. Some (with_one_target (Jump x) k (slice_index ts h.leaf))) arm ∙ ap (λ k. Some (Jump (slice_index ts k))) leaf
   join_step h leaf arm x false = refl
 
   join_kept : (hs : List Hole) → AreJoins from code hs → retarget_all pc hs ts (Some (Jump end)) ≡ Some (Jump end)
@@ -217,19 +217,19 @@ hole_from pc from count code (h ∷ hs) a (inr k) = hole_from pc from count code
 kept_at : (pc : ℕ) (h : Hole) (t : ℕ) (o : Option Instr) (arm : Option ℕ) → IsHoleIn o arm → IsHoleIn (retarget_at pc h t o) arm
 kept_at pc h t o arm hole = go o hole (eqb pc h.pc)
   where
-    go : (o : Option Instr) → IsHoleIn o arm → (e : Bool) → IsHoleIn (if e then option_map (λ i. retargeted i h.arm t) o else o) arm
+    go : (o : Option Instr) → IsHoleIn o arm → (e : Bool) → IsHoleIn (if e then option_map (λ i. with_one_target i h.arm t) o else o) arm
     go None k true = k
     go (Some i) k true = hole_kept i arm h.arm t k
     go o k false = k
 
-pub patched_hole : (b : Sheet) (h : Hole) (t : ℕ) (k : Hole) → IsHole b.code k → IsHole (patched b h t).code k
+pub patched_hole : (b : Sheet) (h : Hole) (t : ℕ) (k : Hole) → IsHole b.code k → IsHole (with_target_at b h t).code k
 patched_hole b h t k hole = subst (λ o. IsHoleIn o k.arm) (sym (at_patched b h t k.pc)) (kept_at k.pc h t (slice_get b.code k.pc) k.arm hole)
 
-pub closed_hole : (b : Sheet) (hs : List Hole) (ts : List ℕ) (k : Hole) → IsHole b.code k → IsHole (closed b hs ts).code k
+pub closed_hole : (b : Sheet) (hs : List Hole) (ts : List ℕ) (k : Hole) → IsHole b.code k → IsHole (with_targets b hs ts).code k
 closed_hole b [] ts k hole = hole
-closed_hole b (h ∷ hs) ts k hole = closed_hole (patched b h (slice_index ts h.leaf)) hs ts k (patched_hole b h (slice_index ts h.leaf) k hole)
+closed_hole b (h ∷ hs) ts k hole = closed_hole (with_target_at b h (slice_index ts h.leaf)) hs ts k (patched_hole b h (slice_index ts h.leaf) k hole)
 
-pub patchable_patched : (b : Sheet) (h : Hole) (t : ℕ) (hs : List Hole) (ts : List ℕ) → ArePatchable b.code hs ts → ArePatchable (patched b h t).code hs ts
+pub patchable_patched : (b : Sheet) (h : Hole) (t : ℕ) (hs : List Hole) (ts : List ℕ) → ArePatchable b.code hs ts → ArePatchable (with_target_at b h t).code hs ts
 patchable_patched b h t [] ts p = tt
 patchable_patched b h t (k ∷ hs) ts p = (patched_hole b h t k p.0, p.1, p.2, patchable_patched b h t hs ts p.3)
 
@@ -249,7 +249,7 @@ holes_patchable from e q (h ∷ hs) ts g a starts =
 pub jump_hole : (code : List Instr) (h : Hole) → IsOpenJump code h → IsHole code h
 jump_hole code h j = subst (λ arm. IsHoleIn (slice_get code h.pc) arm) (sym j.2) (subst (λ o. IsHoleIn o None) (sym j.1) tt)
 
-pub joins_patchable : (from : ℕ) (q : Sheet) (hs : List Hole) (starts : List ℕ) (js : List Hole) → AreJoins from q.code js → ArePatchable (closed q hs starts).code js (length q.code ∷ [])
+pub joins_patchable : (from : ℕ) (q : Sheet) (hs : List Hole) (starts : List ℕ) (js : List Hole) → AreJoins from q.code js → ArePatchable (with_targets q hs starts).code js (length q.code ∷ [])
 joins_patchable from q hs starts [] j = tt
 joins_patchable from q hs starts (h ∷ js) j =
     let lt = slice_get_within q.code h.pc (Jump j.0.2.0) j.0.2.1 in
@@ -261,13 +261,13 @@ abbrev pub AreAllHoles : List Instr → List Hole → Type 0
 AreAllHoles code [] = Unit {0}
 AreAllHoles code (h ∷ hs) = IsHole code h × AreAllHoles code hs
 
-pub all_holes_patched : (b : Sheet) (h : Hole) (t : ℕ) (hs : List Hole) → AreAllHoles b.code hs → AreAllHoles (patched b h t).code hs
+pub all_holes_patched : (b : Sheet) (h : Hole) (t : ℕ) (hs : List Hole) → AreAllHoles b.code hs → AreAllHoles (with_target_at b h t).code hs
 all_holes_patched b h t [] a = tt
 all_holes_patched b h t (k ∷ hs) a = (patched_hole b h t k a.0, all_holes_patched b h t hs a.1)
 
-pub all_holes_closed : (b : Sheet) (ks hs : List Hole) (ts : List ℕ) → AreAllHoles b.code hs → AreAllHoles (closed b ks ts).code hs
+pub all_holes_closed : (b : Sheet) (ks hs : List Hole) (ts : List ℕ) → AreAllHoles b.code hs → AreAllHoles (with_targets b ks ts).code hs
 all_holes_closed b [] hs ts a = a
-all_holes_closed b (k ∷ ks) hs ts a = all_holes_closed (patched b k (slice_index ts k.leaf)) ks hs ts (all_holes_patched b k (slice_index ts k.leaf) hs a)
+all_holes_closed b (k ∷ ks) hs ts a = all_holes_closed (with_target_at b k (slice_index ts k.leaf)) ks hs ts (all_holes_patched b k (slice_index ts k.leaf) hs a)
 
 -- What is added stays so
 
@@ -276,12 +276,12 @@ abbrev pub AreClosable : ℕ → ℕ → List Hole → List ℕ → Type 0
 AreClosable from m [] ts = Unit {0}
 AreClosable from m (h ∷ hs) ts = (from ≤ h.pc) × (h.pc < slice_index ts h.leaf) × (slice_index ts h.leaf ≤ m) × AreClosable from m hs ts
 
-pub adds_closed : (plan : Plan) (b q : Sheet) (hs : List Hole) (ts : List ℕ) (m : ℕ) → m ≡ length q.code → Adds plan b q → AreAllHoles q.code hs → AreClosable (length b.code) m hs ts → Adds plan b (closed q hs ts)
+pub adds_closed : (plan : Plan) (b q : Sheet) (hs : List Hole) (ts : List ℕ) (m : ℕ) → m ≡ length q.code → Adds plan b q → AreAllHoles q.code hs → AreClosable (length b.code) m hs ts → Adds plan b (with_targets q hs ts)
 adds_closed plan b q [] ts m len adds holes c = adds
 adds_closed plan b q (h ∷ hs) ts m len adds holes c =
     let t = slice_index ts h.leaf in
     let p = patch_is q h t holes.0 in
-    adds_closed plan b (patched q h t) hs ts m (len ∙ sym p.long) (patch_adds plan b q h t adds p c.0 c.1 (omega (arith, len, c.2))) (all_holes_patched q h t hs holes.1) c.3
+    adds_closed plan b (with_target_at q h t) hs ts m (len ∙ sym p.long) (patch_adds plan b q h t adds p c.0 c.1 (omega (arith, len, c.2))) (all_holes_patched q h t hs holes.1) c.3
 
 -- holes of ways are holes
 pub all_holes_of : (from count : ℕ) (code : List Instr) (hs : List Hole) → AreHoles from count code hs → AreAllHoles code hs

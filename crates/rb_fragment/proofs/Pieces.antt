@@ -12,7 +12,7 @@ use Rattle.rb_target.specs.declared.instr.Instr.TheVariants.{Jump}
 use Rattle.rb_target.specs.declared.body.Hole.{Hole}
 use Rattle.rb_target.specs.Laws.{Law}
 use Rattle.rb_target.specs.Meaning.{World, CallEnd as Run, Next, Callee, taken, act}
-use Rattle.rb_target.specs.Sheet.{Sheet, retargeted, patched, pushed, with_slot}
+use Rattle.rb_target.specs.Sheet.{Sheet, with_one_target, with_target_at, with_more, with_slot}
 use Rattle.rb_target.specs.Validity.{dests}
 use Rattle.rb_fragment.proofs.Adding.{Adds-one, Adds-refl, Adds-trans, push_adds}
 use Rattle.rb_fragment.proofs.Laying.{does_map}
@@ -20,7 +20,7 @@ use Rattle.rb_fragment.proofs.Patching.{jump_hole, patch_adds}
 use Rattle.rb_fragment.specs.Adding.{Adds, IsFitting}
 use Rattle.rb_fragment.specs.Arms.{IsOpenJump}
 use Rattle.rb_fragment.specs.Owing.{Does, Ends}
-use Rattle.rb_fragment.specs.Pieces.{AtEnd, Branches, IsLater, CodePiece, ReachesExit, Straight}
+use Rattle.rb_fragment.specs.Pieces.{AtEnd, Branches, IsLater, CodePiece, GoesOutBy, ReachesExit, Straight}
 use Rattle.rb_fragment.specs.Plan.{Plan, cost_at, cost_of}
 use Rattle.rb_rel.specs.Placing.{lay, requests_at, requests_of}
 use Rattle.rb_target.proofs.Growing.{Agrees-part, Grows-refl, Keeps-refl, Keeps-set, Keeps-trans, get-seam}
@@ -33,6 +33,23 @@ later-refl w = record { memory = refl; left = refl; switches = omega arith }
 
 pub later-trans : (k j : ℕ) (w w1 w2 : World) → IsLater k w w1 → IsLater j w1 w2 → IsLater (k + j) w w2
 later-trans k j w w1 w2 a b = record { memory = b.memory ∙ a.memory; left = b.left ∙ a.left; switches = omega (arith, a.switches, b.switches) }
+
+-- A run that comes to where a way out begins, with no switch and as many slots kept, goes out that way.
+goes_on_out : (final : List Instr) (next : Next) (holes : List Hole) (n k start middle : ℕ) (s s1 : List ℕ) (w w1 : World) (i : ℕ) (Exit : List ℕ → Memory → Type 0) → next start s w ≡ next middle s1 w1 → Keeps n s s1 → IsLater 0 w w1
+    → GoesOutBy final next holes n k middle s1 w1 i Exit → GoesOutBy final next holes n k start s w i Exit
+goes_on_out final next holes n k start middle s s1 w w1 i Exit ran kept later out = record {
+  hole = out.hole;
+  is_hole = out.is_hole;
+  is_way = out.is_way;
+  target = out.target;
+  is_target = out.is_target;
+  slots = out.slots;
+  world = out.world;
+  runs = ran ∙ out.runs;
+  keeps = Keeps-trans n n s s1 out.slots (omega arith) kept out.keeps;
+  later = record { memory = out.later.memory ∙ later.memory; left = out.later.left ∙ later.left; switches = omega (arith, later.switches, out.later.switches) };
+  exit = subst (λ m. Exit out.slots m) later.memory out.exit;
+}
 
 -- What a run owes, where a piece comes first: its switches are added to the base.
 pub reached_does : (plan : Plan) (next : Next) (start n most extra : ℕ) (Exit : ℕ → List ℕ → Memory → Type 0) (s : List ℕ) (w : World) (o : Outcome) (Ok Ok1 : Value → World → Type 0) (r : ReachesExit next start n most Exit s w)
@@ -140,7 +157,7 @@ module _ (plan : Plan) where
   pub straight_one : (n : ℕ) (a : Sheet) (i : Instr) (Pre Post : List ℕ → Memory → Type 0) → n ≤ a.slots → Contains (dests i) a.slots → IsFitting plan (a.slots + 1) (length a.code + 1) (length a.code) i
       → ((next : Next) (callee : Callee) (pc : ℕ) (s : List ℕ) (w : World) → a.slots < length s → Pre s w.memory
       → (word : ℕ) × (act i next callee pc s w ≡ next (pc + 1) (slice_set s a.slots word) w) × Post (slice_set s a.slots word) w.memory)
-      → Straight plan n a (pushed (with_slot a) i) Pre Post
+      → Straight plan n a (with_more (with_slot a) i) Pre Post
   straight_one n a i Pre Post le writes fits does = record {
     adds = Adds-one plan a i writes fits;
     low = le;
@@ -158,7 +175,7 @@ module _ (plan : Plan) where
   pub straight_write : (n : ℕ) (a : Sheet) (i : Instr) (d : ℕ) (Pre Post : List ℕ → Memory → Type 0) → n ≤ a.slots → n ≤ d → IsFitting plan a.slots (length a.code + 1) (length a.code) i
       → ((next : Next) (callee : Callee) (pc : ℕ) (s : List ℕ) (w : World) → a.slots ≤ length s → Pre s w.memory
       → (word : ℕ) × (act i next callee pc s w ≡ next (pc + 1) (slice_set s d word) w) × Post (slice_set s d word) w.memory)
-      → Straight plan n a (pushed a i) Pre Post
+      → Straight plan n a (with_more a i) Pre Post
   straight_write n a i d Pre Post le high fits does = record {
     adds = push_adds plan a i fits;
     low = le;
@@ -182,7 +199,7 @@ jumps final callee next law h t s w at = law.step h (Jump t) s w at
 module _ (plan : Plan) (n : ℕ) (a b : Sheet) (Open : ℕ → Type 0) (k : ℕ) (h : Hole) (t : ℕ) (Pre : List ℕ → Memory → Type 0) (Exit : ℕ → List ℕ → Memory → Type 0) (p : CodePiece plan n a b Open k Pre Exit)
     (is_open : Open h.pc) (jump : IsOpenJump b.code h) (low : length a.code ≤ h.pc) (forward : h.pc < t) (within : t ≤ length b.code) where
   abbrev new : Sheet
-  new = patched b h t
+  new = with_target_at b h t
 
   set : IsPatched b h t new
   set = patch_is b h t (jump_hole b.code h jump)
@@ -190,7 +207,7 @@ module _ (plan : Plan) (n : ℕ) (a b : Sheet) (Open : ℕ → Type 0) (k : ℕ)
   is_jump : slice_get new.code h.pc ≡ Some (Jump t)
   is_jump =
       let old : set.old ≡ Jump jump.0 = same_Some set.old (Jump jump.0) (sym set.is_old ∙ jump.1) in
-      set.here ∙ ap (λ arm. Some (retargeted set.old arm t)) jump.2 ∙ ap (λ (i : Instr). Some (retargeted i None t)) old
+      set.here ∙ ap (λ arm. Some (with_one_target set.old arm t)) jump.2 ∙ ap (λ (i : Instr). Some (with_one_target i None t)) old
 
   abbrev pub ExitAfter : ℕ → List ℕ → Memory → Type 0
   ExitAfter pc s m = ((pc ≢ h.pc) × Exit pc s m) ⊎ ((pc ≡ t) × Exit h.pc s m)
@@ -283,18 +300,6 @@ module _ (plan : Plan) where
         let r = (first i).runs final callee next law agrees1 s w (omega (arith, second.adds.more, long)) pre in
         let long2 : c.slots ≤ length r.1 = omega (arith, r.4.long, long) in
         let good2 = subst (λ m. IsGood m) (sym r.5.memory) good in
-        let q = second.leaves final callee next law finishes2 r.1 r.2 i long2 good2 (subst (λ m. Mid i r.1 m) (sym r.5.memory) r.6.1) in
-        record {
-          hole = q.hole;
-          is_hole = q.is_hole;
-          is_way = q.is_way;
-          target = q.target;
-          is_target = q.is_target;
-          slots = q.slots;
-          world = q.world;
-          runs = r.3 ∙ ap (λ pc. next pc r.1 r.2) r.6.0 ∙ q.runs;
-          keeps = Keeps-trans n n s r.1 q.slots (omega arith) r.4 q.keeps;
-          later = record { memory = q.later.memory ∙ r.5.memory; left = q.later.left ∙ r.5.left; switches = omega (arith, r.5.switches, q.later.switches) };
-          exit = subst (λ m. Exit i q.slots m) r.5.memory q.exit;
-        };
+        goes_on_out final next holes n k (length a.code) (length b.code) s r.1 w r.2 i (Exit i) (r.3 ∙ ap (λ pc. next pc r.1 r.2) r.6.0) r.4 r.5
+        (second.leaves final callee next law finishes2 r.1 r.2 i long2 good2 (subst (λ m. Mid i r.1 m) (sym r.5.memory) r.6.1));
   }

@@ -1,8 +1,9 @@
 -- Reads form by form, their induction, and that what they mean stays where their slots do.
-use Rattle.std.proofs.Common.{◌≡◌, ℕ, ◌*◌, ◌%◌, ◌^◌, ◌<◌, ◌&&◌, Bool, true, false, List, [], ◌∷◌, map, Option, Some, None, Result, Ok, Err, refl, sym, subst, ap, ◌∙◌, arith}
+use Rattle.std.proofs.Common.{◌≡◌, ℕ, ◌*◌, ◌%◌, ◌^◌, ◌<◌, ◌&&◌, Bool, true, List, [], ◌∷◌, map, Option, Some, None, Result, Ok, Err, refl, sym, subst, ap, ◌∙◌, arith}
 use Rattle.std.proofs.lemmas.Bool.Decides.{nat_tests}
 use Rattle.std.specs.Prelude.{slice_index, nat_lt, nat_le}
 use Rattle.std.specs.List.{list_all}
+use Rattle.std.proofs.lemmas.Bool.{and_parts}
 use denote.Hole.Holds.{Such}
 use Rattle.rb_bits.specs.Words.{take_of, put_of}
 use Rattle.rb_bytes.specs.Memory.{Memory, load_of}
@@ -125,11 +126,6 @@ module _ (P : Read → Type 0) where
 
 -- What stays
 
-pub both : (a b : Bool) → (a && b) ≡ true → (a ≡ true) × (b ≡ true)
-both true true e = (refl, refl)
-both true false e = cc
-both false b e = cc
-
 where_same : (o : Option ℕ) (g h : ℕ → Option ℕ) → ((w : ℕ) → g w ≡ h w) → where_some o g ≡ where_some o h
 where_same None g h e = refl
 where_same (Some w) g h e = e w
@@ -141,8 +137,8 @@ module _ (n : ℕ) (s s' : List ℕ) (m : Memory) (k : Keeps n s s') where
   over_stays : (ps : List Share) → Each Stays ps → list_all (λ b. b) (map (fits_share n) ps) ≡ true → (x : ℕ) → joined_over x (map meant_of ps) s' m ≡ joined_over x (map meant_of ps) s m
   over_stays [] each h x = refl
   over_stays (p ∷ ps) each h x =
-      let f = both (fits_share n p) (list_all (λ b. b) (map (fits_share n) ps)) h in
-      let g = both (fits n p.read) _ (sym (fits-Share n p) ∙ f.0) in
+      let f = and_parts (fits_share n p) (list_all (λ b. b) (map (fits_share n) ps)) h in
+      let g = and_parts (fits n p.read) _ (sym (fits-Share n p) ∙ f.0) in
       let is = meant-is p in
       ap (λ (q : Meant). where_some (q.reading s' m) (λ w. joined_over (put_of x q.a q.l (take_of w q.o q.l)) (map meant_of ps) s' m)) is
       ∙ ap (λ v. where_some v (λ w. joined_over (put_of x p.a p.l (take_of w p.o p.l)) (map meant_of ps) s' m)) (each.0 g.0)
@@ -156,13 +152,13 @@ module _ (n : ℕ) (s s' : List ℕ) (m : Memory) (k : Keeps n s s') where
         mean-Slot x s' m ∙ ap Some (k.same x lt) ∙ sym (mean-Slot x s m);
     number = λ c h. mean-Number c s' m ∙ sym (mean-Number c s m);
     bits = λ r o l ih h.
-        let f = both (fits n r) (is_range o l) (sym (fits-Bits n r o l) ∙ h) in
+        let f = and_parts (fits n r) (is_range o l) (sym (fits-Bits n r o l) ∙ h) in
         mean-Bits r o l s' m ∙ ap (λ v. where_some v (λ w. Some (take_of w o l))) (ih f.0) ∙ sym (mean-Bits r o l s m);
     address = λ r o l align ih h.
-        let f = both (fits n r) (is_range o l) (sym (fits-Address n r o l align) ∙ h) in
+        let f = and_parts (fits n r) (is_range o l) (sym (fits-Address n r o l align) ∙ h) in
         mean-Address r o l align s' m ∙ ap (λ v. where_some v (λ w. Some (take_of w o l * align % 2 ^ 64))) (ih f.0) ∙ sym (mean-Address r o l align s m);
     load = λ r byte width ih h.
-        let f = both (fits n r) _ (sym (fits-Loaded n r byte width) ∙ h) in
+        let f = and_parts (fits n r) _ (sym (fits-Loaded n r byte width) ∙ h) in
         mean-Loaded r byte width s' m ∙ ap (λ v. where_some v (λ base. word_of_load (load_of m base byte width))) (ih f.0) ∙ sym (mean-Loaded r byte width s m);
     joined = λ ps each h. mean-Joined ps s' m ∙ over_stays ps each (sym (fits-Joined n ps) ∙ h) 0 ∙ sym (mean-Joined ps s m);
   })

@@ -11,22 +11,22 @@ use Rattle.rb_target.specs.declared.body.Hole.{Hole}
 use Rattle.rb_target.specs.Growth.{AgreesBut, Grows}
 use Rattle.rb_target.specs.Laws.{Law}
 use Rattle.rb_target.specs.Meaning.{World, Next, Callee}
-use Rattle.rb_target.specs.Sheet.{Sheet, patched, IsHole}
+use Rattle.rb_target.specs.Sheet.{Sheet, with_target_at, IsHole}
 use Rattle.rb_target.specs.Targets.{IsHoleAmong}
 use Rattle.rb_fragment.specs.declared.held.Held.{Held}
 use Rattle.rb_fragment.specs.declared.held.Joined.{Joined}
 use Rattle.rb_fragment.specs.Plan.{Plan}
 use Rattle.rb_fragment.specs.Owing.{Does, CallsAgree}
 use Rattle.rb_fragment.specs.Adding.{Adds}
-use Rattle.rb_fragment.specs.Slots.{AllBelow, AllFrom, IsDistinct, copies, joining, slots_from, with_slots}
+use Rattle.rb_fragment.specs.Slots.{AllBelow, AllFrom, IsDistinct, copies, with_join, slots_from, with_slots}
 use Rattle.rb_fragment.specs.Fragments.{Comes}
 
 -- Holes
 
 -- the sheet with the target of each hole set to that of its way: ts has one target a way
-abbrev pub closed : Sheet → List Hole → List ℕ → Sheet
-closed b [] ts = b
-closed b (h ∷ hs) ts = closed (patched b h (slice_index ts h.leaf)) hs ts
+abbrev pub with_targets : Sheet → List Hole → List ℕ → Sheet
+with_targets b [] ts = b
+with_targets b (h ∷ hs) ts = with_targets (with_target_at b h (slice_index ts h.leaf)) hs ts
 
 -- each hole is one of the code, and stands in front of the target that ts has for its way
 abbrev pub ArePatchable : List Instr → List Hole → List ℕ → Type 0
@@ -88,7 +88,7 @@ shared_sheet (Some h) c held = c
 -- behind the code c of an arm's value its words are moved to the shared slots, and a jump is open
 pub record JoinedIs (into : Option Held) (held : Held) (c d : Sheet) (r : Joined) : Type 0 where
   pub shared : r.into ≡ shared_held into c held
-  pub code : d ≡ joining (shared_sheet into c held) r.into.slots held.slots
+  pub code : d ≡ with_join (shared_sheet into c held) r.into.slots held.slots
   pub join : r.join ≡ record { pc = length c.code + length (copies r.into.slots held.slots); arm = None; leaf = 0 }
 
 -- slots that arms share: so many of one value, from n on and below m
@@ -133,4 +133,4 @@ pub record CanClose (q : Sheet) (holes : List Hole) (starts : List ℕ) (joins :
 
 -- the chooser's holes lead to the arms, and the arms' jumps to behind them
 abbrev pub whole_match : Sheet → List Hole → List ℕ → List Hole → Sheet
-whole_match q holes starts joins = closed (closed q holes starts) joins (length q.code ∷ [])
+whole_match q holes starts joins = with_targets (with_targets q holes starts) joins (length q.code ∷ [])

@@ -13,7 +13,7 @@ use Rattle.rb_target.specs.declared.instr.Instr.TheVariants.{Call}
 use Rattle.rb_target.specs.Growth.{Nowhere, AgreesBut, Keeps}
 use Rattle.rb_target.specs.Laws.{Law}
 use Rattle.rb_target.specs.Meaning.{World, CallEnd as Run, Next, Callee, slots_at}
-use Rattle.rb_target.specs.Sheet.{Sheet, pushed}
+use Rattle.rb_target.specs.Sheet.{Sheet, with_more}
 use Rattle.rb_fragment.specs.declared.held.Held.{Held}
 use Rattle.rb_fragment.specs.declared.held.Local.{Local}
 use Rattle.rb_fragment.specs.Plan.{Plan, Rep, words_needed}
@@ -88,7 +88,7 @@ pub record EmitsAll (plan : Plan) (Such : List Value → Type 0) (ms : Calls →
       (Comes plan clean (next (length old.code) s w) next b old.slots t slots s)
 
 -- a call of function g, its result in new slots
-abbrev pub calling : Plan → Sheet → ℕ → Fun → List Held → Sheet
-calling plan b g f hs =
-    pushed (with_slots b (words_needed plan f.result))
+abbrev pub with_call : Plan → Sheet → ℕ → Fun → List Held → Sheet
+with_call plan b g f hs =
+    with_more (with_slots b (words_needed plan f.result))
     (Call g (slots_from b.slots (words_needed plan f.result)) (all_slots hs))

@@ -11,7 +11,7 @@ use Rattle.rb_fragment.specs.declared.held.Local.{Local}
 use Rattle.rb_fragment.specs.Plan.{Plan, words_needed, types_of}
 use Rattle.rb_fragment.specs.Slots.{slots_from}
 use Rattle.rb_fragment.specs.Holding.{AllGiven, held_type, scope_of}
-use Rattle.rb_fragment.specs.Fragments.{AnyValues, Applies, Emits, EmitsAll, calling}
+use Rattle.rb_fragment.specs.Fragments.{AnyValues, Applies, Emits, EmitsAll, with_call}
 
 -- a call instruction over held arguments of the right types does what the call of the source does, wherever it stands
 abbrev pub CallsApply : Type 0
@@ -19,7 +19,7 @@ CallsApply =
     (plan : Plan) (a : Sheet) (g : ℕ) (f : Fun) (hs : List Held) → slice_get plan.program.funs g ≡ Some f
     → map held_type hs ≡ types_of f
     → AllGiven plan a.slots hs
-    → Applies plan AnyValues (λ calls vs left. calls g left vs) hs a (calling plan a g f hs) f.result
+    → Applies plan AnyValues (λ calls vs left. calls g left vs) hs a (with_call plan a g f hs) f.result
     (slots_from a.slots (words_needed plan f.result))
 
 -- code that leaves the values of parts, and behind it code that does f of them, is code for the expression that

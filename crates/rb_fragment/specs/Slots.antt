@@ -45,6 +45,6 @@ copies (d ∷ ds) (f ∷ fs) = Copy d f ∷ copies ds fs
 
 -- code behind that of b: the words of `froms` are copied to the slots `into`, which several ways share, and a jump,
 -- which is to be set, leads to where the ways meet
-abbrev pub joining : Sheet → List ℕ → List ℕ → Sheet
-joining b into froms =
+abbrev pub with_join : Sheet → List ℕ → List ℕ → Sheet
+with_join b into froms =
     record b { code = b.code ++ (copies into froms ++ Jump (length b.code + length (copies into froms) + 1) ∷ []) }

@@ -2,7 +2,7 @@
 
 ghost use Rattle.std.specs.Prelude.{◌≡◌, ◌<◌, ◌^◌, ◌++◌, IfOk, OnOk};
 ghost use Rattle.rb_target.specs.declared.instr.Instr.TheVariants.{Const, Alu, Take, Load, Copy};
-ghost use Rattle.rb_target.specs.Sheet.{pushed, with_slot};
+ghost use Rattle.rb_target.specs.Sheet.{with_more, with_slot};
 ghost use Rattle.rb_fragment.specs.Slots.{copies};
 
 use rb_target::body::Body;
@@ -17,7 +17,7 @@ use std::alloc::AllocError;
 pub fn emit_const(body: &mut Body, number: u64) -> Result<usize, AllocError>
     ensures small { number < 2 ^ 64 }
     ensures slot { IfOk result (λ d. d ≡ body.old.slots) }
-    ensures code { OnOk result (body.new ≡ pushed (with_slot body.old) (Const body.old.slots number)) }
+    ensures code { OnOk result (body.new ≡ with_more (with_slot body.old) (Const body.old.slots number)) }
 {
     let slot = body.fresh()?;
     body.push(Instr::Const(slot, number))?;
@@ -31,7 +31,7 @@ pub fn emit_const(body: &mut Body, number: u64) -> Result<usize, AllocError>
 /// Want of memory.
 pub fn emit_copy(body: &mut Body, from: usize) -> Result<usize, AllocError>
     ensures slot { IfOk result (λ d. d ≡ body.old.slots) }
-    ensures code { OnOk result (body.new ≡ pushed (with_slot body.old) (Copy body.old.slots from)) }
+    ensures code { OnOk result (body.new ≡ with_more (with_slot body.old) (Copy body.old.slots from)) }
 {
     let slot = body.fresh()?;
     body.push(Instr::Copy(slot, from))?;
@@ -52,7 +52,7 @@ pub fn emit_alu(
     b: usize,
 ) -> Result<usize, AllocError>
     ensures slot { IfOk result (λ d. d ≡ body.old.slots) }
-    ensures code { OnOk result (body.new ≡ pushed (with_slot body.old) (Alu op bits body.old.slots a b)) }
+    ensures code { OnOk result (body.new ≡ with_more (with_slot body.old) (Alu op bits body.old.slots a b)) }
 {
     let slot = body.fresh()?;
     body.push(Instr::Alu(op, bits, slot, a, b))?;
@@ -67,7 +67,7 @@ pub fn emit_alu(
 /// Want of memory.
 pub fn emit_take(body: &mut Body, from: usize, o: u8, l: u8) -> Result<usize, AllocError>
     ensures slot { IfOk result (λ d. d ≡ body.old.slots) }
-    ensures code { OnOk result (body.new ≡ pushed (with_slot body.old) (Take body.old.slots from o l)) }
+    ensures code { OnOk result (body.new ≡ with_more (with_slot body.old) (Take body.old.slots from o l)) }
 {
     let slot = body.fresh()?;
     body.push(Instr::Take(slot, from, o, l))?;
@@ -82,7 +82,7 @@ pub fn emit_take(body: &mut Body, from: usize, o: u8, l: u8) -> Result<usize, Al
 /// Want of memory.
 pub fn emit_load(body: &mut Body, base: usize, offset: u64, width: u8) -> Result<usize, AllocError>
     ensures slot { IfOk result (λ d. d ≡ body.old.slots) }
-    ensures code { OnOk result (body.new ≡ pushed (with_slot body.old) (Load body.old.slots base offset width)) }
+    ensures code { OnOk result (body.new ≡ with_more (with_slot body.old) (Load body.old.slots base offset width)) }
 {
     let slot = body.fresh()?;
     body.push(Instr::Load(slot, base, offset, width))?;

@@ -1,6 +1,6 @@
 //! Where the arms of a match meet.
 
-ghost use Rattle.std.specs.Prelude.{◌≡◌, IfOk, OnOk, List, ℕ};
+ghost use Rattle.std.specs.Prelude.{◌≡◌, IfOk, OnOk};
 ghost use Rattle.rb_fragment.specs.Arms.{shared_held, shared_sheet, JoinedIs};
 
 use crate::emit::emit_copies;
@@ -24,7 +24,7 @@ pub fn emit_join(
 ) -> Result<Joined, AllocError>
     ensures { IfOk result (λ r. JoinedIs into held.now body.old body.new r) }
 {
-    let into = shared(alloc, body, into, held)?;
+    let into = shared_slots(alloc, body, into, held)?;
     emit_copies(body, into.slots.as_slice(), held.slots.as_slice())?;
     let pc = body.len();
     body.push(Instr::Jump(pc + 1))?;
@@ -38,7 +38,7 @@ pub fn emit_join(
 
 // Where an arm leaves its value: in the slots that the arms before it share, or in new ones if it
 // is the first.
-fn shared(
+fn shared_slots(
     alloc: Global,
     body: &mut Body,
     into: Option<Held>,

@@ -1,7 +1,6 @@
 //! Laws of code that keeps its promises, each the contract of a function that does nothing.
 
-ghost use Rattle.std.specs.Prelude.{ℕ, List};
-ghost use Rattle.rb_core.specs.declared.types.Ty.{Ty as TyDecl};
+ghost use Rattle.std.specs.Prelude.{List};
 ghost use Rattle.rb_target.specs.declared.code.CodeFun.{CodeFun as CodeFunDecl};
 ghost use Rattle.rb_target.specs.Laws.{IsLawful};
 ghost use Rattle.rb_target.specs.Sheet.{Sheet};

@@ -1,7 +1,7 @@
 //! Targets that are set when all arms stand.
 
 ghost use Rattle.std.specs.Prelude.{◌≡◌, ◌<◌, length, slice_index, OnOk, OnErr};
-ghost use Rattle.rb_fragment.specs.Arms.{closed, ArePatchable, CanClose, whole_match};
+ghost use Rattle.rb_fragment.specs.Arms.{with_targets, ArePatchable, CanClose, whole_match};
 
 use rb_core::seq::Seq;
 use rb_target::body::{Body, Hole};
@@ -10,7 +10,7 @@ use std::alloc::{AllocError, Global};
 /// Sets the target of each hole to that of the way to which it belongs: `targets` has one a way.
 pub fn patch_all(body: &mut Body, holes: &[Hole], targets: &[usize])
     requires { ArePatchable body.old.code holes.now targets.now }
-    ensures { body.new ≡ closed body.old holes.now targets.now }
+    ensures { body.new ≡ with_targets body.old holes.now targets.now }
 {
     for hole in holes {
         let target = target_of(targets, hole.leaf);

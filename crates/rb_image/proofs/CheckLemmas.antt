@@ -1,6 +1,6 @@
 -- Words that are checked, and subvalues, one more at a time.
 use Rattle.std.proofs.Common.{◌≡◌, ℕ, ◌+◌, ◌≤◌, ◌&&◌, Bool, true, false, List, [], ◌∷◌, ◌++◌, drop, length, map, Option, Some, None, Result, Ok, Err, sym, subst, ap, ◌∙◌, append_assoc, append-nil}
-use Rattle.std.specs.Prelude.{slice_get, IfErr, IfOk, IsErr, if◌then◌else◌}
+use Rattle.std.specs.Prelude.{slice_get, IfErr, IsErr, if◌then◌else◌}
 use Rattle.std.specs.Result.{IsErrAnd}
 use Rattle.std.proofs.lemmas.Bool.{false≢true}
 use Rattle.std.specs.List.{flat_map}
@@ -56,15 +56,7 @@ module _ (layouts : List Layout) (m : List ImageBlock) (items : List Passed) (la
       ap (λ xs. old ++ words (map seen_of xs ++ last ∷ [])) (drop_past items k le) ∙ ap (λ ks. old ++ ks) (append-nil (words_seen layouts m last)) ∙ sym added
 
 -- Results ------------------------------------------------------------------------------------
-pub if_ok : {A E : Type 0} (r : Result A E) (P Q : A → Type 0) → ((x : A) → P x → Q x) → IfOk r P → IfOk r Q
-if_ok (Ok x) P Q f h = f x h
-if_ok (Err e) P Q f h = h
-
 -- a fault that is handed on
 pub if_err : {B : Type 0} (P : ImageFault → Type 0) (r : Result B ImageFault) (e : ImageFault) → IsErr r → IsErrAnd r (λ x. x ≡ e) → P e → IfErr r P
 if_err P (Ok b) e is same h = absurd (false≢true is)
 if_err P (Err x) e is same h = subst P (sym same) h
-
-pub err_map : {B : Type 0} (r : Result B ImageFault) (P Q : ImageFault → Type 0) → ((e : ImageFault) → P e → Q e) → IfErr r P → IfErr r Q
-err_map (Ok b) P Q f h = h
-err_map (Err e) P Q f h = f e h

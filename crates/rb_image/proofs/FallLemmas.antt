@@ -1,6 +1,7 @@
 -- Pointers lead down: the places below a place lie lower, but for those that it holds in its root words.
 use Rattle.std.proofs.Common.{◌≡◌, ℕ, zero, suc, ◌+◌, ◌*◌, ◌/◌, ◌^◌, ◌<◌, ◌≤◌, ◌==◌, ◌&&◌, ◌||◌, ◌⊎◌, inl, inr, nat_lt, Bool, true, false, List, [], ◌∷◌, replicate, Option, Some, None, Result, Ok, Err, refl, sym, subst, ap, ◌∙◌, arith}
 use Rattle.std.specs.Prelude.{slice_get, slice_index, slice_set, if◌then◌else◌, unwrap_or}
+use Rattle.std.proofs.lemmas.Bool.{and_parts}
 use Rattle.std.proofs.lemmas.Option.{same_Some}
 use Rattle.std.proofs.lemmas.Nat.{shr_le, div-add-mod'}
 use Rattle.std.proofs.lemmas.Grind.{common_steps}
@@ -10,7 +11,6 @@ use Rattle.rb_layout.specs.declared.layout.Kind.{Kind}
 use Rattle.rb_layout.specs.declared.layout.Kind.TheVariants.{Const, Bits, Word, Pointer}
 use Rattle.rb_layout.specs.Flattening.{same_path}
 use Rattle.rb_rel.proofs.Holding.{path_is}
-use Rattle.rb_rel.proofs.Lists.{both}
 use Rattle.rb_image_text.specs.declared.fault.ImageFault.{ImageFault}
 use Rattle.rb_image_text.specs.declared.fault.ImageFault.TheVariants.{BadPointer}
 use Rattle.rb_image_text.specs.declared.image.ImageBlock.{ImageBlock}
@@ -106,7 +106,7 @@ none_known high (suc n) (suc i) some = none_known high n i some
 pub pointed_is : (base at a : ℕ) → pointed_from base at ≡ Some a → (at ≡ a) × (at < 18446744073709551616) × ((base ≡ 0) ⊎ (at < base))
 pointed_is base at a e =
     let c = chosen (nat_lt at 18446744073709551616 && ((base == 0) || nat_lt at base)) at a e in
-    let d = both (nat_lt at 18446744073709551616) ((base == 0) || nat_lt at base) c.0 in
+    let d = and_parts (nat_lt at 18446744073709551616) ((base == 0) || nat_lt at base) c.0 in
     (c.1, lt_is at 18446744073709551616 d.0, elim (one_of (base == 0) (nat_lt at base) d.1) [ inl z ↦ inl (same_nat base 0 z) | inr l ↦ inr (lt_is at base l) ])
 
 some_factor : (n align at : ℕ) → n * align ≡ at → 1 ≤ at → 1 ≤ n
@@ -211,7 +211,7 @@ module _ (m : List ImageBlock) (none : block_at m 0 ≡ None) where
       holds_is (Bits own a) path j e = absurd cc
       holds_is (Pointer align b) path j e = absurd cc
       holds_is (Word own i) path j e =
-          let b = both (same_path own path) (i == j) e in
+          let b = and_parts (same_path own path) (i == j) e in
           ap (λ q. Word q i) (path_is own path b.0) ∙ ap (λ n. Word path n) (same_nat i j b.1)
 
       root_or_below : (s : LocatedPart) (block : Option ℕ) → s.block ≡ block → (s.block ≡ None) ⊎ IsBelow high (bits_at m ws ats s)

@@ -1,7 +1,7 @@
 -- A provenance that is filled with values at its open positions: the value that it matches and that has them there; and its leaf.
 use Rattle.std.proofs.Common.{◌≡◌, ℕ, zero, suc, ◌+◌, ◌==◌, inl, inr, map, List, [], ◌∷◌, true, Some, refl, sym, subst, ap, ◌∙◌, arith}
 use Rattle.std.specs.Prelude.{slice_get}
-use Rattle.std.proofs.lemmas.Bool.{cases_lt}
+use Rattle.std.proofs.lemmas.Bool.{cases_lt, and_parts}
 use Rattle.std.proofs.lemmas.Grind.{common_steps}
 use Rattle.std.proofs.lemmas.Option.{same_Some}
 use Rattle.rb_core.specs.declared.pattern.Pat.{Pat, Wild, Var, Num, Con}
@@ -25,7 +25,7 @@ use Rattle.rb_layout.specs.declared.layout.Layout.{Layout}
 use Rattle.rb_layout.specs.declared.layout.Leaf.{Leaf}
 use Rattle.rb_rel.proofs.Existence.{first_leaf}
 use Rattle.rb_rel.specs.Provenances.{fits_type, is_named}
-use Rattle.rb_rel.proofs.Lists.{and_true, both, get-append, get-map}
+use Rattle.rb_rel.proofs.Lists.{and_true, get-append, get-map}
 use Rattle.rb_rel.proofs.Opens.{fits-Con, fitting, opens-Con, opens-Wild, opens-Var}
 
 same_is : (a : ℕ) → (a == a) ≡ true
@@ -60,7 +60,7 @@ module _ (types : List DataDecl) where
   fill_fields [] each ts i f values = record { vs = []; pass = refl; at = λ k o e. absurd cc }
   fill_fields (p ∷ ps) each [] i f values = absurd cc
   fill_fields (p ∷ ps) each (t ∷ ts) i f values =
-      let b = both (fits_type types p t) (all_of_types (map (fits_type types) ps) ts) f in
+      let b = and_parts (fits_type types p t) (all_of_types (map (fits_type types) ps) ts) f in
       let first = each.0 t b.0 (λ path. values (i ∷ path)) in
       let rest = fill_fields ps each.1 ts (i + 1) b.1 values in
       record {
@@ -88,7 +88,7 @@ module _ (types : List DataDecl) where
 
   fill_con : (at : ℕ) (c : ConRef) (ps : List Pat) → Each Fills ps → Fills (Con at c ps)
   fill_con at c ps each ty f values =
-      let b = both (is_named c.ty ty) (are_of (map (fits_type types) ps) (fields_of types c)) (sym (fits-Con types at c ps ty) ∙ f) in
+      let b = and_parts (is_named c.ty ty) (are_of (map (fits_type types) ps) (fields_of types c)) (sym (fits-Con types at c ps ty) ∙ f) in
       let fields = fill_fields ps each (types_or_none (fields_of types c)) 0 (fitting types (map (fits_type types) ps) (fields_of types c) b.1) values in
       let v = X.Con c.con fields.vs in
       record {

@@ -2,6 +2,7 @@
 use Rattle.std.proofs.Common.{◌≡◌, ℕ, suc, ◌+◌, ◌++◌, inl, inr, false, true, List, [], ◌∷◌, map, Option, Some, None, Result, Ok, refl, sym, subst, ap, ◌∙◌, arith, append_assoc, append-nil}
 use Rattle.std.specs.Prelude.{slice_get}
 use Rattle.std.specs.List.{flat_map}
+use Rattle.std.proofs.lemmas.Bool.{and_parts}
 use Rattle.std.proofs.lemmas.Option.{same_Some}
 use Rattle.rb_core.specs.declared.pattern.Pat.{Pat, Con, out-Pat}
 use Rattle.rb_core.specs.declared.pattern.Pat.TheOpen as P
@@ -29,7 +30,7 @@ use Rattle.rb_rel.specs.Relation as R
 use Rattle.rb_rel.proofs.Agreeing.{lawful}
 use Rattle.rb_rel.specs.Provenances.{fits_type, is_named}
 use Rattle.rb_rel.proofs.Leaves.{leaf_matches}
-use Rattle.rb_rel.proofs.Lists.{both, get-mapped}
+use Rattle.rb_rel.proofs.Lists.{get-mapped}
 use Rattle.rb_rel.proofs.Opens.{fits-Con, fitting}
 use Rattle.rb_rel.proofs.Reading.{same_nat}
 use Rattle.rb_rel.proofs.Represented.{Represents-int}
@@ -46,12 +47,12 @@ use Rattle.rb_image.specs.Orders.{LocatedPart, order_of}
 use Rattle.rb_image.specs.Parts.{bits_at, field_word, field_words}
 use Rattle.rb_image.specs.PathParts.{IsPartThere}
 use Rattle.rb_image.specs.Peeking.{words_there}
-use Rattle.rb_image.specs.Rebuilds.{end_of, numbers_of, rebuilt, unless_refused, words_of}
+use Rattle.rb_image.specs.Rebuilds.{end_of, numbers_of, rebuilt_words, unless_refused, words_of}
 use Rattle.rb_image.specs.RebuiltValues.{AreRight, IsInner, ValueStands, is_numberless}
 use Rattle.rb_image.specs.Roots.{kept_from}
 use Rattle.rb_image.specs.TakenApart.{open_words}
 use Rattle.rb_image.specs.Splits.{leaf_at}
-use Rattle.rb_image.specs.Walks.{Waypoint, Where, arrived, layout_at, leaf_or_none, moved, see, step, steps}
+use Rattle.rb_image.specs.Walks.{Waypoint, Where, where_at_root, layout_at, leaf_or_none, where_after_step, see, step, steps}
 use Rattle.rb_image.specs.Ways.{refused_below}
 use Rattle.rb_image.proofs.DescendingValues.{Descends-represents}
 use Rattle.rb_image.proofs.ExaminedParts.{then_ok}
@@ -111,13 +112,13 @@ module _ (p : Program) (typed : IsTyped p) (agrees : Agrees p) (blocks : List Im
   no_field l q i pos out none e = let no : ◌≡◌ {A = Option Position} None (Some pos) = sym (ap (field_in types i) out ∙ none) ∙ e in cc
 
   con_step : (w : Where) (i : ℕ) (pos : Position) (u : Value) → Extra w u → field_of types w.here.pat i ≡ Some pos → (at : ℕ) (c : ConRef) (ps : List Pat) → w.here.pat ≡ Con at c ps
-      → (ty : Ty) → w.here.ty ≡ ty → Extra (moved w i pos) u
+      → (ty : Ty) → w.here.ty ≡ ty → Extra (where_after_step w i pos) u
   con_step w i pos u x field at c ps form (Int bits) is_ty =
-      absurd (let f = both (is_named c.ty (Int bits)) (are_of (map (fits_type types) ps) (fields_of types c))
+      absurd (let f = and_parts (is_named c.ty (Int bits)) (are_of (map (fits_type types) ps) (fields_of types c))
       (sym (fits-Con types at c ps (Int bits)) ∙ ap (fits_type types (Con at c ps)) (sym is_ty) ∙ ap (λ q. fits_type types q w.here.ty) (sym form) ∙ x.fit.fits) in cc)
   con_step w i pos u x field at c ps form (Named s) is_ty =
       let ts = types_or_none (fields_of types c) in
-      let f = both (is_named c.ty (Named s)) (are_of (map (fits_type types) ps) (fields_of types c))
+      let f = and_parts (is_named c.ty (Named s)) (are_of (map (fits_type types) ps) (fields_of types c))
       (sym (fits-Con types at c ps (Named s)) ∙ ap (fits_type types (Con at c ps)) (sym is_ty) ∙ ap (λ q. fits_type types q w.here.ty) (sym form) ∙ x.fit.fits) in
       let own : s ≡ c.ty = same_nat s c.ty f.0 in
       let both_ = with_both (slice_get ps i) (slice_get ts i) pos (sym (ap (λ q. field_of types q i) form ∙ ap (field_in types i) (outs-Con at c ps)) ∙ field) in
@@ -149,10 +150,10 @@ module _ (p : Program) (typed : IsTyped p) (agrees : Agrees p) (blocks : List Im
         inner = λ h. inner;
       }
 
-  step_extra : (w : Where) (i : ℕ) (pos : Position) (u : Value) → Extra w u → field_of types w.here.pat i ≡ Some pos → Extra (moved w i pos) u
+  step_extra : (w : Where) (i : ℕ) (pos : Position) (u : Value) → Extra w u → field_of types w.here.pat i ≡ Some pos → Extra (where_after_step w i pos) u
   step_extra w i pos u x field = go (forms w.here.pat)
     where
-      go : Form w.here.pat → Extra (moved w i pos) u
+      go : Form w.here.pat → Extra (where_after_step w i pos) u
       go (wild at e) = absurd (no_field (P.Wild at) w.here.pat i pos (ap out-Pat e ∙ outs-Wild at) refl field)
       go (var at y e) = absurd (no_field (P.Var at y) w.here.pat i pos (ap out-Pat e ∙ outs-Var at y) refl field)
       go (num at n e) = absurd (no_field (P.Num at n) w.here.pat i pos (ap out-Pat e ∙ outs-Num at n) refl field)
@@ -167,7 +168,7 @@ module _ (p : Program) (typed : IsTyped p) (agrees : Agrees p) (blocks : List Im
       let r = then_ok (leaf_at layout.tree blocks ws) (λ n. Ok (record { ty = t; words = ws; leaf = leaf_or_none (slice_get layout.leaves n); at = [] })) s e in
       sym (ap (λ (x : Waypoint). x.at) (same_Ok (record { ty = t; words = ws; leaf = leaf_or_none (slice_get layout.leaves r.0); at = [] }) s r.2))
 
-  arrive_extra : (before : List Waypoint) (s : Waypoint) (first : List ℕ) (st : Stood (arrived before s) first) → s.at ≡ [] → Extra (arrived before s) st.u
+  arrive_extra : (before : List Waypoint) (s : Waypoint) (first : List ℕ) (st : Stood (where_at_root before s) first) → s.at ≡ [] → Extra (where_at_root before s) st.u
   arrive_extra before s first st none =
       let b = st.b in
       let law = (lawful p agrees typed).provenances in
@@ -195,11 +196,11 @@ module _ (p : Program) (typed : IsTyped p) (agrees : Agrees p) (blocks : List Im
   both_steps (i ∷ rest) first k w end st e =
       let r = then_ok (step types layouts blocks k w i) (λ x. steps types layouts blocks (k + 1) x rest) end e in
       let s = stepped types layouts blocks k w i r.0 r.1 in
-      let moves : Stood (moved w i s.here) (first ++ i ∷ []) = inside p typed agrees blocks m is v w first i s.here st.0 s.is_field in
+      let moves : Stood (where_after_step w i s.here) (first ++ i ∷ []) = inside p typed agrees blocks m is v w first i s.here st.0 s.is_field in
       let next : Both r.0 (first ++ i ∷ []) = elim s.how [
         | inl h ↦ subst (λ (x : Where). Both x (first ++ i ∷ [])) (sym h.is) (moves, step_extra w i s.here st.0.u st.1 s.is_field)
         | inr h ↦
-            let n = enters p typed agrees blocks m is v (moved w i s.here) (first ++ i ∷ []) moves h.ty h.words h.next h.is_data h.is_words h.is_next in
+            let n = enters p typed agrees blocks m is v (where_after_step w i s.here) (first ++ i ∷ []) moves h.ty h.words h.next h.is_data h.is_words h.is_next in
             subst (λ (x : Where). Both x (first ++ i ∷ [])) (sym h.is) (n, arrive_extra _ h.next (first ++ i ∷ []) n (see_root h.ty h.words h.next h.is_next))
       ] in
       subst (Both end) (append_assoc first (i ∷ []) rest) (both_steps rest (first ++ i ∷ []) (k + 1) r.0 end next r.2)
@@ -269,13 +270,13 @@ given_parts_held p typed agrees image placed are (Named t) v d path part h = go 
         let m = image_memory blocks in
         let whole = image_whole blocks placed are in
         let root = kept_from 0 image.root in
-        let r = then_ok (see layouts blocks t root) (λ s. steps p.types layouts blocks 0 (arrived [] s) path) end h.1.is_come in
+        let r = then_ok (see layouts blocks t root) (λ s. steps p.types layouts blocks 0 (where_at_root [] s) path) end h.1.is_come in
         let first = arrive p typed agrees blocks m whole v [] [] root r.0 d (root_kept 0 image.root) (root_numbers 0 image.root) refl r.1 in
-        let st = both_steps p typed agrees blocks m whole v path [] 0 (arrived [] r.0) end (first, arrive_extra p typed agrees blocks m whole v [] r.0 [] first (see_root p typed agrees blocks m whole v t root r.0 r.1)) r.2 in
+        let st = both_steps p typed agrees blocks m whole v path [] 0 (where_at_root [] r.0) end (first, arrive_extra p typed agrees blocks m whole v [] r.0 [] first (see_root p typed agrees blocks m whole v t root r.0 r.1)) r.2 in
         let x = st.1 in
         let here = stands_end p typed agrees blocks m whole v end path st.0 x (λ e. let z = sym e ∙ within in cc) in
         let right = rebuilt_words_represent p typed agrees m whole.good blocks (end_of p.types layouts blocks end) x.part end.here.pat end.here.ty here in
-        let words : rebuilt p.types layouts blocks end ≡ Ok part.words = sym (ap (words_there p.types layouts image end) within) ∙ h.1.is_words in
+        let words : rebuilt_words p.types layouts blocks end ≡ Ok part.words = sym (ap (words_there p.types layouts image end) within) ∙ h.1.is_words in
         let given = unless_ok (refused_below blocks end.last.leaf end.last.words (block_addresses blocks end.last.leaf end.last.words) end.last.at (order_of end.last.leaf)) p blocks end part.words words in
         let rep = right_ok p m blocks end.here.ty x.part (words_of p.types layouts blocks (end_of p.types layouts blocks end)) part.words right given in
         record {

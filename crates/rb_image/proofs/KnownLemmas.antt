@@ -3,6 +3,7 @@ use lib.Pointwise.{pointwise}
 use Rattle.std.proofs.Common.{◌≡◌, ℕ, ◌||◌, ◌&&◌, nat_eq, Bool, true, false, List, [], ◌∷◌, ◌++◌, map, refl, sym, subst, ap, ◌∙◌, arith}
 use Rattle.std.specs.Prelude.{if◌then◌else◌}
 use Rattle.std.specs.List.{AllByRecursion, list_any}
+use Rattle.std.proofs.lemmas.Bool.{and_parts}
 use Rattle.std.proofs.lemmas.List.{map-append}
 use Rattle.std.proofs.lemmas.Grind.{common_steps}
 use Rattle.rb_image.specs.declared.kept.Kept.{Kept}
@@ -11,18 +12,14 @@ use Rattle.rb_image.specs.Parts.{At, at_of}
 use Rattle.rb_image.specs.inner.Knowing.{is_among, same_place, same_word, with_place}
 
 -- Equal places -------------------------------------------------------------------------------
-both : (a b : Bool) → (a && b) ≡ true → (a ≡ true) × (b ≡ true)
-both true true e = (refl, refl)
-both true false e = absurd cc
-both false b e = absurd cc
 
 same_nat : (a b : ℕ) → nat_eq a b ≡ true → a ≡ b
 same_nat a b e = grind (arith, common_steps)
 
 word_is : (v w : Kept) → same_word v w ≡ true → v ≡ w
 word_is v w e =
-    let a = both (nat_eq v.number w.number) (nat_eq v.base w.base && nat_eq v.place w.place) e in
-    let b = both (nat_eq v.base w.base) (nat_eq v.place w.place) a.1 in
+    let a = and_parts (nat_eq v.number w.number) (nat_eq v.base w.base && nat_eq v.place w.place) e in
+    let b = and_parts (nat_eq v.base w.base) (nat_eq v.place w.place) a.1 in
     ap (λ (n : ℕ). record { number = n; base = v.base; place = v.place }) (same_nat v.number w.number a.0)
     ∙ ap (λ (n : ℕ). record { number = w.number; base = n; place = v.place }) (same_nat v.base w.base b.0)
     ∙ ap (λ (n : ℕ). record { number = w.number; base = w.base; place = n }) (same_nat v.place w.place b.1)
@@ -32,12 +29,12 @@ words_are [] [] e = refl
 words_are [] (w ∷ ws) e = absurd cc
 words_are (v ∷ vs) [] e = absurd cc
 words_are (v ∷ vs) (w ∷ ws) e =
-    let b = both (same_word v w) (pointwise same_word vs ws) e in
+    let b = and_parts (same_word v w) (pointwise same_word vs ws) e in
     ap (λ x. x ∷ vs) (word_is v w b.0) ∙ ap (λ xs. w ∷ xs) (words_are vs ws b.1)
 
 place_is : (p q : At) → same_place p q ≡ true → q ≡ p
 place_is p q e =
-    let b = both (nat_eq p.ty q.ty) (pointwise same_word p.words q.words) e in
+    let b = and_parts (nat_eq p.ty q.ty) (pointwise same_word p.words q.words) e in
     ap (λ (t : ℕ). record { ty = t; words = q.words }) (sym (same_nat p.ty q.ty b.0)) ∙ ap (λ (ws : List Kept). record { ty = p.ty; words = ws }) (sym (words_are p.words q.words b.1))
 
 -- Members ------------------------------------------------------------------------------------

@@ -2,6 +2,7 @@
 use Rattle.std.proofs.Common.{◌≡◌, ℕ, ◌<◌, ◌≤◌, ◌&&◌, nat_lt, nat_le, length, true, Option, Some, None, sym, ap, ◌∙◌, arith}
 use Rattle.std.specs.Prelude.{slice_get}
 use Rattle.std.specs.List.{list_all}
+use Rattle.std.proofs.lemmas.Bool.{and_parts}
 use Rattle.std.proofs.lemmas.Grind.{common_steps}
 use Rattle.std.proofs.lemmas.Option.{same_Some}
 use Rattle.rb_core.specs.declared.layout_decl.LayoutDecl.{LayoutDecl}
@@ -10,6 +11,7 @@ use Rattle.rb_core.specs.declared.types.Ty.TheVariants.{Named}
 use Rattle.rb_core.specs.Layouts.{provenances, is_short_layout}
 use Rattle.rb_core.specs.TypedPrograms.{IsTyped}
 use Rattle.rb_core.specs.WellNumbered.{is_between, layout_is_numbered, provenance_is_numbered}
+use Rattle.rb_core.proofs.MatchingLemmas.{all_at}
 use Rattle.rb_layout.specs.declared.layout.Layout.{Layout}
 use Rattle.rb_layout.specs.declared.layout.Leaf.{Leaf}
 use Rattle.rb_layout.specs.A1.{HasShape}
@@ -20,8 +22,6 @@ use Rattle.rb_layout.specs.Readable.{IsReadable}
 use Rattle.rb_layout.proofs.Readable.{readable}
 use Rattle.rb_rel.proofs.Agreeing.{lawful}
 use Rattle.rb_rel.proofs.Declared.{declared, decl_at}
-use Rattle.rb_rel.proofs.Lists.{both}
-use Rattle.rb_rel.proofs.Provenances.{all_at}
 
 le_is : (a b : ℕ) → nat_le a b ≡ true → a ≤ b
 le_is a b e = grind (arith, common_steps)
@@ -47,7 +47,7 @@ module _ (p : Program) (typed : IsTyped p) (agrees : Agrees p) (t : ℕ) (layout
   numbered = let at = decl_at p.layouts t the_decl is_declared in all_at (layout_is_numbered p.types) p.layouts at.0 the_decl typed.numbered.layouts at.1
 
   named : (nat_lt the_decl.ty (length p.types) ≡ true) × ((is_between 1 8 (length the_decl.shape) && (list_all (provenance_is_numbered p.types) (provenances the_decl.tree) && is_short_layout the_decl.tree)) ≡ true)
-  named = both (nat_lt the_decl.ty (length p.types)) (is_between 1 8 (length the_decl.shape) && (list_all (provenance_is_numbered p.types) (provenances the_decl.tree) && is_short_layout the_decl.tree)) numbered
+  named = and_parts (nat_lt the_decl.ty (length p.types)) (is_between 1 8 (length the_decl.shape) && (list_all (provenance_is_numbered p.types) (provenances the_decl.tree) && is_short_layout the_decl.tree)) numbered
 
   short : (j w : ℕ) → slice_get layout.shape j ≡ Some w → w ≤ 64
   short j w e =
@@ -58,8 +58,8 @@ module _ (p : Program) (typed : IsTyped p) (agrees : Agrees p) (t : ℕ) (layout
 
   few : length layout.shape ≤ 64
   few =
-      let b = both (is_between 1 8 (length the_decl.shape)) (list_all (provenance_is_numbered p.types) (provenances the_decl.tree) && is_short_layout the_decl.tree) named.1 in
-      let le = le_is (length the_decl.shape) 8 (both (nat_le 1 (length the_decl.shape)) (nat_le (length the_decl.shape) 8) b.0).1 in
+      let b = and_parts (is_between 1 8 (length the_decl.shape)) (list_all (provenance_is_numbered p.types) (provenances the_decl.tree) && is_short_layout the_decl.tree) named.1 in
+      let le = le_is (length the_decl.shape) 8 (and_parts (nat_le 1 (length the_decl.shape)) (nat_le (length the_decl.shape) 8) b.0).1 in
       let same = ap length same_shape in
       omega (arith, le, same)
 
@@ -74,7 +74,7 @@ module _ (p : Program) (typed : IsTyped p) (agrees : Agrees p) (t : ℕ) (layout
   -- and it has words
   pub some_words : 1 ≤ length layout.shape
   some_words =
-      let b = both (is_between 1 8 (length the_decl.shape)) (list_all (provenance_is_numbered p.types) (provenances the_decl.tree) && is_short_layout the_decl.tree) named.1 in
-      let le = le_is 1 (length the_decl.shape) (both (nat_le 1 (length the_decl.shape)) (nat_le (length the_decl.shape) 8) b.0).0 in
+      let b = and_parts (is_between 1 8 (length the_decl.shape)) (list_all (provenance_is_numbered p.types) (provenances the_decl.tree) && is_short_layout the_decl.tree) named.1 in
+      let le = le_is 1 (length the_decl.shape) (and_parts (nat_le 1 (length the_decl.shape)) (nat_le (length the_decl.shape) 8) b.0).0 in
       let same = ap length same_shape in
       omega (arith, le, same)

@@ -11,6 +11,7 @@ use Rattle.rb_core.specs.declared.layout_decl.Loc.{Loc}
 use Rattle.rb_core.specs.declared.pattern.Pat.{Pat}
 use Rattle.rb_core.specs.declared.program.Program.{Program}
 use Rattle.rb_core.specs.Layouts.{leaves}
+use Rattle.rb_core.proofs.LayoutInduction.{tree-induction}
 use Rattle.rb_layout.specs.Agreement.{Agrees}
 use Rattle.rb_layout.specs.Flattening.{LeafNumbering, arm_numbering, arms_count, arms_from, flat_layouts, flat_leaf, numbering}
 use Rattle.rb_layout.specs.Positions.{layout_of}
@@ -22,7 +23,6 @@ use Rattle.rb_layout.specs.declared.layout.Leaf.{Leaf}
 use Rattle.rb_layout.proofs.Computing.{from-Leaf, from-Split, from-Split-else, count-Leaf, numbering-Split, numbering-Split-else}
 use Rattle.rb_layout.proofs.FlatForms.{Each}
 use Rattle.rb_layout.proofs.TreeLemmas.{arm_numbering-is, count-is}
-use Rattle.rb_layout.proofs.WrittenForms.{tree-induction}
 use Rattle.rb_coding.specs.Arms.{under_number}
 use Rattle.rb_rel.proofs.Declared.{declared}
 use Rattle.rb_rel.proofs.Lists.{got}

@@ -23,7 +23,7 @@ use Rattle.rb_rel.specs.Relation.{Represents}
 use Rattle.rb_rel.proofs.Layers.{Sound, can_hold, fits_at, layer_shown, made, numbered, sound, stored}
 use Rattle.rb_rel.proofs.Packing.{packed as all_packed}
 use Rattle.rb_rel.specs.Storing.{number_of, with_blocks}
-use Rattle.rb_coding.specs.Packing.{made_of, word_made}
+use Rattle.rb_coding.specs.Packing.{word_of_parts, word_made}
 use Rattle.rb_coding.proofs.LeafShowing.{put_fits}
 use Rattle.rb_image.specs.declared.pack.FieldWords.{FieldWords}
 use Rattle.rb_image.specs.PackedWords.{FieldsRepresent, PackedWordsRepresent}
@@ -32,11 +32,11 @@ use Rattle.rb_image.proofs.NarrowLeaves.{leaves_are_narrow}
 
 -- each part fits, so it is put in its place
 made_packed : (ss : List ℕ → List ℕ) (ats : ℕ → ℕ) (ps : List Part)
-    → ((k : ℕ) (q : Part) → slice_get ps k ≡ Some q → (1 ≤ q.l) × (q.o + q.l ≤ 64) × (number_of ss ats q.l q.kind < 2 ^ q.l)) → made_of ss ats ps ≡ all_packed ss ats ps
+    → ((k : ℕ) (q : Part) → slice_get ps k ≡ Some q → (1 ≤ q.l) × (q.o + q.l ≤ 64) × (number_of ss ats q.l q.kind < 2 ^ q.l)) → word_of_parts ss ats ps ≡ all_packed ss ats ps
 made_packed ss ats [] fit = refl
 made_packed ss ats (q ∷ qs) fit =
     let f = fit 0 q refl in
-    put_fits (made_of ss ats qs) q.o q.l (number_of ss ats q.l q.kind) f.0 f.1 f.2 ∙ ap (λ w. put_of w q.o q.l (number_of ss ats q.l q.kind)) (made_packed ss ats qs (λ k r e. fit (suc k) r e))
+    put_fits (word_of_parts ss ats qs) q.o q.l (number_of ss ats q.l q.kind) f.0 f.1 f.2 ∙ ap (λ w. put_of w q.o q.l (number_of ss ats q.l q.kind)) (made_packed ss ats qs (λ k r e. fit (suc k) r e))
 
 map_same : (f g : FlatWord → ℕ) (xs : List FlatWord) → ((j : ℕ) (x : FlatWord) → slice_get xs j ≡ Some x → f x ≡ g x) → map f xs ≡ map g xs
 map_same f g [] same = refl

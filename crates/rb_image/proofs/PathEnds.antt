@@ -8,7 +8,7 @@ use Rattle.rb_image_text.specs.declared.fault.ImageFault.{ImageFault}
 use Rattle.rb_image_text.specs.declared.image.ImageBlock.{ImageBlock}
 use Rattle.rb_image.specs.declared.kept.Kept.{Kept}
 use Rattle.rb_image.specs.Values.{IsDeclared}
-use Rattle.rb_image.specs.Walks.{Waypoint, Where, arrived, moved, open_data, see, step, steps, end_of_path}
+use Rattle.rb_image.specs.Walks.{Waypoint, Where, where_at_root, where_after_step, open_data, see, step, steps, end_of_path}
 use Rattle.rb_image.specs.inner.Ordering.{AreOrderly}
 use Rattle.rb_image.proofs.ExaminedParts.{then_ok}
 use Rattle.rb_image.proofs.FallLemmas.{same_Ok}
@@ -35,11 +35,11 @@ module _ (types : List DataDecl) (layouts : List Layout) (m : List ImageBlock) w
 
   pub walk_closed : (t : ℕ) (ws : List Kept) (path : List ℕ) (end : Where) → ◌≡◌ {A = Walks} (end_of_path types layouts m t ws path) (Ok end) → IsClosed end
   walk_closed t ws path end e =
-      let r = then_ok (see layouts m t ws) (λ s. steps types layouts m 0 (arrived [] s) path) end e in
-      steps_closed path 0 (arrived [] r.0) end (inl (see_is layouts m t ws r.0 r.1).at) r.2
+      let r = then_ok (see layouts m t ws) (λ s. steps types layouts m 0 (where_at_root [] s) path) end e in
+      steps_closed path 0 (where_at_root [] r.0) end (inl (see_is layouts m t ws r.0 r.1).at) r.2
 
   module _ (orderly : AreOrderly types layouts) where
-    arrived_typed : (before : List Waypoint) (t : ℕ) (ws : List Kept) (s : Waypoint) → t < length types → ◌≡◌ {A = Result Waypoint ImageFault} (see layouts m t ws) (Ok s) → IsDeclared types (arrived before s).here.ty
+    arrived_typed : (before : List Waypoint) (t : ℕ) (ws : List Kept) (s : Waypoint) → t < length types → ◌≡◌ {A = Result Waypoint ImageFault} (see layouts m t ws) (Ok s) → IsDeclared types (where_at_root before s).here.ty
     arrived_typed before t ws s small e = subst (λ n. n < length types) (sym (see_is layouts m t ws s e).ty) small
 
     step_typed : (k : ℕ) (w : Where) (i : ℕ) (v : Where) → ◌≡◌ {A = Walks} (step types layouts m k w i) (Ok v) → IsDeclared types v.here.ty
@@ -48,7 +48,7 @@ module _ (types : List DataDecl) (layouts : List Layout) (m : List ImageBlock) w
         elim s.how [
           | inl h ↦ subst (λ (x : Where). IsDeclared types x.here.ty) (sym h.is) (field_typed types layouts orderly (out-Pat w.here.pat) i s.here s.is_field)
           | inr h ↦ subst (λ (x : Where). IsDeclared types x.here.ty) (sym h.is)
-              (arrived_typed (w.before ++ (moved w i s.here).last ∷ []) h.ty h.words h.next (field_small types layouts orderly w.here.pat i s.here h.ty s.is_field h.is_data) h.is_next)
+              (arrived_typed (w.before ++ (where_after_step w i s.here).last ∷ []) h.ty h.words h.next (field_small types layouts orderly w.here.pat i s.here h.ty s.is_field h.is_data) h.is_next)
         ]
 
     steps_typed : (path : List ℕ) (k : ℕ) (w end : Where) → IsDeclared types w.here.ty → ◌≡◌ {A = Walks} (steps types layouts m k w path) (Ok end) → IsDeclared types end.here.ty
@@ -59,5 +59,5 @@ module _ (types : List DataDecl) (layouts : List Layout) (m : List ImageBlock) w
 
     pub walk_typed : (t : ℕ) (ws : List Kept) (path : List ℕ) (end : Where) → t < length types → ◌≡◌ {A = Walks} (end_of_path types layouts m t ws path) (Ok end) → IsDeclared types end.here.ty
     walk_typed t ws path end small e =
-        let r = then_ok (see layouts m t ws) (λ s. steps types layouts m 0 (arrived [] s) path) end e in
-        steps_typed path 0 (arrived [] r.0) end (arrived_typed [] t ws r.0 small r.1) r.2
+        let r = then_ok (see layouts m t ws) (λ s. steps types layouts m 0 (where_at_root [] s) path) end e in
+        steps_typed path 0 (where_at_root [] r.0) end (arrived_typed [] t ws r.0 small r.1) r.2

@@ -38,7 +38,7 @@ use Rattle.rb_image.specs.Parts.{bits_at, field_word, field_words}
 use Rattle.rb_image.specs.PathParts.{IsEnd, IsOpenPattern, PathsLeadToParts, integer_in}
 use Rattle.rb_image.specs.Roots.{kept_from}
 use Rattle.rb_image.specs.Splits.{and_then, leaf_at, word_at}
-use Rattle.rb_image.specs.Walks.{Waypoint, Where, arrived, data_of, layout_at, layout_or_none, leaf_or_none, moved, open_data, open_in, see, step, steps, unless, words_on}
+use Rattle.rb_image.specs.Walks.{Waypoint, Where, where_at_root, data_of, layout_at, layout_or_none, leaf_or_none, where_after_step, open_data, open_in, see, step, steps, unless, words_on}
 use Rattle.rb_image.proofs.DescendingImages as D
 use Rattle.rb_image.proofs.DescendingImages.{descending_sound}
 use Rattle.rb_image.proofs.DescendingValues.{Descends-represents}
@@ -168,7 +168,7 @@ module _ (p : Program) (typed : IsTyped p) (agrees : Agrees p) (blocks : List Im
   module _ (before : List Waypoint) (first : List ℕ) (xs : List Kept) (s : Waypoint) where
     abbrev Arrives : Ty → Value → List ℕ → (ℕ → ℕ) → Type 0
     Arrives (Int bits) u ws from = Unit {0}
-    Arrives (Named t) u ws from = AreKeptAs xs ws from → numbers xs ≡ ws → part_at v first ≡ Some u → ◌≡◌ {A = Sees} (see layouts blocks t xs) (Ok s) → Stands (arrived before s) first
+    Arrives (Named t) u ws from = AreKeptAs xs ws from → numbers xs ≡ ws → part_at v first ≡ Some u → ◌≡◌ {A = Sees} (see layouts blocks t xs) (Ok s) → Stands (where_at_root before s) first
 
     module _ (t : ℕ) (u : Value) (ws : List ℕ) (from : ℕ → ℕ) (b : Made types layouts m false t u ws) (inner : List ℕ → ℕ → ℕ)
         (falls : PointersFall b.leaf from b.ats) (are_kept : AreKept b.leaf from b.ats inner)
@@ -195,11 +195,11 @@ module _ (p : Program) (typed : IsTyped p) (agrees : Agrees p) (blocks : List Im
           ap (λ (r : Result ℕ ImageFault). and_then r (λ n. with_leaf (slice_get b.layout.leaves n))) leads in
           ap in_layout layout ∙ led ∙ ap with_leaf b.is_number
 
-      arrives : numbers xs ≡ ws → part_at v first ≡ Some u → ◌≡◌ {A = Sees} (see layouts blocks t xs) (Ok s) → Stands (arrived before s) first
+      arrives : numbers xs ≡ ws → part_at v first ≡ Some u → ◌≡◌ {A = Sees} (see layouts blocks t xs) (Ok s) → Stands (where_at_root before s) first
       arrives count part e =
           let same : seen ≡ s = same_Ok seen s (sym is_seen ∙ e) in
           let root = (lawful p agrees typed).provenances.root t b.layout b.number b.leaf b.is_layout b.is_number in
-          subst (λ (x : Waypoint). Stands (arrived before x) first) same (record {
+          subst (λ (x : Waypoint). Stands (where_at_root before x) first) same (record {
             u = u;
             ws = ws;
             from = from;
@@ -224,7 +224,7 @@ module _ (p : Program) (typed : IsTyped p) (agrees : Agrees p) (blocks : List Im
 
   -- Steps ------------------------------------------------------------------------------------
   module _ (w : Where) (first : List ℕ) (i : ℕ) (pos : Position) (st : Stands w first) (field : field_of types w.here.pat i ≡ Some pos) where
-    abbrev pub inside : Stands (moved w i pos) (first ++ i ∷ [])
+    abbrev pub inside : Stands (where_after_step w i pos) (first ++ i ∷ [])
     inside = record {
       u = st.u;
       ws = st.ws;
@@ -264,7 +264,7 @@ module _ (p : Program) (typed : IsTyped p) (agrees : Agrees p) (blocks : List Im
       ∙ ap (λ (x : Option Value). part_from x o.path) st.is_part ∙ st.b.is_at k o at
 
   pub enters : (w : Where) (first : List ℕ) (st : Stands w first) (t : ℕ) (us : List Kept) (s : Waypoint) → open_data w.here ≡ Some t
-      → ◌≡◌ {A = Finds} (words_on layouts blocks w.last t) (Ok us) → ◌≡◌ {A = Sees} (see layouts blocks t us) (Ok s) → Stands (arrived (w.before ++ w.last ∷ []) s) first
+      → ◌≡◌ {A = Finds} (words_on layouts blocks w.last t) (Ok us) → ◌≡◌ {A = Sees} (see layouts blocks t us) (Ok s) → Stands (where_at_root (w.before ++ w.last ∷ []) s) first
   enters w first st t us s is_data words seen =
       let op = opened (out-Pat w.here.pat) w.here.ty t is_data in
       let has = open_there w first st op.0 in
@@ -291,7 +291,7 @@ module _ (p : Program) (typed : IsTyped p) (agrees : Agrees p) (blocks : List Im
       let next : Stands r.0 (first ++ i ∷ []) = elim s.how [
         | inl h ↦ subst (λ (x : Where). Stands x (first ++ i ∷ [])) (sym h.is) moves
         | inr h ↦ subst (λ (x : Where). Stands x (first ++ i ∷ [])) (sym h.is)
-            (enters (moved w i s.here) (first ++ i ∷ []) moves h.ty h.words h.next h.is_data h.is_words h.is_next)
+            (enters (where_after_step w i s.here) (first ++ i ∷ []) moves h.ty h.words h.next h.is_data h.is_words h.is_next)
       ] in
       subst (Stands end) (append_assoc first (i ∷ []) rest) (steps_stand rest (first ++ i ∷ []) (k + 1) r.0 end next r.2)
 
@@ -351,8 +351,8 @@ paths_lead p typed agrees image placed are t v d path w e words end =
     let m = image_memory blocks in
     let is = image_whole blocks placed are in
     let root = kept_from 0 image.root in
-    let r = then_ok (see layouts blocks t root) (λ s. steps p.types layouts blocks 0 (arrived [] s) path) w e in
+    let r = then_ok (see layouts blocks t root) (λ s. steps p.types layouts blocks 0 (where_at_root [] s) path) w e in
     let first = arrive p typed agrees blocks m is v [] [] root r.0 d (root_kept 0 image.root) (root_numbers 0 image.root) refl r.1 in
-    let st = steps_stand p typed agrees blocks m is v path [] 0 (arrived [] r.0) w first r.2 in
+    let st = steps_stand p typed agrees blocks m is v path [] 0 (where_at_root [] r.0) w first r.2 in
     let x = ended p typed agrees blocks m is v w path words st end in
     record { part = x.part; is_part = x.is_part; represents = x.represents }

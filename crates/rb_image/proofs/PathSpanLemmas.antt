@@ -22,7 +22,7 @@ use Rattle.rb_image.specs.Fields.{Position, field_of}
 use Rattle.rb_image.specs.PathSpans.{WalksAreShort, path_types, type_there, types_from}
 use Rattle.rb_image.specs.Spans.{data_span, inner_span, layout_span, span, split_span, tree_span, word_span}
 use Rattle.rb_image.specs.Visits.{own_span}
-use Rattle.rb_image.specs.Walks.{Where, arrived, count_found, data_of, layout_at, layout_or_none, open_in, open_span, see, span_at, step, steps_span, walk_span}
+use Rattle.rb_image.specs.Walks.{Where, where_at_root, count_found, data_of, layout_at, layout_or_none, open_in, open_span, see, span_at, step, steps_span, walk_span}
 use Rattle.rb_image.proofs.SpanRecursion.{spans_recur}
 
 no_splits : tree_span (T.Leaf 0) ≡ 0
@@ -77,11 +77,11 @@ module _ (types : List DataDecl) (layouts : List Layout) (recur : (t : ℕ) → 
   walk_within : (t : ℕ) (ws : List Kept) (path : List ℕ) → walk_span types layouts m t ws path ≤ total (path_types types layouts m t ws path)
   walk_within t ws path =
       let first = own_within t in
-      let more = found_within (see layouts m t ws) (λ s. steps_span types layouts m 0 (arrived [] s) path) (λ s. types_from types layouts m 0 (arrived [] s) path)
-      (λ s. steps_within path 0 (arrived [] s)) in
+      let more = found_within (see layouts m t ws) (λ s. steps_span types layouts m 0 (where_at_root [] s) path) (λ s. types_from types layouts m 0 (where_at_root [] s) path)
+      (λ s. steps_within path 0 (where_at_root [] s)) in
       let sum : total (path_types types layouts m t ws path)
-      ≡ span layouts (Named t) + total (if_found (see layouts m t ws) (λ s. types_from types layouts m 0 (arrived [] s) path)) =
-      sum_by-cons (span layouts) (Named t) (if_found (see layouts m t ws) (λ s. types_from types layouts m 0 (arrived [] s) path)) in
+      ≡ span layouts (Named t) + total (if_found (see layouts m t ws) (λ s. types_from types layouts m 0 (where_at_root [] s) path)) =
+      sum_by-cons (span layouts) (Named t) (if_found (see layouts m t ws) (λ s. types_from types layouts m 0 (where_at_root [] s) path)) in
       omega (arith, first, more, sum)
 
 pub walks_are_short : WalksAreShort

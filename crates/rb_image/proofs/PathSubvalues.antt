@@ -17,7 +17,7 @@ use Rattle.rb_image.specs.Parts.{At}
 use Rattle.rb_image.specs.Paths.{HasNoPart, HasPathFault, IsEntered, IsKeptAt, IsOnPath, IsStep, part_bits, word_below, words_ahead, words_asked}
 use Rattle.rb_image.specs.Roots.{kept_from, root_at}
 use Rattle.rb_image.specs.Splits.{and_then, or_fault}
-use Rattle.rb_image.specs.Walks.{Waypoint, Where, arrived, layout_at, moved, open_data, see, settled, step, steps, end_of_path, words_on}
+use Rattle.rb_image.specs.Walks.{Waypoint, Where, where_at_root, layout_at, where_after_step, open_data, see, where_settled, step, steps, end_of_path, words_on}
 use Rattle.rb_image.specs.Ways.{refused_below}
 use Rattle.rb_image.specs.inner.Checking.{all_seen}
 use Rattle.rb_image.proofs.AskedLemmas.{fault_named}
@@ -44,14 +44,14 @@ module _ (types : List DataDecl) (layouts : List Layout) (image : Image) (t : �
     rest_of first rest w is here = sym (walked_on types layouts m t root first rest w here) ∙ ap (end_of_path types layouts m t root) (sym is) ∙ came
 
     -- the subvalues from which one goes on are among those that were passed
-    pub step_covered : (w : Where) (i : ℕ) (here : Position) → IsStep types layouts image t path w i here → Covers types layouts m (all_seen end) (moved w i here).last
+    pub step_covered : (w : Where) (i : ℕ) (here : Position) → IsStep types layouts image t path w i here → Covers types layouts m (all_seen end) (where_after_step w i here).last
     step_covered w i here s = step_kept types layouts m s.rest (length s.first) w i here end (rest_of s.first (i ∷ s.rest) w s.is_path s.is_here) s.is_field
 
     -- so are the subvalues on the path
     pub on_path_covered : (x : At) → IsOnPath types layouts image t path x → Entered types layouts m end x.ty x.words
     on_path_covered x (inl is) =
-        let r = then_ok (see layouts m t root) (λ s. steps types layouts m 0 (arrived [] s) path) end came in
-        let keeps = kept types layouts m path 0 (arrived [] r.0) end r.2 in
+        let r = then_ok (see layouts m t root) (λ s. steps types layouts m 0 (where_at_root [] s) path) end came in
+        let keeps = kept types layouts m path 0 (where_at_root [] r.0) end r.2 in
         subst (λ (y : At). Entered types layouts m end y.ty y.words) (sym is) (record { seen = r.0; is_seen = r.1; covers = keeps.last })
     on_path_covered x (inr e) =
         let s = e.is_step in
@@ -80,7 +80,7 @@ module _ (types : List DataDecl) (layouts : List Layout) (image : Image) (t : �
   abbrev AllLed : Where → Type 0
   AllLed w = (s : Waypoint) → In s (all_seen w) → IsLed s
 
-  led_moved : (w : Where) (i : ℕ) (here : Position) → IsStep types layouts image t path w i here → IsLed w.last → IsLed (moved w i here).last
+  led_moved : (w : Where) (i : ℕ) (here : Position) → IsStep types layouts image t path w i here → IsLed w.last → IsLed (where_after_step w i here).last
   led_moved w i here step led = (
     record { on_path = led.0.on_path; is_seen = led.0.is_seen },
     inr (elim led.1 [
@@ -126,7 +126,7 @@ module _ (types : List DataDecl) (layouts : List Layout) (image : Image) (t : �
   led_step first rest i w v is here led next s h =
       let r = stepped types layouts m (length first) w i v next in
       let is_step : IsStep types layouts image t path w i r.here = record { first = first; rest = rest; is_path = is; is_here = here; is_field = r.is_field } in
-      let u = moved w i r.here in
+      let u = where_after_step w i r.here in
       let led_last : IsLed u.last = led_moved w i r.here is_step (led w.last (in_right w.last w.before (w.last ∷ []) (inl refl))) in
       let led_before = λ (x : Waypoint) (g : In x w.before). led x (in_left x w.before (w.last ∷ []) g) in
       elim r.how [
@@ -134,7 +134,7 @@ module _ (types : List DataDecl) (layouts : List Layout) (image : Image) (t : �
           | inl a ↦ led_before s a
           | inr e ↦ subst IsLed (sym e) led_last
         ]
-        | inr enters ↦ elim (one_more (arrived (w.before ++ u.last ∷ []) enters.next) s (subst (λ (x : Where). In s (all_seen x)) enters.is h)) [
+        | inr enters ↦ elim (one_more (where_at_root (w.before ++ u.last ∷ []) enters.next) s (subst (λ (x : Where). In s (all_seen x)) enters.is h)) [
           | inl a ↦ elim (one_more u s a) [
             | inl b ↦ led_before s b
             | inr e ↦ subst IsLed (sym e) led_last
@@ -158,15 +158,15 @@ module _ (types : List DataDecl) (layouts : List Layout) (image : Image) (t : �
       led_steps rest (first ++ i ∷ []) r.0 end (further first rest i is) (walked_more types layouts m t root first i w r.0 here r.1) (led_step first rest i w r.0 is here led r.1)
       (ap (λ n. steps types layouts m n r.0 rest) (sym (longer first i)) ∙ r.2)
 
-  one_seen : (s x : Waypoint) → In x (all_seen (arrived [] s)) → x ≡ s
+  one_seen : (s x : Waypoint) → In x (all_seen (where_at_root [] s)) → x ≡ s
   one_seen s x (inl e) = e
   one_seen s x (inr h) = absurd h
 
   -- the subvalues that were passed are on the path
   pub passed_led : (end : Where) → Came path (Ok end) → (s : Waypoint) → In s (all_seen end) → IsLed s
   passed_led end came =
-      let r = then_ok (see layouts m t root) (λ s. steps types layouts m 0 (arrived [] s) path) end came in
-      led_steps path [] (arrived [] r.0) end refl (ap (λ (x : Sees). and_then x (λ s. steps types layouts m 0 (arrived [] s) [])) r.1)
+      let r = then_ok (see layouts m t root) (λ s. steps types layouts m 0 (where_at_root [] s) path) end came in
+      led_steps path [] (where_at_root [] r.0) end refl (ap (λ (x : Sees). and_then x (λ s. steps types layouts m 0 (where_at_root [] s) [])) r.1)
       (λ x h. subst IsLed (sym (one_seen r.0 x h)) (led_new t root r.0 (inl refl) r.1)) r.2
 
   -- Where the walk stops ---------------------------------------------------------------------
@@ -190,8 +190,8 @@ module _ (types : List DataDecl) (layouts : List Layout) (image : Image) (t : �
         })
 
     -- a pointer on the way to what comes next is refused
-    way_stops : (w : Where) (i : ℕ) (here : Position) → IsStep types layouts image t path w i here → IsGood (moved w i here).last → (fault : ImageFault)
-        → refused_below m (moved w i here).last.leaf (moved w i here).last.words (block_addresses m (moved w i here).last.leaf (moved w i here).last.words) (moved w i here).last.at (order_of (moved w i here).last.leaf) ≡ Some fault
+    way_stops : (w : Where) (i : ℕ) (here : Position) → IsStep types layouts image t path w i here → IsGood (where_after_step w i here).last → (fault : ImageFault)
+        → refused_below m (where_after_step w i here).last.leaf (where_after_step w i here).last.words (block_addresses m (where_after_step w i here).last.leaf (where_after_step w i here).last.words) (where_after_step w i here).last.at (order_of (where_after_step w i here).last.leaf) ≡ Some fault
         → Stops fault
     way_stops w i here is_step good fault e = elim (seen_leaf layouts m well s.ty s.words (record s { at = [] }) good.is_seen) [
       | inl leaf ↦
@@ -231,21 +231,21 @@ module _ (types : List DataDecl) (layouts : List Layout) (image : Image) (t : �
     ]
       where
         s : Waypoint
-        s = (moved w i here).last
+        s = (where_after_step w i here).last
 
-    settled_stops : (i : ℕ) (w : Where) (here : Position) → IsStep types layouts image t path w i here → IsGood (moved w i here).last → (o : Option ℕ) → open_data here ≡ o → (fault : ImageFault)
-        → ◌≡◌ {A = Walks} (settled layouts m (moved w i here) o) (Err fault) → Stops fault
+    settled_stops : (i : ℕ) (w : Where) (here : Position) → IsStep types layouts image t path w i here → IsGood (where_after_step w i here).last → (o : Option ℕ) → open_data here ≡ o → (fault : ImageFault)
+        → ◌≡◌ {A = Walks} (where_settled layouts m (where_after_step w i here) o) (Err fault) → Stops fault
     settled_stops i w here is_step good None opened fault e = absurd cc
     settled_stops i w here is_step good (Some ty) opened fault e = go (words_on layouts m u.last ty) refl e
       where
         u : Where
-        u = moved w i here
+        u = where_after_step w i here
 
         on : List Kept → Walks
-        on ws = and_then (see layouts m ty ws) (λ s. Ok (arrived (u.before ++ u.last ∷ []) s))
+        on ws = and_then (see layouts m ty ws) (λ s. Ok (where_at_root (u.before ++ u.last ∷ []) s))
 
         see_stops : (ws : List Kept) → ◌≡◌ {A = Finds} (words_on layouts m u.last ty) (Ok ws) → (r : Sees) → see layouts m ty ws ≡ r
-            → ◌≡◌ {A = Walks} (and_then r (λ s. Ok (arrived (u.before ++ u.last ∷ []) s))) (Err fault) → Stops fault
+            → ◌≡◌ {A = Walks} (and_then r (λ s. Ok (where_at_root (u.before ++ u.last ∷ []) s))) (Err fault) → Stops fault
         see_stops ws found (Ok s) is h = absurd cc
         see_stops ws found (Err f) is h =
             let entered : IsEntered types layouts image t path (record { ty = ty; words = ws }) =
@@ -261,7 +261,7 @@ module _ (types : List DataDecl) (layouts : List Layout) (image : Image) (t : �
     step_stops first rest i w is here led fault e = go (field_of types w.here.pat i) refl e
       where
         go : (o : Option Position) → field_of types w.here.pat i ≡ o
-            → ◌≡◌ {A = Walks} (and_then (or_fault o (NoSuchPart (length first))) (λ pos. settled layouts m (moved w i pos) (open_data pos))) (Err fault) → Stops fault
+            → ◌≡◌ {A = Walks} (and_then (or_fault o (NoSuchPart (length first))) (λ pos. where_settled layouts m (where_after_step w i pos) (open_data pos))) (Err fault) → Stops fault
         go None none h = inr (
           length first,
           sym (same_walk (NoSuchPart (length first)) fault h),
@@ -298,10 +298,10 @@ module _ (types : List DataDecl) (layouts : List Layout) (image : Image) (t : �
     pub walk_stops : (fault : ImageFault) → Came path (Err fault) → Stops fault
     walk_stops fault e = go (see layouts m t root) refl e
       where
-        go : (r : Sees) → see layouts m t root ≡ r → ◌≡◌ {A = Walks} (and_then r (λ s. steps types layouts m 0 (arrived [] s) path)) (Err fault) → Stops fault
+        go : (r : Sees) → see layouts m t root ≡ r → ◌≡◌ {A = Walks} (and_then r (λ s. steps types layouts m 0 (where_at_root [] s) path)) (Err fault) → Stops fault
         go (Err f) is h =
             let same : f ≡ fault = same_walk f fault h in
             splits_stop (root_at t image.root) (inl refl) fault (is ∙ ap (λ (x : ImageFault). Err x) same)
         go (Ok s) is h =
-            steps_stop path [] (arrived [] s) refl (ap (λ (x : Sees). and_then x (λ s. steps types layouts m 0 (arrived [] s) [])) is)
+            steps_stop path [] (where_at_root [] s) refl (ap (λ (x : Sees). and_then x (λ s. steps types layouts m 0 (where_at_root [] s) [])) is)
             (λ x g. subst IsLed (sym (one_seen s x g)) (led_new t root s (inl refl) is)) fault h

@@ -10,7 +10,7 @@ use Rattle.rb_image_text.specs.declared.image.ImageBlock.{ImageBlock}
 use Rattle.rb_image.specs.declared.kept.Kept.{Kept}
 use Rattle.rb_image.specs.Fields.{Position, field_of}
 use Rattle.rb_image.specs.Splits.{and_then, leaf_at, or_fault}
-use Rattle.rb_image.specs.Walks.{Waypoint, Where, arrived, layout_at, leaf_or_none, moved, open_data, see, settled, step, steps, unless, end_of_path, words_on}
+use Rattle.rb_image.specs.Walks.{Waypoint, Where, where_at_root, layout_at, leaf_or_none, where_after_step, open_data, see, where_settled, step, steps, unless, end_of_path, words_on}
 use Rattle.rb_image.specs.inner.Checking.{all_seen}
 use Rattle.rb_image.proofs.ExaminedParts.{then_ok}
 use Rattle.rb_image.proofs.FallLemmas.{same_Ok}
@@ -67,16 +67,16 @@ module _ (types : List DataDecl) (layouts : List Layout) (m : List ImageBlock) w
   -- a step ends inside the leaf, or at a subvalue that it enters
   pub record IsInside (w : Where) (i : ℕ) (v : Where) (here : Position) : Type 0 where
     pub closed : open_data here ≡ None
-    pub is : v ≡ moved w i here
+    pub is : v ≡ where_after_step w i here
 
   pub record Enters (w : Where) (i : ℕ) (v : Where) (here : Position) : Type 0 where
     pub ty : ℕ
     pub words : List Kept
     pub next : Waypoint
     pub is_data : open_data here ≡ Some ty
-    pub is_words : ◌≡◌ {A = Finds} (words_on layouts m (moved w i here).last ty) (Ok words)
+    pub is_words : ◌≡◌ {A = Finds} (words_on layouts m (where_after_step w i here).last ty) (Ok words)
     pub is_next : ◌≡◌ {A = Sees} (see layouts m ty words) (Ok next)
-    pub is : v ≡ arrived (w.before ++ (moved w i here).last ∷ []) next
+    pub is : v ≡ where_at_root (w.before ++ (where_after_step w i here).last ∷ []) next
 
   pub record Stepped (w : Where) (i : ℕ) (v : Where) : Type 0 where
     pub here : Position
@@ -84,8 +84,8 @@ module _ (types : List DataDecl) (layouts : List Layout) (m : List ImageBlock) w
     pub how : IsInside w i v here ⊎ Enters w i v here
 
   settled_is : (w : Where) (i : ℕ) (v : Where) (here : Position) (o : Option ℕ) → open_data here ≡ o
-      → ◌≡◌ {A = Walks} (settled layouts m (moved w i here) o) (Ok v) → IsInside w i v here ⊎ Enters w i v here
-  settled_is w i v here None is e = inl (record { closed = is; is = sym (same_Ok (moved w i here) v e) })
+      → ◌≡◌ {A = Walks} (where_settled layouts m (where_after_step w i here) o) (Ok v) → IsInside w i v here ⊎ Enters w i v here
+  settled_is w i v here None is e = inl (record { closed = is; is = sym (same_Ok (where_after_step w i here) v e) })
   settled_is w i v here (Some t) is e =
       let a = then_ok (words_on layouts m u.last t) (λ ws. and_then (see layouts m t ws) on) v e in
       let b = then_ok (see layouts m t a.0) on v a.2 in
@@ -96,18 +96,18 @@ module _ (types : List DataDecl) (layouts : List Layout) (m : List ImageBlock) w
         is_data = is;
         is_words = a.1;
         is_next = b.1;
-        is = sym (same_Ok (arrived (u.before ++ u.last ∷ []) b.0) v b.2);
+        is = sym (same_Ok (where_at_root (u.before ++ u.last ∷ []) b.0) v b.2);
       })
     where
       u : Where
-      u = moved w i here
+      u = where_after_step w i here
 
       on : Waypoint → Walks
-      on s = Ok (arrived (u.before ++ u.last ∷ []) s)
+      on s = Ok (where_at_root (u.before ++ u.last ∷ []) s)
 
   pub stepped : (k : ℕ) (w : Where) (i : ℕ) (v : Where) → ◌≡◌ {A = Walks} (step types layouts m k w i) (Ok v) → Stepped w i v
   stepped k w i v e =
-      let r = then_ok (or_fault (field_of types w.here.pat i) (NoSuchPart k)) (λ pos. settled layouts m (moved w i pos) (open_data pos)) v e in
+      let r = then_ok (or_fault (field_of types w.here.pat i) (NoSuchPart k)) (λ pos. where_settled layouts m (where_after_step w i pos) (open_data pos)) v e in
       record { here = r.0; is_field = field_found (field_of types w.here.pat i) (NoSuchPart k) r.0 r.1; how = settled_is w i v r.0 (open_data r.0) refl r.2 }
 
   steps_append : (first rest : List ℕ) (k : ℕ) (w : Where)
@@ -129,12 +129,12 @@ module _ (types : List DataDecl) (layouts : List Layout) (m : List ImageBlock) w
       → ◌≡◌ {A = Walks} (end_of_path types layouts m t ws (first ++ rest)) (steps types layouts m (length first) w rest)
   walked_on t ws first rest w e = go (see layouts m t ws) e
     where
-      go : (r : Sees) → ◌≡◌ {A = Walks} (and_then r (λ s. steps types layouts m 0 (arrived [] s) first)) (Ok w)
-          → ◌≡◌ {A = Walks} (and_then r (λ s. steps types layouts m 0 (arrived [] s) (first ++ rest))) (steps types layouts m (length first) w rest)
+      go : (r : Sees) → ◌≡◌ {A = Walks} (and_then r (λ s. steps types layouts m 0 (where_at_root [] s) first)) (Ok w)
+          → ◌≡◌ {A = Walks} (and_then r (λ s. steps types layouts m 0 (where_at_root [] s) (first ++ rest))) (steps types layouts m (length first) w rest)
       go (Err fault) h = absurd cc
       go (Ok s) h =
           let z : 0 + length first ≡ length first = omega arith in
-          steps_append first rest 0 (arrived [] s) ∙ ap (λ (r : Walks). and_then r (λ v. steps types layouts m (0 + length first) v rest)) h
+          steps_append first rest 0 (where_at_root [] s) ∙ ap (λ (r : Walks). and_then r (λ v. steps types layouts m (0 + length first) v rest)) h
           ∙ ap (λ n. steps types layouts m n w rest) z
 
   -- by one step
@@ -175,7 +175,7 @@ module _ (types : List DataDecl) (layouts : List Layout) (m : List ImageBlock) w
       let keeps = kept rest (k + 1) r.0 end r.2 in
       elim s.how [
         | inl inside ↦
-            let after : Keeps (moved w i s.here) end = subst (λ v. Keeps v end) inside.is keeps in
+            let after : Keeps (where_after_step w i s.here) end = subst (λ v. Keeps v end) inside.is keeps in
             record {
               last = record {
                 more = i ∷ after.last.more;
@@ -186,8 +186,8 @@ module _ (types : List DataDecl) (layouts : List Layout) (m : List ImageBlock) w
               before = after.before;
             }
         | inr enters ↦
-            let after : Keeps (arrived (w.before ++ (moved w i s.here).last ∷ []) enters.next) end = subst (λ v. Keeps v end) enters.is keeps in
-            let passed = (moved w i s.here).last in
+            let after : Keeps (where_at_root (w.before ++ (where_after_step w i s.here).last ∷ []) enters.next) end = subst (λ v. Keeps v end) enters.is keeps in
+            let passed = (where_after_step w i s.here).last in
             record {
               last = record { more = i ∷ []; found = passed; there = after.before passed (in_right passed w.before (passed ∷ []) (inl refl)); is = refl };
               before = λ x h. after.before x (in_left x w.before (passed ∷ []) h);
@@ -196,17 +196,17 @@ module _ (types : List DataDecl) (layouts : List Layout) (m : List ImageBlock) w
 
   -- the subvalue from whose leaf a step goes on
   pub step_kept : (rest : List ℕ) (k : ℕ) (w : Where) (i : ℕ) (here : Position) (end : Where) → ◌≡◌ {A = Walks} (steps types layouts m k w (i ∷ rest)) (Ok end)
-      → field_of types w.here.pat i ≡ Some here → Covers (all_seen end) (moved w i here).last
+      → field_of types w.here.pat i ≡ Some here → Covers (all_seen end) (where_after_step w i here).last
   step_kept rest k w i here end e field =
       let r = then_ok (step types layouts m k w i) (λ v. steps types layouts m (k + 1) v rest) end e in
       let s = stepped k w i r.0 r.1 in
       let keeps = kept rest (k + 1) r.0 end r.2 in
       let same : s.here ≡ here = same_Some s.here here (sym s.is_field ∙ field) in
-      subst (λ (p : Position). Covers (all_seen end) (moved w i p).last) same (elim s.how [
+      subst (λ (p : Position). Covers (all_seen end) (where_after_step w i p).last) same (elim s.how [
         | inl inside ↦ (subst (λ v. Keeps v end) inside.is keeps).last
         | inr enters ↦
-            let after : Keeps (arrived (w.before ++ (moved w i s.here).last ∷ []) enters.next) end = subst (λ v. Keeps v end) enters.is keeps in
-            let passed = (moved w i s.here).last in
+            let after : Keeps (where_at_root (w.before ++ (where_after_step w i s.here).last ∷ []) enters.next) end = subst (λ v. Keeps v end) enters.is keeps in
+            let passed = (where_after_step w i s.here).last in
             covered (all_seen end) passed (after.before passed (in_right passed w.before (passed ∷ []) (inl refl)))
       ])
 
@@ -218,7 +218,7 @@ module _ (types : List DataDecl) (layouts : List Layout) (m : List ImageBlock) w
 
   pub step_enters : (rest : List ℕ) (k : ℕ) (w : Where) (i : ℕ) (here : Position) (end : Where) (t : ℕ) (ws : List Kept)
       → ◌≡◌ {A = Walks} (steps types layouts m k w (i ∷ rest)) (Ok end) → field_of types w.here.pat i ≡ Some here → open_data here ≡ Some t
-      → ◌≡◌ {A = Finds} (words_on layouts m (moved w i here).last t) (Ok ws) → Entered end t ws
+      → ◌≡◌ {A = Finds} (words_on layouts m (where_after_step w i here).last t) (Ok ws) → Entered end t ws
   step_enters rest k w i here end t ws e field opened words =
       let r = then_ok (step types layouts m k w i) (λ v. steps types layouts m (k + 1) v rest) end e in
       let s = stepped k w i r.0 r.1 in
@@ -229,7 +229,7 @@ module _ (types : List DataDecl) (layouts : List Layout) (m : List ImageBlock) w
         | inr enters ↦
             let same_ty : enters.ty ≡ t = same_Some enters.ty t (sym enters.is_data ∙ ap open_data same ∙ opened) in
             let same_words : enters.words ≡ ws = same_Ok enters.words ws
-            (sym enters.is_words ∙ ap (λ (p : Position). words_on layouts m (moved w i p).last enters.ty) same ∙ ap (words_on layouts m (moved w i here).last) same_ty ∙ words) in
+            (sym enters.is_words ∙ ap (λ (p : Position). words_on layouts m (where_after_step w i p).last enters.ty) same ∙ ap (words_on layouts m (where_after_step w i here).last) same_ty ∙ words) in
             record {
               seen = enters.next;
               is_seen = ap (λ n. see layouts m n ws) (sym same_ty) ∙ ap (see layouts m enters.ty) (sym same_words) ∙ enters.is_next;

@@ -2,6 +2,7 @@
 use Rattle.std.proofs.Common.{◌≡◌, ℕ, ◌||◌, ◌&&◌, nat_eq, Bool, true, false, List, [], ◌∷◌, ◌++◌, refl, sym, ap, ◌∙◌, arith}
 use Rattle.std.specs.Prelude.{if◌then◌else◌}
 use Rattle.std.specs.List.{list_any}
+use Rattle.std.proofs.lemmas.Bool.{and_parts}
 use Rattle.std.proofs.lemmas.List.Folds.{list_any-append}
 use Rattle.std.proofs.lemmas.Grind.{common_steps}
 use Rattle.rb_image.specs.declared.kept.Kept.{Kept}
@@ -19,11 +20,6 @@ or_false false = refl
 same_nat : (a b : ℕ) → nat_eq a b ≡ true → a ≡ b
 same_nat a b e = grind (arith, common_steps)
 
-both : (a b : Bool) → (a && b) ≡ true → (a ≡ true) × (b ≡ true)
-both true true e = (refl, refl)
-both true false e = absurd cc
-both false b e = absurd cc
-
 abbrev is_at : ℕ → ℕ → WordAt → Bool
 is_at base place w = nat_eq base w.base && nat_eq place w.place
 
@@ -34,7 +30,7 @@ test_any (k ∷ ks) test other same = ap (λ b. b || list_any test ks) (same k) 
 -- a word at this place is among the keys where the word is that it has
 same_place : (ks : List WordAt) (v : WordAt) (base place : ℕ) → is_at base place v ≡ true → has_word ks base place ≡ list_any (is_at v.base v.place) ks
 same_place ks v base place e =
-    let b = both (nat_eq base v.base) (nat_eq place v.place) e in
+    let b = and_parts (nat_eq base v.base) (nat_eq place v.place) e in
     ap (λ n. has_word ks n place) (same_nat base v.base b.0) ∙ ap (has_word ks v.base) (same_nat place v.place b.1)
 
 -- the keys with one more

@@ -4,6 +4,7 @@ use Rattle.std.specs.Prelude.{◌⊎◌, if◌then◌else◌}
 use Rattle.std.specs.List.{flat_map, list_any, starts_with}
 use Rattle.std.proofs.lemmas.Grind.{common_steps}
 use Rattle.std.specs.Option.{option_or}
+use Rattle.std.proofs.lemmas.Bool.{and_parts}
 use Rattle.rb_core.specs.declared.types.DataDecl.{DataDecl}
 use Rattle.rb_layout.specs.declared.layout.Kind.{Kind}
 use Rattle.rb_layout.specs.declared.layout.Kind.TheVariants.{Const, Bits, Word, Pointer}
@@ -18,7 +19,7 @@ use Rattle.rb_image.specs.Orders.{LocatedPart, pointed_parts, block_order, order
 use Rattle.rb_image.specs.Parts.{At, bits_at}
 use Rattle.rb_image.specs.Paths.{HasPathFault, IsKeptAt, IsOnPath, IsPathWord, is_there, part_bits, part_fault, words_ahead, words_asked, word_below, words_below}
 use Rattle.rb_image.specs.Roots.{kept_from}
-use Rattle.rb_image.specs.Walks.{Waypoint, Where, moved}
+use Rattle.rb_image.specs.Walks.{Waypoint, Where, where_after_step}
 use Rattle.rb_image.specs.Ways.{is_below, leads_below}
 use Rattle.rb_image.specs.inner.Checking.{all_seen, fault_among, fault_at, fault_of_seen, fault_seen, first_ahead, is_kept_at, leads_there, words_of_path, words_seen}
 use Rattle.rb_image.proofs.FallLemmas.{same_Ok}
@@ -28,10 +29,6 @@ use Rattle.rb_image.proofs.PathWalks.{Covers, Sees, see_is}
 use Rattle.rb_image.proofs.SpotLemmas.{In, flat_map_in, get_in, in_append, in_flat_map, in_get, in_left, in_right}
 
 -- Members ------------------------------------------------------------------------------------
-both : (a b : Bool) → (a && b) ≡ true → (a ≡ true) × (b ≡ true)
-both true true e = (refl, refl)
-both true false e = absurd cc
-both false b e = absurd cc
 
 and_true : (a b : Bool) → a ≡ true → b ≡ true → (a && b) ≡ true
 and_true true b x y = y
@@ -64,13 +61,13 @@ is_kept ks base place s =
 kept_is : (ks : List Kept) (base place : ℕ) → is_kept_at ks base place ≡ true → Stands ks base place
 kept_is ks base place e =
     let r = in_any (λ (k : Kept). nat_eq base k.base && nat_eq place k.place) ks e in
-    let b = both (nat_eq base r.0.base) (nat_eq place r.0.place) r.2 in
+    let b = and_parts (nat_eq base r.0.base) (nat_eq place r.0.place) r.2 in
     record { word = r.0; there = r.1; is_base = same_nat base r.0.base b.0; is_place = same_nat place r.0.place b.1 }
 
 -- The first field of a path ------------------------------------------------------------------
 first_field : (own : List ℕ) (i : ℕ) (path : List ℕ) → starts_with nat_eq own (i ∷ path) ≡ true → starts_with nat_eq own (i ∷ []) ≡ true
 first_field [] i path e = absurd cc
-first_field (x ∷ own) i path e = and_true (nat_eq i x) true (both (nat_eq i x) _ e).0 refl
+first_field (x ∷ own) i path e = and_true (nat_eq i x) true (and_parts (nat_eq i x) _ e).0 refl
 
 below_first : (i : ℕ) (path : List ℕ) (kind : Kind) → is_below (i ∷ path) kind ≡ true → is_below (i ∷ []) kind ≡ true
 below_first i path (Const c) e = e
@@ -109,7 +106,7 @@ module _ (m : List ImageBlock) (leaf : Leaf) (ws : List Kept) (ats : List ℕ) w
     where
       go : (b : Bool) → leads_there leaf ats (i ∷ path) s ≡ b → In k (if b then bits_at m ws ats s ∷ [] else []) → In k (word_below m leaf ws ats (i ∷ []) s)
       go true is g =
-          let b = both (is_there ats s.block) (leads_below leaf (i ∷ path) s.part.kind) is in
+          let b = and_parts (is_there ats s.block) (leads_below leaf (i ∷ path) s.part.kind) is in
           let leads : leads_there leaf ats (i ∷ []) s ≡ true =
           and_true (is_there ats s.block) (leads_below leaf (i ∷ []) s.part.kind) b.0 (leads_first leaf i path s.part.kind b.1) in
           subst (λ (t : Bool). In k (if t then bits_at m ws ats s ∷ [] else [])) (sym leads) g
@@ -144,7 +141,7 @@ module _ (on : ℕ → ℕ → Bool) (m : List ImageBlock) where
       bits = bits_at m ws ats s
 
       go : (b : Bool) → (is_there ats s.block && on bits.base bits.place) ≡ b → (if b then part_fault m leaf bits s.part.kind else None) ≡ Some fault → BadAmong leaf ws ats (s ∷ ss) fault
-      go true is h = let x = both (is_there ats s.block) (on bits.base bits.place) is in record { part = s; there = inl refl; is_read = x.0; is_on = x.1; is_fault = h }
+      go true is h = let x = and_parts (is_there ats s.block) (on bits.base bits.place) is in record { part = s; there = inl refl; is_read = x.0; is_on = x.1; is_fault = h }
       go false is h = absurd cc
 
   bad_among : (leaf : Leaf) (ws : List Kept) (ats : List ℕ) (ss : List LocatedPart) (fault : ImageFault) → fault_among on m leaf ws ats ss ≡ Some fault → BadAmong leaf ws ats ss fault
@@ -228,7 +225,7 @@ module _ (types : List DataDecl) (layouts : List Layout) (image : Image) (t : �
       move (words_asked layouts m x) base place asked.2 (λ k h. seen_in c.found k c.there
       (in_left k (words_asked layouts m (record { ty = c.found.ty; words = c.found.words })) (first_ahead m c.found c.found.at) (subst (λ (y : At). In k (words_asked layouts m y)) (sym same) h)))
   word_gathered base place (inr (inr p)) =
-      let s = (moved p.before p.field p.here).last in
+      let s = (where_after_step p.before p.field p.here).last in
       let c = step_covered types layouts image t path end came p.before p.field p.here p.is_step in
       let b = begins p.before.last.at p.field in
       move (words_ahead m s) base place p.is_kept (λ k h. seen_in c.found k c.there
@@ -253,7 +250,7 @@ module _ (types : List DataDecl) (layouts : List Layout) (image : Image) (t : �
               | inr g ↦ elim led.1 [
                 | inl none ↦ absurd (subst (λ (p : List ℕ). In s.word (first_ahead m x p)) none g)
                 | inr b ↦
-                    let passed = (moved b.before b.field b.here).last in
+                    let passed = (where_after_step b.before b.field b.here).last in
                     let to : In s.word (words_ahead m (record x { at = b.field ∷ [] })) = subst (λ (p : List ℕ). In s.word (first_ahead m x p)) b.is_path g in
                     let same : passed ≡ record x { at = b.field ∷ [] } = ap (λ (y : Waypoint). record y { at = y.at ++ b.field ∷ [] }) b.is_last in
                     inr (inr (record {

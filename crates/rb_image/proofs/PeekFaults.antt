@@ -22,10 +22,10 @@ use Rattle.rb_image.specs.LeafWords.{block_addresses}
 use Rattle.rb_image.specs.Orders.{LocatedPart, order_of}
 use Rattle.rb_image.specs.Paths.{IsCome, IsKeptAt, IsPathWord, is_there, part_bits, word_below, words_ahead}
 use Rattle.rb_image.specs.Peeking.{end_words, words_there}
-use Rattle.rb_image.specs.Rebuilds.{end_of, rebuilt, unless_refused}
+use Rattle.rb_image.specs.Rebuilds.{end_of, rebuilt_words, unless_refused}
 use Rattle.rb_image.specs.Roots.{WordsFit, kept_from, widths_of}
 use Rattle.rb_image.specs.Splits.{or_fault}
-use Rattle.rb_image.specs.Walks.{Waypoint, Where, moved}
+use Rattle.rb_image.specs.Walks.{Waypoint, Where, where_after_step}
 use Rattle.rb_image.specs.Ways.{fault_of, is_below, leads_below, refusal_of, refused_below}
 use Rattle.rb_image.proofs.LeafLemmas.{some_words}
 use Rattle.rb_image.proofs.PathAnswers.{root_long}
@@ -90,7 +90,7 @@ module _ (types : List DataDecl) (layouts : List Layout) (image : Image) (t : �
           let ahead : In k (words_ahead m s) = flat_map_in (word_below m s.leaf s.words (block_addresses m s.leaf s.words) s.at) k part (order_of s.leaf) there below in
           let longer : In k (words_ahead m (record s { at = b.field ∷ b.more })) = subst (λ (p : List ℕ). In k (words_ahead m (record s { at = p }))) b.is_path ahead in
           let first : In k (words_ahead m (record s { at = b.field ∷ [] })) = words_first m s.leaf s.words (block_addresses m s.leaf s.words) b.field b.more k longer in
-          let passed = (moved b.before b.field b.here).last in
+          let passed = (where_after_step b.before b.field b.here).last in
           let same : passed ≡ record s { at = b.field ∷ [] } = ap (λ (y : Waypoint). record y { at = y.at ++ b.field ∷ [] }) b.is_last in
           let g = in_get k (words_ahead m passed) (subst (λ (y : Waypoint). In k (words_ahead m y)) (sym same) first) in
           inr (inr (record {
@@ -117,7 +117,7 @@ module _ (types : List DataDecl) (layouts : List Layout) (image : Image) (t : �
       is_fault : refusal_of m s.leaf (part_bits m s part) part.part.kind ≡ Some f
 
     -- what stands at the end inside a leaf
-    inside_told : (i : ℕ) (at : List ℕ) → s.at ≡ i ∷ at → (fault : ImageFault) → ◌≡◌ {A = Words} (rebuilt types layouts m w) (Err fault) → IsTold On none_on fault
+    inside_told : (i : ℕ) (at : List ℕ) → s.at ≡ i ∷ at → (fault : ImageFault) → ◌≡◌ {A = Words} (rebuilt_words types layouts m w) (Err fault) → IsTold On none_on fault
     inside_told i at is fault e = elim (seen_leaf layouts m well s.ty s.words (record s { at = [] }) led.0.is_seen) [
       | inl leaf ↦ turn (λ f g. (let x = first_is m placed s.leaf leaf.flat leaf.once leaf.low s.words s.at f g in record { part = x.part; there = x.there; leads = x.leads; is_read = x.is_read; is_fault = x.is_fault })) (λ none part h below. all_there m placed s.leaf leaf.flat leaf.once leaf.low s.words s.at none part h below) refused refl e
       | inr none ↦ turn (λ f g. absurd (no_refusal m s none f g)) (λ free part h below. absurd (subst (In part) none h)) refused refl e

@@ -15,6 +15,7 @@ use Rattle.rb_core.specs.declared.layout_decl.PartKind as K
 use Rattle.rb_core.specs.declared.layout_decl.PartDecl.{PartDecl}
 use Rattle.rb_core.specs.declared.layout_decl.LayoutDecl.{LayoutDecl}
 use Rattle.rb_core.specs.Layouts.{WrittenLeaf}
+use Rattle.rb_core.proofs.LayoutInduction.{item-induction}
 use Rattle.rb_layout.specs.declared.layout.Block.{Block}
 use Rattle.rb_layout.specs.declared.layout.FlatWord.{FlatWord}
 use Rattle.rb_layout.specs.declared.layout.Leaf.{Leaf}
@@ -27,7 +28,6 @@ use Rattle.rb_layout.specs.Flattening.{Laying, in_turn, item_laid, kind_laid, pa
 use Rattle.rb_layout.proofs.Blocks.{get_left, get_right, kinds_of, word_kinds}
 use Rattle.rb_layout.proofs.Computing.{word_laid, inline_laid, const_laid, whole_laid, slice_laid, word_of_laid, pointer_laid, part_laid_is}
 use Rattle.rb_layout.proofs.FlatForms.{Each}
-use Rattle.rb_layout.proofs.WrittenForms.{item-induction}
 use Rattle.rb_image.specs.Orders.{LocatedPart, beginning_at, beginning_from, pointed_parts, block_order, by_offset, order_of, with_inner, word_order, words_order}
 
 -- Counting -----------------------------------------------------------------------------------

@@ -2,6 +2,7 @@
 use Rattle.std.proofs.Common.{◌≡◌, ℕ, zero, suc, ◌+◌, ◌==◌, ◌&&◌, ◌*◌, nat_eq, inl, inr, Bool, true, false, List, [], ◌∷◌, ◌++◌, length, map, replicate, Option, Some, None, Result, Ok, Err, refl, sym, subst, ap, ◌∙◌, arith}
 use Rattle.std.specs.Prelude.{◌⊎◌, slice_get, slice_set, if◌then◌else◌}
 use Rattle.std.specs.List.{starts_with}
+use Rattle.std.proofs.lemmas.Bool.{and_parts}
 use Rattle.std.proofs.lemmas.Grind.{common_steps}
 use Rattle.std.proofs.lemmas.Option.{same_Some}
 use Rattle.rb_core.specs.declared.layout_decl.Loc.{Loc}
@@ -35,7 +36,7 @@ use Rattle.rb_image.specs.Fields.{Position, field_of}
 use Rattle.rb_image.specs.Orders.{LocatedPart, order_of}
 use Rattle.rb_image.specs.Parts.{addresses_of, bits_at, block_from, block_size, examine, examine_kind, examine_part, field_word, field_words, pointer_lead, is_field_word, kept_at}
 use Rattle.rb_image.specs.Paths.{Names}
-use Rattle.rb_image.specs.Rebuilds.{Matching, Rebuilding, leaf_chosen, data_words, fields_at, match_con, match_field, match_fields, match_step, matches, or_later, words_of_leaf, rebuilt_within, same_con, words_along, words_at}
+use Rattle.rb_image.specs.Rebuilds.{Matching, Rebuilding, leaf_chosen, data_words, fields_at, match_con, match_field, match_fields, match_step, matches, or_later, words_of_leaf, rebuilding_within, same_con, words_along, words_at}
 use Rattle.rb_image.specs.Splits.{and_then, kept_in, leaf_at, or_fault, pointed_from, range_at, range_from, range_of, step_over, word_at}
 use Rattle.rb_image.specs.Views.{LeafPosition, along, down, down_to, from_root, settled_at, settled_here, step_down, taken_apart, words_here}
 use Rattle.rb_image.specs.Walks.{layout_at, leaf_or_none, open_data}
@@ -47,10 +48,6 @@ use Rattle.rb_image.proofs.SpotLemmas.{In}
 use Rattle.rb_image.proofs.WalkLemmas.{leaf_walk, split_fault, split_turn}
 
 -- Paths --------------------------------------------------------------------------------------
-both : (a b : Bool) → (a && b) ≡ true → (a ≡ true) × (b ≡ true)
-both true true e = (refl, refl)
-both true false e = absurd cc
-both false b e = absurd cc
 
 and_true : (a b : Bool) → a ≡ true → b ≡ true → (a && b) ≡ true
 and_true true b x y = y
@@ -68,7 +65,7 @@ starts_same [] [] e = refl
 starts_same [] (y ∷ path) e = absurd cc
 starts_same (x ∷ own) [] e = absurd cc
 starts_same (x ∷ own) (y ∷ path) e =
-    let b = both (x == y) (same_path own path) e in
+    let b = and_parts (x == y) (same_path own path) e in
     and_true (nat_eq y x) (starts_with nat_eq own path) (equal_same x y b.0) (starts_same own path b.1)
 
 -- what begins with a longer path begins with the shorter
@@ -76,7 +73,7 @@ starts_less : (own path more : List ℕ) → starts_with nat_eq own (path ++ mor
 starts_less own [] more e = refl
 starts_less [] (y ∷ path) more e = absurd cc
 starts_less (x ∷ own) (y ∷ path) more e =
-    let b = both (nat_eq y x) (starts_with nat_eq own (path ++ more)) e in
+    let b = and_parts (nat_eq y x) (starts_with nat_eq own (path ++ more)) e in
     and_true (nat_eq y x) (starts_with nat_eq own path) b.0 (starts_less own path more b.1)
 
 below_less : (path more : List ℕ) (kind : Kind) → is_below (path ++ more) kind ≡ true → is_below path kind ≡ true
@@ -88,7 +85,7 @@ below_less path more (Pointer align b) e = absurd cc
 holds_below : (path : List ℕ) (j : ℕ) (kind : Kind) → is_field_word kind path j ≡ true → is_below path kind ≡ true
 holds_below path j (Const c) e = absurd cc
 holds_below path j (Bits own a) e = absurd cc
-holds_below path j (Word own i) e = starts_same own path (both (same_path own path) (i == j) e).0
+holds_below path j (Word own i) e = starts_same own path (and_parts (same_path own path) (i == j) e).0
 holds_below path j (Pointer align b) e = absurd cc
 
 same_err : {A : Type 0} (a b : ImageFault) → ◌≡◌ {A = Result A ImageFault} (Err a) (Err b) → a ≡ b
@@ -493,23 +490,23 @@ module _ (On : ℕ → ℕ → Type 0) (none_on : On 0 0) where
           first (Err g) is h more = along_told x on o.path f (is ∙ ap (λ z. Err z) (same_err {A = List FieldWords} g f h))
           first (Ok ws) is h more = rest ws (fields_at types layouts m go x os) refl h more
 
-    rebuild_told : (n : ℕ) → RebuildTells (rebuilt_within types layouts m n)
+    rebuild_told : (n : ℕ) → RebuildTells (rebuilding_within types layouts m n)
     rebuild_told zero t x on f e = inr (sym (same_err {A = List ℕ} Memory f e))
     rebuild_told (suc n) t x on f e = first (leaf_chosen types layouts m (layout_at layouts t).leaves x) refl e (rebuild_told n)
       where
-        rest : (leaf : L.Leaf) → RebuildTells (rebuilt_within types layouts m n) → (r : Result (List FieldWords) ImageFault)
-            → ◌≡◌ {A = Result (List FieldWords) ImageFault} (fields_at types layouts m (rebuilt_within types layouts m n) x (open_positions types leaf.prov)) r
+        rest : (leaf : L.Leaf) → RebuildTells (rebuilding_within types layouts m n) → (r : Result (List FieldWords) ImageFault)
+            → ◌≡◌ {A = Result (List FieldWords) ImageFault} (fields_at types layouts m (rebuilding_within types layouts m n) x (open_positions types leaf.prov)) r
             → ◌≡◌ {A = Words} (and_then r (λ fields. Ok (words_of_leaf leaf fields))) (Err f) → IsTold f
         rest leaf tells (Err g) is h =
-            fields_told (rebuilt_within types layouts m n) tells (open_positions types leaf.prov) x on f (is ∙ ap (λ z. Err z) (same_err {A = List ℕ} g f h))
+            fields_told (rebuilding_within types layouts m n) tells (open_positions types leaf.prov) x on f (is ∙ ap (λ z. Err z) (same_err {A = List ℕ} g f h))
         rest leaf tells (Ok fields) is h = absurd cc
 
         first : (r : Chosen) → ◌≡◌ {A = Chosen} (leaf_chosen types layouts m (layout_at layouts t).leaves x) r
-            → ◌≡◌ {A = Words} (and_then r (λ leaf. and_then (fields_at types layouts m (rebuilt_within types layouts m n) x (open_positions types leaf.prov)) (λ fields. Ok (words_of_leaf leaf fields)))) (Err f)
-            → RebuildTells (rebuilt_within types layouts m n) → IsTold f
+            → ◌≡◌ {A = Words} (and_then r (λ leaf. and_then (fields_at types layouts m (rebuilding_within types layouts m n) x (open_positions types leaf.prov)) (λ fields. Ok (words_of_leaf leaf fields)))) (Err f)
+            → RebuildTells (rebuilding_within types layouts m n) → IsTold f
         first (Err g) is h tells = chosen_told (layout_at layouts t).leaves x on f (is ∙ ap (λ z. Err z) (same_err {A = List ℕ} g f h))
-        first (Ok leaf) is h tells = rest leaf tells (fields_at types layouts m (rebuilt_within types layouts m n) x (open_positions types leaf.prov)) refl h
+        first (Ok leaf) is h tells = rest leaf tells (fields_at types layouts m (rebuilding_within types layouts m n) x (open_positions types leaf.prov)) refl h
 
     -- what stands at a position in words on the path has its faults there
-    pub position_told : (x : LeafPosition) → AllOn x → (f : ImageFault) → ◌≡◌ {A = Words} (words_at types layouts m (rebuilt_within types layouts m (length layouts)) x.here.ty x) (Err f) → IsTold f
-    position_told x on f e = words_told (rebuilt_within types layouts m (length layouts)) (rebuild_told (length layouts)) x.here.ty x on f e
+    pub position_told : (x : LeafPosition) → AllOn x → (f : ImageFault) → ◌≡◌ {A = Words} (words_at types layouts m (rebuilding_within types layouts m (length layouts)) x.here.ty x) (Err f) → IsTold f
+    position_told x on f e = words_told (rebuilding_within types layouts m (length layouts)) (rebuild_told (length layouts)) x.here.ty x on f e

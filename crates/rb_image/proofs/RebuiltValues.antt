@@ -33,7 +33,7 @@ use Rattle.rb_image_text.specs.declared.fault.ImageFault.{ImageFault}
 use Rattle.rb_image_text.specs.declared.fault.ImageFault.TheVariants.{Memory as NoMemory}
 use Rattle.rb_image_text.specs.declared.image.ImageBlock.{ImageBlock}
 use Rattle.rb_image.specs.declared.pack.FieldWords.{FieldWords}
-use Rattle.rb_image.specs.Rebuilds.{leaf_chosen, data_words, fields_at, words_of_leaf, rebuilt_within, words_along, words_at, words_at_path}
+use Rattle.rb_image.specs.Rebuilds.{leaf_chosen, data_words, fields_at, words_of_leaf, rebuilding_within, words_along, words_at, words_at_path}
 use Rattle.rb_image.specs.RebuiltValues.{AreRight, RebuiltWordsRepresent, ValueStands, is_numberless, plain_step}
 use Rattle.rb_image.specs.Splits.{and_then}
 use Rattle.rb_image.specs.TakenApart.{open_words}
@@ -61,7 +61,7 @@ module _ (p : Program) (typed : IsTyped p) (agrees : Agrees p) (m : Memory) (goo
   Right ty v r = AreRight p m blocks ty v r
 
   abbrev rebuilt : ℕ → ℕ → LeafPosition → Result (List ℕ) ImageFault
-  rebuilt n = rebuilt_within types layouts blocks n
+  rebuilt n = rebuilding_within types layouts blocks n
 
   abbrev End : LeafPosition → Value → Open → Type 0
   End x v o = Ends p typed agrees m good blocks x v o

@@ -2,7 +2,9 @@
 use Rattle.std.proofs.Common.{◌≡◌, ℕ, zero, suc, ◌+◌, inl, inr, map, Bool, true, false, List, [], ◌∷◌, ◌++◌, Some, Ok, refl, sym, subst, ap, ◌∙◌, arith, append_assoc, append-nil}
 use Rattle.std.specs.Prelude.{slice_get, ◌==◌}
 use Rattle.std.specs.List.{flat_map, list_all}
+use Rattle.std.proofs.lemmas.Bool.{and_parts}
 use Rattle.std.proofs.lemmas.Option.{same_Some}
+use Rattle.std.proofs.lemmas.List.Folds.{list_all-map}
 use Rattle.rb_core.specs.declared.pattern.Pat.{Pat, Wild, Var, Num, Con, out-Pat, fold-Pat}
 use Rattle.rb_core.specs.declared.pattern.Pat.TheOpen as P
 use Rattle.rb_core.specs.declared.pattern.Pat.TheOpen.{Pat-F}
@@ -22,6 +24,7 @@ use Rattle.rb_core.specs.WellNumbered.{Below, below_step, either, is_provenance,
 use Rattle.rb_core.proofs.ValueLaws.{is_of_type-Con, subs-Con}
 use Rattle.rb_core.proofs.ValueLaws.{induction as value_induction}
 use Rattle.rb_core.proofs.PatternLaws.{Each, fold-Con, fold-Num, fold-Var, fold-Wild, induction}
+use Rattle.rb_core.proofs.MatchingLemmas.{all_at}
 use Rattle.rb_bytes.specs.Memory.{Memory, IsGood}
 use Rattle.rb_layout.specs.declared.layout.Layout.{Layout}
 use Rattle.rb_layout.specs.declared.layout.Leaf.{Leaf}
@@ -34,7 +37,7 @@ use Rattle.rb_rel.proofs.Agreeing.{lawful}
 use Rattle.rb_rel.proofs.Lawful.{ProvenancesFit}
 use Rattle.rb_rel.specs.Provenances.{fits_type, is_named}
 use Rattle.rb_rel.proofs.Leaves.{leaf_matches}
-use Rattle.rb_rel.proofs.Lists.{and_true, both, get-left, get-mapped, get-right}
+use Rattle.rb_rel.proofs.Lists.{and_true, get-left, get-mapped, get-right}
 use Rattle.rb_rel.proofs.Opens.{fits-Con, fitting, opens-Con, opens-Var, opens-Wild}
 use Rattle.rb_rel.proofs.Reading.{same_nat}
 use Rattle.rb_image_text.specs.declared.image.ImageBlock.{ImageBlock}
@@ -90,18 +93,16 @@ pub types_two : {A : Type 0} (f : A → Ty → Bool) (xs : List A) (ts : List Ty
 types_two f [] [] e = tt
 types_two f [] (t ∷ ts) e = absurd cc
 types_two f (x ∷ xs) [] e = absurd cc
-types_two f (x ∷ xs) (t ∷ ts) e = let h = both (f x t) (all_of_types (map f xs) ts) e in (h.0, types_two f xs ts h.1)
+types_two f (x ∷ xs) (t ∷ ts) e = let h = and_parts (f x t) (all_of_types (map f xs) ts) e in (h.0, types_two f xs ts h.1)
 
 pub pass_two : (ps : List Pat) (vs : List Value) → all_pass (map matches_of ps) vs ≡ true → all_two matches_of ps vs
 pass_two [] [] e = tt
 pass_two [] (v ∷ vs) e = absurd cc
 pass_two (p ∷ ps) [] e = absurd cc
-pass_two (p ∷ ps) (v ∷ vs) e = let h = both (matches_of p v) (all_pass (map matches_of ps) vs) e in (h.0, pass_two ps vs h.1)
+pass_two (p ∷ ps) (v ∷ vs) e = let h = and_parts (matches_of p v) (all_pass (map matches_of ps) vs) e in (h.0, pass_two ps vs h.1)
 
 pub plain_at : (ps : List Pat) → list_all (λ so. so) (map is_numberless ps) ≡ true → (j : ℕ) (q : Pat) → slice_get ps j ≡ Some q → is_numberless q ≡ true
-plain_at [] h j q e = absurd cc
-plain_at (p ∷ ps) h zero q e = ap is_numberless (sym (same_Some p q e)) ∙ (both (is_numberless p) (list_all (λ so. so) (map is_numberless ps)) h).0
-plain_at (p ∷ ps) h (suc j) q e = plain_at ps (both (is_numberless p) (list_all (λ so. so) (map is_numberless ps)) h).1 j q e
+plain_at ps h j q e = all_at is_numberless ps j q (sym (list_all-map (λ so. so) is_numberless ps) ∙ h) e
 
 pub in_one : (c : ConRef) (css : List (List ConRef)) (j : ℕ) (cs : List ConRef) → slice_get css j ≡ Some cs → In c cs → In c (flat_map (λ ds. ds) css)
 in_one c [] j cs e h = absurd cc
@@ -141,7 +142,7 @@ Plain q = may_be_below (fold-Pat Below below_step q) ≡ true → is_numberless 
 all_plain : (ps : List Pat) → Each Plain ps → list_all may_be_below (map (fold-Pat Below below_step) ps) ≡ true → list_all (λ so. so) (map is_numberless ps) ≡ true
 all_plain [] each h = refl
 all_plain (q ∷ ps) each h =
-    let b = both (may_be_below (fold-Pat Below below_step q)) (list_all may_be_below (map (fold-Pat Below below_step) ps)) h in
+    let b = and_parts (may_be_below (fold-Pat Below below_step q)) (list_all may_be_below (map (fold-Pat Below below_step) ps)) h in
     and_true (is_numberless q) (list_all (λ so. so) (map is_numberless ps)) (each.0 b.0) (all_plain ps each.1 b.1)
 
 plain_below : (q : Pat) → Plain q
@@ -183,7 +184,7 @@ matched at c ps v m = go (value_forms v)
     go : ValueForm v → Matched c ps v
     go (number n e) = absurd (let z = sym (ap (is_con c.con (map matches_of ps)) (ap out-Value e ∙ V-outs-Num n)) ∙ sym (matches-Con v at c ps) ∙ m in cc)
     go (built k vs e) =
-        let b = both (c.con == k) (all_pass (map matches_of ps) vs) (sym (ap (is_con c.con (map matches_of ps)) (ap out-Value e ∙ V-outs-Con k vs)) ∙ sym (matches-Con v at c ps) ∙ m) in
+        let b = and_parts (c.con == k) (all_pass (map matches_of ps) vs) (sym (ap (is_con c.con (map matches_of ps)) (ap out-Value e ∙ V-outs-Con k vs)) ∙ sym (matches-Con v at c ps) ∙ m) in
         record { vs = vs; is = e ∙ ap (λ i. VCon i vs) (sym (same_nat c.con k b.0)); pass = pass_two ps vs b.1 }
 
 module _ (p : Program) (typed : IsTyped p) (agrees : Agrees p) (m : Memory) (good : IsGood m) (blocks : List ImageBlock) where
@@ -203,7 +204,7 @@ module _ (p : Program) (typed : IsTyped p) (agrees : Agrees p) (m : Memory) (goo
 
     pub con_fits : (is_named c.ty ty ≡ true) × all_two (fits_type types) ps tys
     con_fits =
-        let b = both (is_named c.ty ty) (are_of (map (fits_type types) ps) (fields_of types c)) (sym (fits-Con types at c ps ty) ∙ inner.fits) in
+        let b = and_parts (is_named c.ty ty) (are_of (map (fits_type types) ps) (fields_of types c)) (sym (fits-Con types at c ps ty) ∙ inner.fits) in
         (b.0, types_two (fits_type types) ps tys (fitting types (map (fits_type types) ps) (fields_of types c) b.1))
 
     pub head_free : HasPointerPart layouts c.ty → ⊥

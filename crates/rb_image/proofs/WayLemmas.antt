@@ -13,13 +13,13 @@ use Rattle.rb_core.specs.declared.types.Ty.TheVariants.{Int, Named}
 use Rattle.rb_core.specs.TypedPrograms.{IsTyped}
 use Rattle.rb_core.specs.Values.{fields_of}
 use Rattle.rb_core.specs.WellNumbered.{is_type}
+use Rattle.rb_core.proofs.MatchingLemmas.{all_at}
 use Rattle.rb_layout.specs.declared.layout.Layout.{Layout}
 use Rattle.rb_layout.specs.Agreement.{Agrees}
 use Rattle.rb_layout.specs.Flattening.{flat_layouts}
 use Rattle.rb_layout.specs.Positions.{layout_of, types_or_none}
 use Rattle.rb_rel.specs.Relation.{shape_length, word_count}
 use Rattle.rb_rel.proofs.Existence.{has_layout}
-use Rattle.rb_rel.proofs.Provenances.{all_at}
 use Rattle.rb_rel.proofs.Widths.{fields_typed}
 use Rattle.rb_image_text.specs.declared.fault.ImageFault.{ImageFault}
 use Rattle.rb_image_text.specs.declared.fault.ImageFault.TheVariants.{NoSuchPart}
@@ -38,7 +38,7 @@ use Rattle.rb_image.specs.Sites.{kept_of}
 use Rattle.rb_image.specs.Splits.{and_then, or_fault}
 use Rattle.rb_image.specs.Values.{IsDeclared}
 use Rattle.rb_image.specs.Visits.{first_refused, own_span}
-use Rattle.rb_image.specs.Walks.{IsPassed, Where, arrived, data_of, layout_at, layout_or_none, moved, open_data, open_in, see, seen_of, settled, span_at, step, unless, where_of, words_on}
+use Rattle.rb_image.specs.Walks.{IsPassed, Where, where_at_root, data_of, layout_at, layout_or_none, where_after_step, open_data, open_in, see, seen_of, where_settled, span_at, step, unless, where_of, words_on}
 use Rattle.rb_image.specs.Ways.{refused_below}
 use Rattle.rb_image.specs.inner.Ordering.{AreOrderly}
 use Rattle.rb_image.proofs.LookLemmas.{given_memory}
@@ -145,24 +145,24 @@ module _ (layouts : List Layout) (image : Image) where
   Found = Result (List Kept) ImageFault
 
   abbrev on : Where → ℕ → List Kept → Result Where ImageFault
-  on w t ws = and_then (see layouts m t ws) (λ s. Ok (arrived (w.before ++ w.last ∷ []) s))
+  on w t ws = and_then (see layouts m t ws) (λ s. Ok (where_at_root (w.before ++ w.last ∷ []) s))
 
   pub settled_ok : (w : Where) (t : ℕ) (ws : List Kept) (x : Passed) → ◌≡◌ {A = Found} (words_on layouts m w.last t) (Ok ws) → IsGiven seen_of (see layouts m t ws) (Ok x)
-      → ◌≡◌ {A = Result Where ImageFault} (settled layouts m w (Some t)) (Ok (arrived (w.before ++ w.last ∷ []) (seen_of x)))
+      → ◌≡◌ {A = Result Where ImageFault} (where_settled layouts m w (Some t)) (Ok (where_at_root (w.before ++ w.last ∷ []) (seen_of x)))
   settled_ok w t ws x is given =
       ap (λ (r : Found). and_then r (on w t)) is
-      ∙ then_given seen_of where_of (see layouts m t ws) (λ s. Ok (arrived (w.before ++ w.last ∷ []) s)) x given
+      ∙ then_given seen_of where_of (see layouts m t ws) (λ s. Ok (where_at_root (w.before ++ w.last ∷ []) s)) x given
 
   pub settled_err : (w : Where) (t : ℕ) (ws : List Kept) (f : ImageFault) → ◌≡◌ {A = Found} (words_on layouts m w.last t) (Ok ws) → IsGiven seen_of (see layouts m t ws) (Err f)
-      → IsGiven where_of (settled layouts m w (Some t)) (Err f)
+      → IsGiven where_of (where_settled layouts m w (Some t)) (Err f)
   settled_err w t ws f is given =
       subst (λ (r : Found). IsGiven where_of (and_then r (on w t)) (Err f)) (sym is)
-      (err_given seen_of where_of (see layouts m t ws) (λ s. Ok (arrived (w.before ++ w.last ∷ []) s)) f given)
+      (err_given seen_of where_of (see layouts m t ws) (λ s. Ok (where_at_root (w.before ++ w.last ∷ []) s)) f given)
 
 -- Along a path -------------------------------------------------------------------------------
 module _ (types : List DataDecl) (layouts : List Layout) (m : List ImageBlock) where
   pub step_some : (k : ℕ) (w : Where) (i : ℕ) (pos : Position) (o : Option ℕ) → field_of types w.here.pat i ≡ Some pos → open_data pos ≡ o
-      → step types layouts m k w i ≡ settled layouts m (moved w i pos) o
+      → step types layouts m k w i ≡ where_settled layouts m (where_after_step w i pos) o
   step_some k w i pos o some opened =
-      ap (λ p. and_then (or_fault p (NoSuchPart k)) (λ x. settled layouts m (moved w i x) (open_data x))) some
-      ∙ ap (λ x. settled layouts m (moved w i pos) x) opened
+      ap (λ p. and_then (or_fault p (NoSuchPart k)) (λ x. where_settled layouts m (where_after_step w i x) (open_data x))) some
+      ∙ ap (λ x. where_settled layouts m (where_after_step w i pos) x) opened

@@ -16,7 +16,7 @@ use Rattle.rb_image.specs.declared.kept.Kept.{Kept}
 use Rattle.rb_image.specs.Asked.{if_found}
 use Rattle.rb_image.specs.Fields.{Position, field_of}
 use Rattle.rb_image.specs.Spans.{span}
-use Rattle.rb_image.specs.Walks.{Where, arrived, see, step, walk_span}
+use Rattle.rb_image.specs.Walks.{Where, where_at_root, see, step, walk_span}
 
 -- the type at a position, alone in a list; no type where there is no position
 abbrev pub type_there : Option Position → List Ty
@@ -34,7 +34,7 @@ module _ (types : List DataDecl) (layouts : List Layout) (m : List ImageBlock) w
   -- the types of the value of data type t at these words and of the subvalues along a path from it, the last
   -- included, as far as one comes
   abbrev pub path_types : ℕ → List Kept → List ℕ → List Ty
-  path_types t ws path = Named t ∷ if_found (see layouts m t ws) (λ s. types_from 0 (arrived [] s) path)
+  path_types t ws path = Named t ∷ if_found (see layouts m t ws) (λ s. types_from 0 (where_at_root [] s) path)
 
   -- the sum of the spans of the types on a path from the value of data type t at these words on
   abbrev pub path_span : ℕ → List Kept → List ℕ → ℕ

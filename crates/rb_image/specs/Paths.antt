@@ -25,7 +25,7 @@ use Rattle.rb_image.specs.LeafWords.{block_addresses}
 use Rattle.rb_image.specs.Orders.{LocatedPart, order_of}
 use Rattle.rb_image.specs.Parts.{At, bits_at}
 use Rattle.rb_image.specs.Roots.{kept_from, root_at}
-use Rattle.rb_image.specs.Walks.{Waypoint, Where, layout_at, moved, open_data, see, end_of_path, where_of, words_on}
+use Rattle.rb_image.specs.Walks.{Waypoint, Where, layout_at, where_after_step, open_data, see, end_of_path, where_of, words_on}
 use Rattle.rb_image.specs.Ways.{leads_below, refusal_of}
 
 -- one of these words is kept in the block that begins at `base`, from byte `place` on; at base 0 it is the root word
@@ -134,7 +134,7 @@ module _ (types : List DataDecl) (layouts : List Layout) (image : Image) (t : â„
     pub here : Position
     pub is_step : IsStep before field here
     pub is_data : open_data here â‰¡ Some x.ty
-    pub is_words : LeadsTo (moved before field here).last x
+    pub is_words : LeadsTo (where_after_step before field here).last x
 
   -- at this place stands a subvalue of a data type on the path: the value at the root words, or one that a step
   -- leads to, that at the end of the path included
@@ -148,7 +148,7 @@ module _ (types : List DataDecl) (layouts : List Layout) (image : Image) (t : â„
     pub field : â„•
     pub here : Position
     pub is_step : IsStep before field here
-    pub is_kept : IsKeptAt (words_ahead image.blocks (moved before field here).last) base place
+    pub is_kept : IsKeptAt (words_ahead image.blocks (where_after_step before field here).last) base place
 
   -- a word on the path: of the root; one that the splits of a subvalue on the path read; or one that holds what comes
   -- next on the path or below that, or whose pointer leads to such a word

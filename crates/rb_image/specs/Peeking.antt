@@ -12,7 +12,7 @@ use Rattle.rb_image_text.specs.declared.image.Image.{Image}
 use Rattle.rb_image.specs.declared.peek.Peeked.{Peeked}
 use Rattle.rb_image.specs.PathSpans.{path_span}
 use Rattle.rb_image.specs.Paths.{HasNoPart, HasPathFault, IsCome, IsFaultless, IsOnPath, IsPathWord, Names}
-use Rattle.rb_image.specs.Rebuilds.{numbers_of, rebuilt}
+use Rattle.rb_image.specs.Rebuilds.{numbers_of, rebuilt_words}
 use Rattle.rb_image.specs.Roots.{WordsFit, IsFirstMisfit, kept_from, widths_of}
 use Rattle.rb_image.specs.Walks.{Where}
 
@@ -21,7 +21,7 @@ module _ (types : List DataDecl) (layouts : List Layout) (image : Image) where
   -- those of the subvalue to whose leaf one came, else those of an integer, or of a constructor that is rebuilt
   abbrev pub words_there : Where → List ℕ → Result (List ℕ) ImageFault
   words_there w [] = Ok (numbers_of w.last.words)
-  words_there w (i ∷ at) = rebuilt types layouts image.blocks w
+  words_there w (i ∷ at) = rebuilt_words types layouts image.blocks w
 
   -- the words of what stands at the end of a walk, or the fault for which it cannot be rebuilt
   abbrev pub end_words : Where → Result (List ℕ) ImageFault

@@ -116,41 +116,41 @@ module _ (types : List DataDecl) (layouts : List Layout) (m : List ImageBlock) w
   -- the words of the value of data type t at position x, which has this pattern: where any value may stand, those
   -- that stand there; a constructor, which was taken apart, is rebuilt
   abbrev pub data_words : Rebuilding → ℕ → LeafPosition → Pat-F Pat → Result (List ℕ) ImageFault
-  data_words rebuilt t x (P.Wild at) = Ok (numbers_of (words_here layouts m x t))
-  data_words rebuilt t x (P.Var at v) = Ok (numbers_of (words_here layouts m x t))
-  data_words rebuilt t x (P.Num at n) = Err Memory
-  data_words rebuilt t x (P.Con at c ps) = rebuilt t x
+  data_words rebuilt_words t x (P.Wild at) = Ok (numbers_of (words_here layouts m x t))
+  data_words rebuilt_words t x (P.Var at v) = Ok (numbers_of (words_here layouts m x t))
+  data_words rebuilt_words t x (P.Num at n) = Err Memory
+  data_words rebuilt_words t x (P.Con at c ps) = rebuilt_words t x
 
   -- the words of what stands at position x and is of this type, or the first fault; an integer is one word
   abbrev pub words_at : Rebuilding → Ty → LeafPosition → Result (List ℕ) ImageFault
-  words_at rebuilt (Int bits) x = Ok (integer_here m x bits ∷ [])
-  words_at rebuilt (Named t) x = data_words rebuilt t x (out-Pat x.here.pat)
+  words_at rebuilt_words (Int bits) x = Ok (integer_here m x bits ∷ [])
+  words_at rebuilt_words (Named t) x = data_words rebuilt_words t x (out-Pat x.here.pat)
 
   -- the words of what stands at the end of a path of field numbers from position x on, or the first fault
   abbrev pub words_along : Rebuilding → LeafPosition → List ℕ → Result (List ℕ) ImageFault
-  words_along rebuilt x path = and_then (along types layouts m x path) (λ y. words_at rebuilt y.here.ty y)
+  words_along rebuilt_words x path = and_then (along types layouts m x path) (λ y. words_at rebuilt_words y.here.ty y)
 
   -- the paths and words of what stands below x at each of these open positions, which are those of the leaf in which
   -- the value at x is rebuilt; or the first fault
   abbrev pub fields_at : Rebuilding → LeafPosition → List Open → Result (List FieldWords) ImageFault
-  fields_at rebuilt x [] = Ok []
-  fields_at rebuilt x (o ∷ os) =
-      and_then (words_along rebuilt x o.path) (λ ws.
-      and_then (fields_at rebuilt x os) (λ fields. Ok (record { path = o.path; words = ws } ∷ fields)))
+  fields_at rebuilt_words x [] = Ok []
+  fields_at rebuilt_words x (o ∷ os) =
+      and_then (words_along rebuilt_words x o.path) (λ ws.
+      and_then (fields_at rebuilt_words x os) (λ fields. Ok (record { path = o.path; words = ws } ∷ fields)))
 
   -- the words of a value of a data type in the leaf whose provenance matches it, or the first fault, where values
   -- that are rebuilt stand one inside the other at most so many levels deep
-  abbrev pub rebuilt_within : ℕ → Rebuilding
-  rebuilt_within zero t x = Err Memory
-  rebuilt_within (suc n) t x =
+  abbrev pub rebuilding_within : ℕ → Rebuilding
+  rebuilding_within zero t x = Err Memory
+  rebuilding_within (suc n) t x =
       and_then (leaf_chosen types layouts m (layout_at layouts t).leaves x) (λ leaf.
-      and_then (fields_at (rebuilt_within n) x (open_positions types leaf.prov)) (λ fields.
+      and_then (fields_at (rebuilding_within n) x (open_positions types leaf.prov)) (λ fields.
       Ok (words_of_leaf leaf fields)))
 
   -- The words of what stands at a position, or the first fault. A type that holds another is not held in it, so
   -- values that are rebuilt stand one inside the other at most as many levels deep as there are layouts.
   abbrev pub words_of : LeafPosition → Result (List ℕ) ImageFault
-  words_of x = words_at (rebuilt_within (length layouts)) x.here.ty x
+  words_of x = words_at (rebuilding_within (length layouts)) x.here.ty x
 
   -- the position at which a walk ends, in the last leaf to which it came, with the words of that and the addresses of
   -- its blocks
@@ -171,6 +171,6 @@ module _ (types : List DataDecl) (layouts : List Layout) (m : List ImageBlock) w
 
   -- the words of what stands at the end of a walk inside a leaf,
   -- where no pointer on the way to a field of it is refused
-  abbrev pub rebuilt : Where → Result (List ℕ) ImageFault
-  rebuilt w = let x = end_of w in
+  abbrev pub rebuilt_words : Where → Result (List ℕ) ImageFault
+  rebuilt_words w = let x = end_of w in
       unless_refused (refused_below m x.leaf x.root x.addresses x.at (order_of x.leaf)) x

@@ -84,12 +84,12 @@ unless None ws = Ok ws
 unless (Some fault) ws = Err fault
 
 -- how far one has come at the root of the leaf of subvalue s, after the subvalues `before`
-abbrev pub arrived : List Waypoint → Waypoint → Where
-arrived before s = record { before = before; last = s; here = record { pat = s.leaf.prov; ty = Named s.ty } }
+abbrev pub where_at_root : List Waypoint → Waypoint → Where
+where_at_root before s = record { before = before; last = s; here = record { pat = s.leaf.prov; ty = Named s.ty } }
 
 -- how far one has come after a step from w to field i inside the same leaf, which has pos there
-abbrev pub moved : Where → ℕ → Position → Where
-moved w i pos = record { before = w.before; last = record w.last { at = w.last.at ++ i ∷ [] }; here = pos }
+abbrev pub where_after_step : Where → ℕ → Position → Where
+where_after_step w i pos = record { before = w.before; last = record w.last { at = w.last.at ++ i ∷ [] }; here = pos }
 
 -- the number that `go` gives of what was found, and 0 of a fault
 abbrev pub count_found : {A : Type 0} → Result A ImageFault → (A → ℕ) → ℕ
@@ -118,17 +118,17 @@ module _ (layouts : List Layout) (m : List ImageBlock) where
 
   -- how far one has come from w: where a data type is given, to the root of the leaf of its value there, or to the
   -- first fault of that; else no further
-  abbrev pub settled : Where → Option ℕ → Result Where ImageFault
-  settled w None = Ok w
-  settled w (Some t) =
-      and_then (words_on w.last t) (λ ws. and_then (see t ws) (λ s. Ok (arrived (w.before ++ w.last ∷ []) s)))
+  abbrev pub where_settled : Where → Option ℕ → Result Where ImageFault
+  where_settled w None = Ok w
+  where_settled w (Some t) =
+      and_then (words_on w.last t) (λ ws. and_then (see t ws) (λ s. Ok (where_at_root (w.before ++ w.last ∷ []) s)))
 
 module _ (types : List DataDecl) (layouts : List Layout) (m : List ImageBlock) where
   -- from w one comes to field i of the constructor that was found; if there is none, step k of the path names no part
   abbrev pub step : ℕ → Where → ℕ → Result Where ImageFault
   step k w i =
       and_then (or_fault (field_of types w.here.pat i) (NoSuchPart k))
-      (λ pos. settled layouts m (moved w i pos) (open_data pos))
+      (λ pos. where_settled layouts m (where_after_step w i pos) (open_data pos))
 
   -- how far one comes from w along the rest of a path, the first of which is step k of the whole, or the first fault
   abbrev pub steps : ℕ → Where → List ℕ → Result Where ImageFault
@@ -137,7 +137,7 @@ module _ (types : List DataDecl) (layouts : List Layout) (m : List ImageBlock) w
 
   -- where a path leads from the value of a data type at these words, or the first fault on the way
   abbrev pub end_of_path : ℕ → List Kept → List ℕ → Result Where ImageFault
-  end_of_path t ws path = and_then (see layouts m t ws) (λ s. steps 0 (arrived [] s) path)
+  end_of_path t ws path = and_then (see layouts m t ws) (λ s. steps 0 (where_at_root [] s) path)
 
 -- Spans --------------------------------------------------------------------------------------
 
@@ -165,7 +165,7 @@ module _ (types : List DataDecl) (layouts : List Layout) (m : List ImageBlock) w
   -- one on the way to whose leaf a fault ends the walk counts too
   abbrev pub walk_span : ℕ → List Kept → List ℕ → ℕ
   walk_span t ws path = span_at layouts (Some t) + count_found (see layouts m t ws)
-      (λ s. steps_span 0 (arrived [] s) path)
+      (λ s. steps_span 0 (where_at_root [] s) path)
 
 -- What was passed ----------------------------------------------------------------------------
 

@@ -7,8 +7,7 @@
 //! added.
 
 ghost use Rattle.std.specs.Prelude.{◌≡◌, ◌++◌, map, IfOk, OnOk};
-ghost use Rattle.rb_core.specs.Values.{fields_of};
-ghost use Rattle.rb_layout.specs.Positions.{opens_below, opens_of, types_or_none};
+ghost use Rattle.rb_layout.specs.Positions.{opens_below, opens_of};
 ghost use Rattle.rb_coding.specs.FewFields.{AreFew, HaveFewFields};
 ghost use Rattle.rb_image.specs.Parts as spec;
 ghost use Rattle.rb_image.specs.Parts.{ats_of};
@@ -19,12 +18,12 @@ use crate::kept::{Kept, Place};
 use crate::order::Spot;
 use crate::parts::kept_at;
 use crate::splits::range_of;
-use rb_coding::paths::path_below;
 use rb_core::inference::types_of_fields;
 use rb_core::pattern::Pat;
 use rb_core::types::{DataDecl, Ty};
 use rb_image_text::image::ImageBlock;
 use rb_layout::layout::{Kind, Layout};
+use rb_layout::paths::path_below;
 use rb_rel::words::word_count;
 use std::alloc::{AllocError, Global};
 

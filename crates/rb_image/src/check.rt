@@ -166,10 +166,10 @@ fn fault_at(
     part_fault(image.blocks.as_slice(), leaf, bits, &spot.part.kind)
 }
 
-/// The first fault of a leaf's parts in words on the path, where the leaf's words were read: a
-/// constant that differs, or a pointer that is refused; none where there is no such part. Nothing
-/// is read.
-pub(crate) fn fault_among(
+// The first fault of a leaf's parts in words on the path, where the leaf's words were read: a
+// constant that differs, or a pointer that is refused; none where there is no such part. Nothing
+// is read.
+fn fault_among(
     alloc: Global,
     image: &Image,
     path: &PathWords,

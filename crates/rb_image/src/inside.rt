@@ -29,7 +29,7 @@ fn type_at(types: &[Ty], field: u32) -> Option<Ty>
 }
 
 // The position with this pattern and this type, none where one of them is missing.
-fn paired<'a>(pat: Option<&'a Pat>, ty: Option<Ty>) -> Option<Inside<'a>>
+fn typed_pattern<'a>(pat: Option<&'a Pat>, ty: Option<Ty>) -> Option<Inside<'a>>
     ensures { position_or_none result ≡ with_type (option_copied pat.entry) ty }
 {
     match pat {
@@ -52,7 +52,7 @@ pub fn field_of<'a>(types: &[DataDecl], pat: &'a Pat, field: u32) -> Option<Insi
         Pat::Num(_, _) => None,
         Pat::Con(_, con, pats) => {
             let ty = type_at(types_of_fields(types, *con), field);
-            paired(pats.get(field as usize), ty)
+            typed_pattern(pats.get(field as usize), ty)
         }
     }
 }

@@ -14,7 +14,7 @@ ghost use Rattle.rb_image.specs.Orders.{order_of};
 ghost use Rattle.rb_image.specs.Parts.{bits_at};
 ghost use Rattle.rb_image.specs.Sites.{kept_of};
 ghost use Rattle.rb_image.specs.inner.Reaching.{IsLeafPart, unread_words, word_read};
-ghost use Rattle.rb_image.specs.inner.Viewing.{spot_part, spots_of};
+ghost use Rattle.rb_image.specs.inner.Viewing.{spot_part};
 ghost use Rattle.rb_image_text.specs.Places.{AreInPlace};
 ghost use Rattle.rb_image_text.specs.declared.image.ImageBlock.{ImageBlock};
 

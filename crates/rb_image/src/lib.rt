@@ -48,13 +48,13 @@
 //! is: it finds the leaf that `look` finds from the sites of a place's words, and reads each word only when a split
 //! asks for its bits. `specs/Spans.antt` has the numbers to which such reading is held; that of the list above is 5.
 //!
-//! `read_words` goes on from that leaf: from the sites of its root words it reads these, follows its pointers, and reads
-//! the words of each block to which one leads, each word once. A pointer that leads to no such block as the leaf has is
-//! no fault yet, since it may be that nothing behind it is asked for: what stands behind it is left out. Of the list
-//! above it reads the root word 64, and the words 2 and 64 of the block at 64. `bits` then gives the bits of each part.
-//! `specs/LeafWords.antt` says which blocks are reached. Who then goes on to one field asks `refused_below` whether a
-//! pointer on the way to that field was refused: a pointer is on the way where one of the parts behind it is of the
-//! field. `field_of` takes one step inside a leaf, to a field of a constructor that its provenance has.
+//! `read_words` goes on from that leaf: from the sites of its root words it reads these, follows its pointers, and
+//! reads the words of each block to which one leads, each word once. A pointer that leads to no such block as the leaf
+//! has is no fault yet, since it may be that nothing behind it is asked for: what stands behind it is left out. Of the
+//! list above it reads the root word 64, and the words 2 and 64 of the block at 64. `bits` then gives the bits of each
+//! part. `specs/LeafWords.antt` says which blocks are reached. Who then goes on to one field asks `refused_below`
+//! whether a pointer on the way to that field was refused: a pointer is on the way where one of the parts behind it is
+//! of the field. `field_of` takes one step inside a leaf, to a field of a constructor that its provenance has.
 //!
 //! `visit` is both: it finds the leaf of a subvalue and reads its words, in no more steps than `own_span`, which is the
 //! span of the type without that of types whose constructors stand inside its leaves. `enter` goes from there to the
@@ -71,8 +71,8 @@
 //! root; those that the splits of each subvalue on it read; those that hold what comes next; and those whose pointers
 //! lead to any of these. In each of them it looks at what the leaves passed have there: constants, and pointers. For
 //! that no leaf's word is read again. Take for the path `.0` of the list above: on it are the root word and the word
-//! from byte 0 of the block at 64 on. The tail, which leads to the block that it is kept in, is off this path, and so no
-//! fault is found; on the path `.1` it is. `specs/Paths.antt` says which words are on a path, and what is wrong with
+//! from byte 0 of the block at 64 on. The tail, which leads to the block that it is kept in, is off this path, and so
+//! no fault is found; on the path `.1` it is. `specs/Paths.antt` says which words are on a path, and what is wrong with
 //! them.
 //!
 //! A walk may also end where the leaf's provenance has a constructor. What stands there was taken apart: it has no
@@ -87,8 +87,8 @@
 //! `field_sites` goes on from a leaf to the words of an open position below it, and reads nothing for that: it gives
 //! the sites at which they stand, from the sites of the leaf's own words and the addresses of its blocks. Here the
 //! block of `Cons` is at 64, so the one word of `.1` stands in all 64 bits of the word from byte 8 of it on. A word
-//! that is a range of a word of the leaf stands in a range of the bits at that one's site. `root_sites` begins this with
-//! the root words. `specs/FieldSites.antt` says which words they are.
+//! that is a range of a word of the leaf stands in a range of the bits at that one's site. `root_sites` begins this
+//! with the root words. `specs/FieldSites.antt` says which words they are.
 //!
 //! `specs/Parts.antt` says what one place comes to, above `specs/Splits.antt`, the leaf to which its splits lead, and
 //! `specs/Orders.antt`, the order of a leaf's parts; `specs/Blocks.antt` which blocks and words an image has.
@@ -96,8 +96,8 @@
 //! does; `specs/Memories.antt` in which memories its blocks stand, and `specs/Reads.antt` how its value is read.
 //!
 //! `specs/Falling.antt` says what it means that an image holds a value, and `laws` that this is the same: an image is
-//! sound exactly where its root words represent a value in the memory that has exactly its blocks, and each pointer that
-//! is kept in a block leads to one with a lower address.
+//! sound exactly where its root words represent a value in the memory that has exactly its blocks, and each pointer
+//! that is kept in a block leads to one with a lower address.
 #![tactic(auto)]
 
 mod ahead;

@@ -18,7 +18,6 @@ ghost use Rattle.rb_image_text.specs.declared.fault.ImageFault.TheVariants.{Memo
 use crate::arrival::take_apart;
 use crate::view::View;
 use crate::walk::open_data;
-use rb_coding::paths::path_below;
 use rb_core::pattern::Pat;
 use rb_core::types::ConRef;
 use rb_image_text::fault::ImageFault;
@@ -26,6 +25,7 @@ use rb_image_text::image::Image;
 use rb_layout::agreed::Agreed;
 use rb_layout::layout::Leaf;
 use rb_layout::numbers::number_of;
+use rb_layout::paths::path_below;
 use std::alloc::Global;
 
 // Whether two constructors are the same one of the same type.

@@ -104,9 +104,9 @@ fn place_block(memory: &mut CheckedMemory, block: &ImageBlock)
     store_bytes(memory, block.at, bytes);
 }
 
-/// A memory in which the blocks of an image stand: each at its address, of its very size, all its bytes written. It ends
-/// behind the last of them. It has other blocks too, which fill what lies before and between these, each of at most 512
-/// bytes.
+/// A memory in which the blocks of an image stand: each at its address, of its very size, all its bytes written. It
+/// ends behind the last of them. It has other blocks too, which fill what lies before and between these, each of at
+/// most 512 bytes.
 ///
 /// # Errors
 ///

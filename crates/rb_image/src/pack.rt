@@ -4,7 +4,7 @@
 //! range of a word: `l` bits from bit `o` on.
 
 ghost use Rattle.std.specs.Prelude.{◌≡◌, IfOk, map};
-ghost use Rattle.rb_coding.specs.Packing.{made_of, word_made};
+ghost use Rattle.rb_coding.specs.Packing.{word_of_parts, word_made};
 ghost use Rattle.rb_rel.specs.Storing.{number_of};
 ghost use Rattle.rb_image.specs.Rebuilds.{words_at_path};
 
@@ -52,7 +52,7 @@ fn number_of(part: &Part, fields: &[FieldWords]) -> u64
 
 // The word with these parts: each in its place with what the fields make it hold, and 0 elsewhere.
 fn pack(parts: &[Part], fields: &[FieldWords]) -> u64
-    ensures { result ≡ made_of (words_at_path fields.now) (λ b. 0) parts.now }
+    ensures { result ≡ word_of_parts (words_at_path fields.now) (λ b. 0) parts.now }
 {
     let mut word = 0;
     for k in (0..parts.len()).rev() {

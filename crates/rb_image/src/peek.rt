@@ -125,9 +125,9 @@ fn peek_data<L: Ledger>(
 
 /// What stands at a path of field numbers in the value of a type that an image holds, where no word on the path is at
 /// fault: its type, and the words of it. A subvalue with a leaf of its own has the words in which it is held there; one
-/// that a leaf takes apart is rebuilt in its own layout, with 0 in free bits. Words off the path are not looked at. What
-/// the leaves on the path hold is read by `read_word`, no more words than the spans of the types on the path are, the
-/// last included; for the check, the words to which a split's location leads are looked up once more.
+/// that a leaf takes apart is rebuilt in its own layout, with 0 in free bits. Words off the path are not looked at.
+/// What the leaves on the path hold is read by `read_word`, no more words than the spans of the types on the path are,
+/// the last included; for the check, the words to which a split's location leads are looked up once more.
 ///
 /// # Errors
 ///
@@ -135,8 +135,8 @@ fn peek_data<L: Ledger>(
 /// the path: `BadBits`, with the base and the place of the word, where no arm of a split takes its bits or a constant
 /// differs in it; `BadPointer`, with the base of the pointer and the address, where it leads to no word or to no block
 /// of the leaf's size, or, from within a block, not below that block. Where the last subvalue is rebuilt, the same of a
-/// value below it whose leaf must be known for that. Or `NoSuchPart`, with the number of the step, where the constructor
-/// found there has no such field, or an integer stands there. Or want of memory.
+/// value below it whose leaf must be known for that. Or `NoSuchPart`, with the number of the step, where the
+/// constructor found there has no such field, or an integer stands there. Or want of memory.
 pub fn peek<L: Ledger>(
     alloc: Global,
     agreed: &Agreed,

@@ -91,7 +91,7 @@ fn rebuild_within<'a>(
 ) -> Result<Seq<u64>, ImageFault>
     requires placed { AreInPlace image.now.blocks }
     requires shown { IsShown image.now.blocks view.now }
-    ensures { IsGiven (λ ws. ws) (spec.rebuilt_within agreed.now.covered.program.types agreed.now.layouts
+    ensures { IsGiven (λ ws. ws) (spec.rebuilding_within agreed.now.covered.program.types agreed.now.layouts
         image.now.blocks depth ty (position_shown view.now)) result }
 {
     if depth == 0 {
@@ -123,7 +123,7 @@ fn fields_at<'a>(
     requires shown { IsShown image.now.blocks view.now }
     ensures { IsGiven (λ fields. fields)
         (spec.fields_at agreed.now.covered.program.types agreed.now.layouts image.now.blocks
-        (spec.rebuilt_within agreed.now.covered.program.types agreed.now.layouts image.now.blocks depth)
+        (spec.rebuilding_within agreed.now.covered.program.types agreed.now.layouts image.now.blocks depth)
         (position_shown view.now) (opens_at opens.now)) result }
 {
     let mut fields = Seq::new(alloc);
@@ -150,7 +150,7 @@ fn words_along<'a>(
     requires shown { IsShown image.now.blocks view.now }
     ensures { IsGiven (λ ws. ws)
         (spec.words_along agreed.now.covered.program.types agreed.now.layouts image.now.blocks
-        (spec.rebuilt_within agreed.now.covered.program.types agreed.now.layouts image.now.blocks depth)
+        (spec.rebuilding_within agreed.now.covered.program.types agreed.now.layouts image.now.blocks depth)
         (position_shown view.now) path.now) result }
 {
     let end = along(alloc, agreed, image, view, path)?;
@@ -171,7 +171,7 @@ fn words_at<'a>(
     requires shown { IsShown image.now.blocks view.now }
     ensures { IsGiven (λ ws. ws)
         (spec.words_at agreed.now.covered.program.types agreed.now.layouts image.now.blocks
-        (spec.rebuilt_within agreed.now.covered.program.types agreed.now.layouts image.now.blocks depth)
+        (spec.rebuilding_within agreed.now.covered.program.types agreed.now.layouts image.now.blocks depth)
         view.now.here.ty (position_shown view.now)) result }
 {
     match view.here.ty {
@@ -204,7 +204,7 @@ pub fn rebuild(
 ) -> Result<Vec<u64>, ImageFault>
     requires placed { AreInPlace image.now.blocks }
     requires passed { ArePassed image.now walk.now }
-    ensures { IsGiven (λ found. found.items) (spec.rebuilt agreed.now.covered.program.types agreed.now.layouts
+    ensures { IsGiven (λ found. found.items) (spec.rebuilt_words agreed.now.covered.program.types agreed.now.layouts
         image.now.blocks (where_of walk.now)) result }
 {
     let last = &walk.last;

@@ -6,7 +6,7 @@
 //! of the program's types, by number.
 
 ghost use Rattle.std.specs.Prelude.{◌≡◌, ◌++◌, ◌∷◌, [], ◌≤◌, IfOk, IfSome};
-ghost use Rattle.rb_image.specs.Parts.{field_word, field_words};
+ghost use Rattle.rb_image.specs.Parts.{field_word};
 ghost use Rattle.rb_image.specs.Orders.{order_of};
 ghost use Rattle.rb_image.specs.Views as spec;
 ghost use Rattle.rb_image.specs.inner.Standing.{IsShown, position_shown, shown_option};

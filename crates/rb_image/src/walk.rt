@@ -119,7 +119,7 @@ fn see<'a, L: Ledger>(
 // A walk that has come to the root of the leaf of the subvalue `last`, after the subvalues
 // `before`.
 fn arrive<'a>(before: Vec<Passed<'a>>, last: Passed<'a>) -> Walk<'a>
-    ensures walk { where_of result ≡ spec.arrived (map seen_of before.entry.items) (seen_of last.entry) }
+    ensures walk { where_of result ≡ spec.where_at_root (map seen_of before.entry.items) (seen_of last.entry) }
     ensures same { (result.before ≡ before.entry) × (result.last ≡ last.entry) }
 {
     let leaf = last.visited.leaf;
@@ -145,7 +145,7 @@ fn settle<'a, L: Ledger>(
     requires declared { ty < length agreed.now.covered.program.types }
     requires passed { ArePassed image.now walk }
     ensures walk { IsGiven where_of
-        (spec.settled agreed.now.layouts image.now.blocks (where_of walk.entry) (Some ty)) result }
+        (spec.where_settled agreed.now.layouts image.now.blocks (where_of walk.entry) (Some ty)) result }
     ensures passed { IfOk result (ArePassed image.now) }
     ensures least { steps.old.taken ≤ steps.new.taken }
     ensures most { steps.new.taken ≤ steps.old.taken + spec.span_at agreed.now.layouts (Some ty) }

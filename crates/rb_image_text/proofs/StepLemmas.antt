@@ -6,7 +6,7 @@ use Rattle.std.proofs.lemmas.List.{take_more}
 use Rattle.std.proofs.lemmas.Grind.{common_steps}
 use Rattle.rb_image_text.specs.Images.{AreBelow, IsImageBlock, AreImageBlocks}
 use Rattle.rb_image_text.specs.Text.{hex_digit, hexadecimal, words_text, bytes_text, root_text, block_text, blocks_text}
-use Rattle.rb_image_text.specs.inner.Reading.{hex_of, digit_of, keyed, root_end, root_step, first_hex, prefix_step, more_hex, word_step, first_address, line_step, more_address, address_step, first_size, sizing_step, more_size, empty_at, size_step, upper_half, bytes_step, with_byte, lower_half, half_step, moved, step, feed, run}
+use Rattle.rb_image_text.specs.inner.Reading.{hex_of, digit_of, key_move, root_end, root_step, first_hex, prefix_step, more_hex, word_step, first_address, line_step, more_address, address_step, first_size, sizing_step, more_size, empty_at, size_step, upper_half, bytes_step, with_byte, lower_half, half_step, reader_behind, step, feed, run}
 use Rattle.rb_image_text.specs.declared.image.ImageBlock.{ImageBlock}
 use Rattle.rb_image_text.specs.declared.spot.Spot.{Spot}
 use Rattle.rb_image_text.specs.declared.spot.Spot.TheVariants.{Root, Prefix, Word, Line, Address, Sizing, Size, Bytes, Half}
@@ -81,8 +81,8 @@ abbrev Leaves : List ℕ → Option Reader → Type 0
 Leaves t None = Unit {0}
 Leaves t (Some q) = Fed t q
 
-if_leaves : (t : List ℕ) (p : Reader) (c : Bool) (x y : Move) → (c ≡ true → Leaves t (moved p x)) → (c ≡ false → Leaves t (moved p y)) → Leaves t (moved p (if c then x else y))
-if_leaves t p c x y held lost = elim c as (λ (b : Bool). c ≡ b → Leaves t (moved p (if b then x else y))) [ true ↦ held | false ↦ lost ] refl
+if_leaves : (t : List ℕ) (p : Reader) (c : Bool) (x y : Move) → (c ≡ true → Leaves t (reader_behind p x)) → (c ≡ false → Leaves t (reader_behind p y)) → Leaves t (reader_behind p (if c then x else y))
+if_leaves t p c x y held lost = elim c as (λ (b : Bool). c ≡ b → Leaves t (reader_behind p (if b then x else y))) [ true ↦ held | false ↦ lost ] refl
 
 -- Texts that grow ------------------------------------------------------------------------------------
 
@@ -125,16 +125,16 @@ last_byte t b g e = ap (λ x. t ++ x ∷ []) (sym (eqb-true b g e))
 
 -- One byte more --------------------------------------------------------------------------------------
 
-root_leaves : (k b : ℕ) → k ≤ 4 → Leaves (take k (codes "root") ++ b ∷ []) (moved (at [] [] (Root k)) (root_step k b))
+root_leaves : (k b : ℕ) → k ≤ 4 → Leaves (take k (codes "root") ++ b ∷ []) (reader_behind (at [] [] (Root k)) (root_step k b))
 root_leaves k b le =
-    if_leaves _ (at [] [] (Root k)) (nat_lt k 4) (keyed (codes "root") k b (Root (k + 1))) (root_end b)
+    if_leaves _ (at [] [] (Root k)) (nat_lt k 4) (key_move (codes "root") k b (Root (k + 1))) (root_end b)
     (λ e.
     let lt : k < 4 = grind (arith, common_steps) in
     if_leaves _ (at [] [] (Root k)) (b == get_or (codes "root") k 0) (move.To (Root (k + 1))) move.Refused
     (λ is. record { text = key_more (codes "root") k b lt is; good = record { root = tt; blocks = tt; spot = (omega (arith, lt), refl, refl) } }) (λ _. tt))
     (λ e.
     let all : k ≡ 4 = grind (arith, common_steps) in
-    subst (λ n. Leaves (take n (codes "root") ++ b ∷ []) (moved (at [] [] (Root n)) (root_end b))) (sym all)
+    subst (λ n. Leaves (take n (codes "root") ++ b ∷ []) (reader_behind (at [] [] (Root n)) (root_end b))) (sym all)
     (if_leaves _ (at [] [] (Root 4)) (b == 32) (move.To (Prefix 0)) (if b == 10 then move.To (Line 0) else move.Refused)
     (λ is. record { text = last_byte (codes "root") b 32 is; good = record { root = tt; blocks = tt; spot = (omega arith, refl) } })
     (λ _. if_leaves _ (at [] [] (Root 4)) (b == 10) (move.To (Line 0)) move.Refused
@@ -144,9 +144,9 @@ module _ (root : List ℕ) (hr : AreBelow (2 ^ 64) root) where
   abbrev r : List ℕ
   r = rooted root
 
-  prefix_leaves : (k b : ℕ) → k ≤ 2 → Leaves (spot_text r (whole root []) (Prefix k) ++ b ∷ []) (moved (at root [] (Prefix k)) (prefix_step k b))
+  prefix_leaves : (k b : ℕ) → k ≤ 2 → Leaves (spot_text r (whole root []) (Prefix k) ++ b ∷ []) (reader_behind (at root [] (Prefix k)) (prefix_step k b))
   prefix_leaves k b le =
-      if_leaves _ (at root [] (Prefix k)) (nat_lt k 2) (keyed (codes "0x") k b (Prefix (k + 1))) (first_hex (hex_of b))
+      if_leaves _ (at root [] (Prefix k)) (nat_lt k 2) (key_move (codes "0x") k b (Prefix (k + 1))) (first_hex (hex_of b))
       (λ e.
       let lt : k < 2 = grind (arith, common_steps) in
       if_leaves _ (at root [] (Prefix k)) (b == get_or (codes "0x") k 0) (move.To (Prefix (k + 1))) move.Refused
@@ -156,9 +156,9 @@ module _ (root : List ℕ) (hr : AreBelow (2 ^ 64) root) where
       }) (λ _. tt))
       (λ e.
       let all : k ≡ 2 = grind (arith, common_steps) in
-      subst (λ n. Leaves (spot_text r (whole root []) (Prefix n) ++ b ∷ []) (moved (at root [] (Prefix n)) (first_hex (hex_of b)))) (sym all) (digit (hex_of b) refl))
+      subst (λ n. Leaves (spot_text r (whole root []) (Prefix n) ++ b ∷ []) (reader_behind (at root [] (Prefix n)) (first_hex (hex_of b)))) (sym all) (digit (hex_of b) refl))
     where
-      digit : (o : Option ℕ) → hex_of b ≡ o → Leaves (spot_text r (whole root []) (Prefix 2) ++ b ∷ []) (moved (at root [] (Prefix 2)) (first_hex o))
+      digit : (o : Option ℕ) → hex_of b ≡ o → Leaves (spot_text r (whole root []) (Prefix 2) ++ b ∷ []) (reader_behind (at root [] (Prefix 2)) (first_hex o))
       digit None e = tt
       digit (Some d) e =
           let told = hex_told b d e in
@@ -167,7 +167,7 @@ module _ (root : List ℕ) (hr : AreBelow (2 ^ 64) root) where
             good = record { root = hr; blocks = tt; spot = (omega (arith, told.small), refl) };
           }
 
-  word_leaves : (x b : ℕ) → x < 2 ^ 64 → Leaves (((r ++ codes " 0x") ++ hexadecimal x) ++ b ∷ []) (moved (at root [] (Word x)) (word_step x b))
+  word_leaves : (x b : ℕ) → x < 2 ^ 64 → Leaves (((r ++ codes " 0x") ++ hexadecimal x) ++ b ∷ []) (reader_behind (at root [] (Word x)) (word_step x b))
   word_leaves x b small =
       if_leaves _ (at root [] (Word x)) (b == 32) (move.Word x (Prefix 0)) (if b == 10 then move.Word x (Line 0) else more_hex x (hex_of b))
       (λ is. record {
@@ -185,7 +185,7 @@ module _ (root : List ℕ) (hr : AreBelow (2 ^ 64) root) where
       pushed : rooted (root ++ x ∷ []) ≡ (r ++ codes " 0x") ++ hexadecimal x
       pushed = ap (λ t. codes "root" ++ t) (words_text-push root x) ∙ sym (append_assoc (codes "root") (words_text root) (codes " 0x" ++ hexadecimal x)) ∙ sym (append_assoc r (codes " 0x") (hexadecimal x))
 
-      digit : (o : Option ℕ) → hex_of b ≡ o → Leaves (((r ++ codes " 0x") ++ hexadecimal x) ++ b ∷ []) (moved (at root [] (Word x)) (more_hex x o))
+      digit : (o : Option ℕ) → hex_of b ≡ o → Leaves (((r ++ codes " 0x") ++ hexadecimal x) ++ b ∷ []) (reader_behind (at root [] (Word x)) (more_hex x o))
       digit None e = tt
       digit (Some d) e =
           if_leaves _ (at root [] (Word x)) (nat_lt 0 x && nat_lt x (2 ^ 60)) (move.To (Word (x * 16 + d))) move.Refused
@@ -202,33 +202,33 @@ module _ (root : List ℕ) (blocks : List ImageBlock) (hr : AreBelow (2 ^ 64) ro
   abbrev w : List ℕ
   w = whole root blocks
 
-  to_spot : (t : List ℕ) (spot next : Spot) → spot_text (rooted root) w next ≡ t → IsGoodAt root blocks next → Leaves t (moved (at root blocks spot) (move.To next))
+  to_spot : (t : List ℕ) (spot next : Spot) → spot_text (rooted root) w next ≡ t → IsGoodAt root blocks next → Leaves t (reader_behind (at root blocks spot) (move.To next))
   to_spot t spot next e good = record { text = e; good = record { root = hr; blocks = hb; spot = good } }
 
-  line_leaves : (k b : ℕ) → k ≤ 6 → Leaves ((w ++ take k (codes "block ")) ++ b ∷ []) (moved (at root blocks (Line k)) (line_step k b))
+  line_leaves : (k b : ℕ) → k ≤ 6 → Leaves ((w ++ take k (codes "block ")) ++ b ∷ []) (reader_behind (at root blocks (Line k)) (line_step k b))
   line_leaves k b le =
-      if_leaves _ (at root blocks (Line k)) (nat_lt k 6) (keyed (codes "block ") k b (Line (k + 1))) (first_address (digit_of b))
+      if_leaves _ (at root blocks (Line k)) (nat_lt k 6) (key_move (codes "block ") k b (Line (k + 1))) (first_address (digit_of b))
       (λ e.
       let lt : k < 6 = grind (arith, common_steps) in
       if_leaves _ (at root blocks (Line k)) (b == get_or (codes "block ") k 0) (move.To (Line (k + 1))) move.Refused
       (λ is. to_spot _ (Line k) (Line (k + 1)) (ap (λ t. w ++ t) (key_more (codes "block ") k b lt is) ∙ sym (append_assoc w (take k (codes "block ")) (b ∷ []))) (omega (arith, lt))) (λ _. tt))
       (λ e.
       let all : k ≡ 6 = grind (arith, common_steps) in
-      subst (λ n. Leaves ((w ++ take n (codes "block ")) ++ b ∷ []) (moved (at root blocks (Line n)) (first_address (digit_of b)))) (sym all) (digit (digit_of b) refl))
+      subst (λ n. Leaves ((w ++ take n (codes "block ")) ++ b ∷ []) (reader_behind (at root blocks (Line n)) (first_address (digit_of b)))) (sym all) (digit (digit_of b) refl))
     where
-      digit : (o : Option ℕ) → digit_of b ≡ o → Leaves ((w ++ codes "block ") ++ b ∷ []) (moved (at root blocks (Line 6)) (first_address o))
+      digit : (o : Option ℕ) → digit_of b ≡ o → Leaves ((w ++ codes "block ") ++ b ∷ []) (reader_behind (at root blocks (Line 6)) (first_address o))
       digit None e = tt
       digit (Some d) e =
           let told = digit_told b d e in
           to_spot _ (Line 6) (Address d) (ap (λ t. (w ++ codes "block ") ++ t) (decimal_digit d told.small) ∙ last_digit (w ++ codes "block ") b d told) (omega (arith, told.small))
 
-  address_leaves : (n b : ℕ) → n < 2 ^ 64 → Leaves (opened w n ++ b ∷ []) (moved (at root blocks (Address n)) (address_step n b))
+  address_leaves : (n b : ℕ) → n < 2 ^ 64 → Leaves (opened w n ++ b ∷ []) (reader_behind (at root blocks (Address n)) (address_step n b))
   address_leaves n b small =
       if_leaves _ (at root blocks (Address n)) (b == 32) (move.To (Sizing n)) (more_address n (digit_of b))
       (λ is. to_spot _ (Address n) (Sizing n) (last_byte (opened w n) b 32 is) small)
       (λ _. digit (digit_of b) refl)
     where
-      digit : (o : Option ℕ) → digit_of b ≡ o → Leaves (opened w n ++ b ∷ []) (moved (at root blocks (Address n)) (more_address n o))
+      digit : (o : Option ℕ) → digit_of b ≡ o → Leaves (opened w n ++ b ∷ []) (reader_behind (at root blocks (Address n)) (more_address n o))
       digit None e = tt
       digit (Some d) e =
           if_leaves _ (at root blocks (Address n)) (nat_lt 0 n && nat_lt (n * 10 + d) (2 ^ 64)) (move.To (Address (n * 10 + d))) move.Refused
@@ -239,10 +239,10 @@ module _ (root : List ℕ) (blocks : List ImageBlock) (hr : AreBelow (2 ^ 64) ro
           to_spot _ (Address n) (Address (n * 10 + d)) (ap (λ t. (w ++ codes "block ") ++ t) (decimal_push n d some told.small few) ∙ sym (append_assoc (w ++ codes "block ") (decimal n) ((48 + d) ∷ [])) ∙ last_digit (opened w n) b d told) few)
           (λ _. tt)
 
-  sizing_leaves : (n b : ℕ) → n < 2 ^ 64 → Leaves ((opened w n ++ codes " ") ++ b ∷ []) (moved (at root blocks (Sizing n)) (sizing_step n b))
+  sizing_leaves : (n b : ℕ) → n < 2 ^ 64 → Leaves ((opened w n ++ codes " ") ++ b ∷ []) (reader_behind (at root blocks (Sizing n)) (sizing_step n b))
   sizing_leaves n b small = digit (digit_of b) refl
     where
-      digit : (o : Option ℕ) → digit_of b ≡ o → Leaves ((opened w n ++ codes " ") ++ b ∷ []) (moved (at root blocks (Sizing n)) (first_size n o))
+      digit : (o : Option ℕ) → digit_of b ≡ o → Leaves ((opened w n ++ codes " ") ++ b ∷ []) (reader_behind (at root blocks (Sizing n)) (first_size n o))
       digit None e = tt
       digit (Some d) e =
           if_leaves _ (at root blocks (Sizing n)) (nat_lt 0 d) (move.To (Size n d)) move.Refused
@@ -252,14 +252,14 @@ module _ (root : List ℕ) (blocks : List ImageBlock) (hr : AreBelow (2 ^ 64) ro
           to_spot _ (Sizing n) (Size n d) (ap (λ t. (opened w n ++ codes " ") ++ t) (decimal_digit d told.small) ∙ last_digit (opened w n ++ codes " ") b d told) (small, some, omega (arith, told.small)))
           (λ _. tt)
 
-  size_leaves : (n s b : ℕ) → n < 2 ^ 64 → 1 ≤ s → s ≤ 512 → Leaves (sized w n s ++ b ∷ []) (moved (at root blocks (Size n s)) (size_step n s b))
+  size_leaves : (n s b : ℕ) → n < 2 ^ 64 → 1 ≤ s → s ≤ 512 → Leaves (sized w n s ++ b ∷ []) (reader_behind (at root blocks (Size n s)) (size_step n s b))
   size_leaves n s b small some few =
       if_leaves _ (at root blocks (Size n s)) (b == 32) (move.To (Bytes (empty_at n) s)) (more_size n s (digit_of b))
       (λ is. to_spot _ (Size n s) (Bytes (empty_at n) s) (append-nil (sized w n s ++ codes " ") ∙ last_byte (sized w n s) b 32 is)
       (record { at = small; some = some; few = few; room = omega arith; bytes = tt }))
       (λ _. digit (digit_of b) refl)
     where
-      digit : (o : Option ℕ) → digit_of b ≡ o → Leaves (sized w n s ++ b ∷ []) (moved (at root blocks (Size n s)) (more_size n s o))
+      digit : (o : Option ℕ) → digit_of b ≡ o → Leaves (sized w n s ++ b ∷ []) (reader_behind (at root blocks (Size n s)) (more_size n s o))
       digit None e = tt
       digit (Some d) e =
           if_leaves _ (at root blocks (Size n s)) (nat_le (s * 10 + d) 512) (move.To (Size n (s * 10 + d))) move.Refused
@@ -282,7 +282,7 @@ module _ (root : List ℕ) (blocks : List ImageBlock) (hr : AreBelow (2 ^ 64) ro
       ∙ sym (append_assoc (sized w b.at (length b.bytes)) (codes " ") (bytes_text b.bytes ++ codes "\n"))
       ∙ sym (append_assoc (sized w b.at (length b.bytes) ++ codes " ") (bytes_text b.bytes) (codes "\n"))
 
-  bytes_leaves : (block : ImageBlock) (s b : ℕ) → IsPart block s → Leaves (filled w block s ++ b ∷ []) (moved (at root blocks (Bytes block s)) (bytes_step block s b))
+  bytes_leaves : (block : ImageBlock) (s b : ℕ) → IsPart block s → Leaves (filled w block s ++ b ∷ []) (reader_behind (at root blocks (Bytes block s)) (bytes_step block s b))
   bytes_leaves block s b part =
       if_leaves _ (at root blocks (Bytes block s)) (nat_lt (length block.bytes) s) (upper_half block s (hex_of b)) (if b == 10 then move.Block block else move.Refused)
       (λ e. digit (let lt : length block.bytes < s = grind (arith, common_steps) in lt) (hex_of b) refl)
@@ -298,20 +298,20 @@ module _ (root : List ℕ) (blocks : List ImageBlock) (hr : AreBelow (2 ^ 64) ro
         };
       }) (λ _. tt))
     where
-      digit : length block.bytes < s → (o : Option ℕ) → hex_of b ≡ o → Leaves (filled w block s ++ b ∷ []) (moved (at root blocks (Bytes block s)) (upper_half block s o))
+      digit : length block.bytes < s → (o : Option ℕ) → hex_of b ≡ o → Leaves (filled w block s ++ b ∷ []) (reader_behind (at root blocks (Bytes block s)) (upper_half block s o))
       digit lt None e = tt
       digit lt (Some d) e =
           let told = hex_told b d e in
           to_spot _ (Bytes block s) (Half block s d) (last_hex (filled w block s) b d told) (part, lt, told.small)
 
   half_leaves : (block : ImageBlock) (s u b : ℕ) → IsPart block s → length block.bytes < s → u < 16
-      → Leaves ((filled w block s ++ hex_digit u ∷ []) ++ b ∷ []) (moved (at root blocks (Half block s u)) (half_step block s u b))
+      → Leaves ((filled w block s ++ hex_digit u ∷ []) ++ b ∷ []) (reader_behind (at root blocks (Half block s u)) (half_step block s u b))
   half_leaves block s u b part lt small = digit (hex_of b) refl
     where
       front : List ℕ
       front = sized w block.at s ++ codes " "
 
-      digit : (o : Option ℕ) → hex_of b ≡ o → Leaves ((filled w block s ++ hex_digit u ∷ []) ++ b ∷ []) (moved (at root blocks (Half block s u)) (lower_half block s u o))
+      digit : (o : Option ℕ) → hex_of b ≡ o → Leaves ((filled w block s ++ hex_digit u ∷ []) ++ b ∷ []) (reader_behind (at root blocks (Half block s u)) (lower_half block s u o))
       digit None e = tt
       digit (Some d) e =
           let told = hex_told b d e in
@@ -329,7 +329,7 @@ module _ (root : List ℕ) (blocks : List ImageBlock) (hr : AreBelow (2 ^ 64) ro
           })
 
 step_leaves : (root : List ℕ) (blocks : List ImageBlock) (spot : Spot) (b : ℕ) → AreBelow (2 ^ 64) root → AreImageBlocks blocks → IsGoodAt root blocks spot
-    → Leaves (text_of (at root blocks spot) ++ b ∷ []) (moved (at root blocks spot) (step spot b))
+    → Leaves (text_of (at root blocks spot) ++ b ∷ []) (reader_behind (at root blocks spot) (step spot b))
 step_leaves [] [] (Root k) b hr hb h = root_leaves k b h.0
 step_leaves (x ∷ root) blocks (Root k) b hr hb h = absurd (cc h.1)
 step_leaves [] (c ∷ blocks) (Root k) b hr hb h = absurd (cc h.2)

@@ -4,7 +4,7 @@
 //! bytes. It is in its place if it begins at 64 or later and behind the block before it, and ends
 //! within the greatest region, the first 16,777,216 bytes.
 
-ghost use Rattle.std.specs.Prelude.{◌≡◌, IsTrue, ◌↔◌, MatchOption};
+ghost use Rattle.std.specs.Prelude.{IsTrue, ◌↔◌, MatchOption};
 ghost use Rattle.rb_image_text.specs.Places.{IsInPlace, AreInPlace, IsFirstMisplaced};
 
 use crate::image::ImageBlock;

@@ -4,7 +4,7 @@
 //! its bytes. A reader is what was read of a text so far, and where reading stands. A text goes on
 //! at a byte if the bytes before it and it begin some text of an image.
 
-ghost use Rattle.std.specs.Prelude.{◌≡◌, IfOk, IfErr, ℕ};
+ghost use Rattle.std.specs.Prelude.{◌≡◌, IfOk, IfErr};
 ghost use Rattle.rb_image_text.specs.Images.{AreImageBlocks, IsImage};
 ghost use Rattle.rb_image_text.specs.Text.{image_text};
 ghost use Rattle.rb_image_text.specs.Stopping.{IsTextOf};

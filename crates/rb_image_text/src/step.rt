@@ -5,7 +5,7 @@
 //! since no text goes on so. `read` is how many bytes of a fixed word stand before, and `byte` the
 //! next byte.
 
-ghost use Rattle.std.specs.Prelude.{◌≡◌, IfOk, List, ◌<◌, ◌≤◌, length, ℕ};
+ghost use Rattle.std.specs.Prelude.{◌≡◌, IfOk, ◌<◌};
 ghost use Rattle.rb_image_text.specs.inner.Reading as spec;
 
 use crate::image::{ImageBlock, MOST_BLOCK_BYTES};

@@ -1,5 +1,6 @@
 -- The loops that look for constant bits and null pointers.
 use Rattle.std.proofs.Common.{◌≡◌, ℕ, suc, ◌+◌, ◌-◌, ◌<◌, ◌&&◌, ◌||◌, List, drop, length, get_or, Bool, Option, refl, ap, add-one, drop-cons, arith}
+use Rattle.std.specs.Option.{option_or}
 use Rattle.std.specs.Int.{bit_at}
 use Rattle.rb_layout.specs.declared.layout.Part.{Part}
 use Rattle.rb_core.specs.declared.types.Ty.{Ty}
@@ -7,11 +8,11 @@ use Rattle.rb_core.specs.declared.types.DataDecl.{DataDecl}
 use Rattle.rb_layout.specs.declared.layout.Leaf.{Leaf}
 use Rattle.rb_layout.specs.declared.goals.Literal.{Literal}
 use Rattle.rb_layout.specs.declared.goals.Goal.{Goal}
-use Rattle.rb_layout.specs.Locations.{or_else, bit_of_part, constant_bit}
+use Rattle.rb_layout.specs.Locations.{bit_of_part, constant_bit}
 use Rattle.rb_layout.specs.inner.Barring.{is_other, bit_differs, null_at, null_in, part_barred, parts_barred, leaf_barred, leaves_barred}
 
 pub bit-from : (ps : List Part) (k i : ℕ) (d : Part) → k < length ps
-    → constant_bit (drop k ps) i ≡ or_else (bit_of_part (get_or ps k d) i) (constant_bit (drop (k + 1) ps) i)
+    → constant_bit (drop k ps) i ≡ option_or (bit_of_part (get_or ps k d) i) (constant_bit (drop (k + 1) ps) i)
 bit-from ps k i d lt = rw (add-one, drop-cons ps k d) refl
 
 pub null-from : (ps : List Part) (x : Literal) (k : ℕ) (d : Part) → k < length ps

@@ -13,6 +13,7 @@ use Rattle.rb_core.specs.declared.layout_decl.PartKind.{PartKind}
 use Rattle.rb_core.specs.declared.layout_decl.PartKind as K
 use Rattle.rb_core.specs.declared.layout_decl.PartDecl.{PartDecl}
 use Rattle.rb_core.specs.declared.layout_decl.LayoutDecl.{LayoutDecl}
+use Rattle.rb_core.proofs.LayoutInduction.{item-induction}
 use Rattle.rb_layout.specs.declared.layout.Block.{Block}
 use Rattle.rb_layout.specs.declared.layout.FlatWord.{FlatWord}
 use Rattle.rb_layout.specs.declared.layout.Part.{Part}
@@ -21,7 +22,6 @@ use Rattle.rb_layout.specs.declared.layout.Kind.TheVariants.{Const, Bits, Word, 
 use Rattle.rb_layout.specs.Positions.{Open}
 use Rattle.rb_layout.specs.Flattening.{Laying, in_turn, item_laid, kind_laid, part_laid, items_laid, parts_of, whole_kind, kind_if_open, type_at, shape_of, words_inlined, inline_words}
 use Rattle.rb_layout.proofs.FlatForms.{Each}
-use Rattle.rb_layout.proofs.WrittenForms.{item-induction}
 use Rattle.rb_layout.proofs.Computing.{word_laid, inline_laid, const_laid, whole_laid, slice_laid, word_of_laid, pointer_laid, part_laid_is}
 
 -- Lists -------------------------------------------------------------------------------------------

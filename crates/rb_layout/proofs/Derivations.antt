@@ -2,6 +2,7 @@
 use Rattle.std.proofs.Common.{◌≡◌, ℕ, zero, suc, ◌+◌, ◌-◌, ◌<◌, ◌≤◌, ◌==◌, ◌&&◌, ◌||◌, ◌⊎◌, inl, inr, min, max, not, length, List, [], ◌∷◌, Bool, true, false, Option, Some, None, refl, sym, subst, ap, ◌∙◌, arith}
 use Rattle.std.specs.Prelude.{slice_get, leb, ltb, if◌then◌else◌}
 use Rattle.std.specs.Int.{bit_at}
+use Rattle.std.proofs.lemmas.Bool.{and_parts}
 use Rattle.std.proofs.lemmas.Option.{same_Some}
 use Rattle.std.proofs.lemmas.Grind.{common_steps}
 use Rattle.rb_bits.specs.Words.{take_of}
@@ -24,10 +25,6 @@ use Rattle.rb_layout.specs.inner.Settling.{GoalHolds}
 use Rattle.rb_layout.proofs.OpenPositions.{position-typed, type-open}
 
 -- ---- tests
-pub both : (a b : Bool) → (a && b) ≡ true → (a ≡ true) × (b ≡ true)
-both true true e = (refl, refl)
-both true false e = absurd cc
-both false b e = absurd cc
 
 pub or_is : (a b : Bool) → (a || b) ≡ true → (a ≡ true) ⊎ (b ≡ true)
 or_is true b e = inl refl
@@ -116,9 +113,9 @@ null_is [] x e = absurd cc
 null_is (p ∷ ps) x e =
     elim (or_is (null_at x p) (null_in ps x) e) [
       | inl h ↦
-          let a = both (is_pointer p.kind && (leb x.o p.o && leb (p.o + p.l) (x.o + x.l))) (take_of x.bits (p.o - x.o) p.l == 0) h in
-          let b = both (is_pointer p.kind) (leb x.o p.o && leb (p.o + p.l) (x.o + x.l)) a.0 in
-          let d = both (leb x.o p.o) (leb (p.o + p.l) (x.o + x.l)) b.1 in
+          let a = and_parts (is_pointer p.kind && (leb x.o p.o && leb (p.o + p.l) (x.o + x.l))) (take_of x.bits (p.o - x.o) p.l == 0) h in
+          let b = and_parts (is_pointer p.kind) (leb x.o p.o && leb (p.o + p.l) (x.o + x.l)) a.0 in
+          let d = and_parts (leb x.o p.o) (leb (p.o + p.l) (x.o + x.l)) b.1 in
           let k = pointer_is p.kind b.0 in
           (0, p, k.0, k.1, refl, k.2, leb_is x.o p.o d.0, leb_is (p.o + p.l) (x.o + x.l) d.1, same_nat _ _ a.1)
       | inr h ↦ let r = null_is ps x h in (suc r.0, r.1, r.2, r.3, r.4, r.5, r.6, r.7, r.8)
@@ -268,10 +265,10 @@ module _ (types : List DataDecl) (layouts : List Layout) where
         → (f : FlatWord) × (slice_get leaf.root g.word ≡ Some f) × Barred leaf f g.literal
     leaves_is g [] e n leaf is = absurd cc
     leaves_is g (y ∷ ys) e zero leaf is =
-        let h = both (leaf_barred known types g y) (leaves_barred known types g ys) e in
+        let h = and_parts (leaf_barred known types g y) (leaves_barred known types g ys) e in
         let same : y ≡ leaf = same_Some y leaf is in
         root_is leaf g.literal (slice_get leaf.root g.word) (subst (λ (z : Leaf). leaf_barred known types g z ≡ true) same h.0)
-    leaves_is g (y ∷ ys) e (suc n) leaf is = let h = both (leaf_barred known types g y) (leaves_barred known types g ys) e in leaves_is g ys h.1 n leaf is
+    leaves_is g (y ∷ ys) e (suc n) leaf is = let h = and_parts (leaf_barred known types g y) (leaves_barred known types g ys) e in leaves_is g ys h.1 n leaf is
 
     some_leaf : (ls : List Leaf) → has_leaf ls ≡ true → 0 < length ls
     some_leaf [] e = absurd cc
@@ -280,7 +277,7 @@ module _ (types : List DataDecl) (layouts : List Layout) where
     layout_is : (g : Goal) (l : Option Layout) → layout_of layouts g.ty ≡ l → layout_barred known types g l ≡ true → GoalHolds types layouts g
     layout_is g None is e = absurd cc
     layout_is g (Some l) is e =
-        let h = both (has_leaf l.leaves) (leaves_barred known types g l.leaves) e in
+        let h = and_parts (has_leaf l.leaves) (leaves_barred known types g l.leaves) e in
         let each = leaves_is g l.leaves h.1 in
         record {
           layout = l;

@@ -1,6 +1,7 @@
 -- What is known of the end of a location.
 use Rattle.std.proofs.Common.{◌≡◌, ℕ, ◌+◌, ◌≤◌, ◌&&◌, List, [], ◌∷◌, Bool, true, false, Option, Some, None, refl, sym, ap, ◌∙◌, arith}
 use Rattle.std.specs.Prelude.{leb, if◌then◌else◌}
+use Rattle.std.proofs.lemmas.Bool.{and_parts}
 use Rattle.std.proofs.lemmas.Option.{same_Some}
 use Rattle.std.proofs.lemmas.Grind.{common_steps}
 use Rattle.rb_core.specs.declared.layout_decl.Loc.{Loc}
@@ -21,11 +22,6 @@ pub record EndsAt (leaf : Leaf) (x : Reached) : Type 0 where
   pub some : 1 ≤ x.l
   pub within : x.o + x.l ≤ x.word.width
 
-both : (a b : Bool) → (a && b) ≡ true → (a ≡ true) × (b ≡ true)
-both true true e = (refl, refl)
-both true false e = absurd cc
-both false b e = absurd cc
-
 leb_is : (a b : ℕ) → leb a b ≡ true → a ≤ b
 leb_is a b e = grind (arith, common_steps)
 
@@ -33,7 +29,7 @@ ends_case : (leaf : Leaf) (r : WordRef) (f : FlatWord) (o l : ℕ) (x : Reached)
     → (if t then Some (record { ref = r; word = f; o = o; l = l }) else None) ≡ Some x → EndsAt leaf x
 ends_case leaf r f o l x false is t e = absurd cc
 ends_case leaf r f o l x true is t e =
-    let b = both (leb 1 l) (leb (o + l) f.width) t in
+    let b = and_parts (leb 1 l) (leb (o + l) f.width) t in
     let first : 1 ≤ l = leb_is 1 l b.0 in
     let last : o + l ≤ f.width = leb_is (o + l) f.width b.1 in
     let same = same_Some _ x e in

@@ -14,8 +14,8 @@ use Rattle.rb_layout.specs.declared.goals.Entry.{Entry}
 use Rattle.rb_layout.specs.Positions.{layout_of}
 use Rattle.rb_layout.specs.inner.Barring.{position_type, goal_in, same_goal, knows, IsAsked, AreAsked}
 use Rattle.std.proofs.lemmas.Option.{slice_get_within, slice_get-get_or}
-use Rattle.std.proofs.lemmas.Bool.{cases_lt}
-use Rattle.rb_layout.proofs.Derivations.{both, or_is, or_left, or_right, and_of, same_nat, eq_of, goal-part, literal-is}
+use Rattle.std.proofs.lemmas.Bool.{cases_lt, and_parts}
+use Rattle.rb_layout.proofs.Derivations.{or_is, or_left, or_right, and_of, same_nat, eq_of, goal-part, literal-is}
 use Rattle.rb_layout.specs.inner.Finding.{has_goal, with_found, with_parts, with_root, with_leaf, with_leaves, with_layout, with_below, AreFresh, KeepsGoals, IsGoalOf, HasBelow}
 
 pub parts-from : (type_of : List ℕ → Option Ty) (x : Literal) (es : List Entry) (ps : List Part) (k : ℕ) (d : Part) → k < length ps
@@ -54,10 +54,10 @@ same-goal g h e =
     let o : Bool = h.literal.o == g.literal.o in
     let l : Bool = h.literal.l == g.literal.l in
     let bits : Bool = h.literal.bits == g.literal.bits in
-    let a = both (h.ty == g.ty) ((h.word == g.word) && (o && (l && bits))) e in
-    let b = both (h.word == g.word) (o && (l && bits)) a.1 in
-    let c = both o (l && bits) b.1 in
-    let d = both l bits c.1 in
+    let a = and_parts (h.ty == g.ty) ((h.word == g.word) && (o && (l && bits))) e in
+    let b = and_parts (h.word == g.word) (o && (l && bits)) a.1 in
+    let c = and_parts o (l && bits) b.1 in
+    let d = and_parts l bits c.1 in
     let ty : g.ty ≡ h.ty = sym (same_nat h.ty g.ty a.0) in
     let word : g.word ≡ h.word = sym (same_nat h.word g.word b.0) in
     let same_o : g.literal.o ≡ h.literal.o = sym (same_nat h.literal.o g.literal.o c.0) in

@@ -8,7 +8,7 @@ use Rattle.rb_layout.specs.declared.goals.Goal.{Goal}
 use Rattle.rb_layout.specs.declared.goals.Entry.{Entry}
 use Rattle.rb_layout.specs.inner.Barring.{same_goal, knows}
 use Rattle.rb_layout.specs.inner.Finding.{has_goal, with_goal}
-use Rattle.rb_layout.specs.inner.Settling.{marked}
+use Rattle.rb_layout.specs.inner.Settling.{with_mark}
 
 abbrev pub entry : Goal × Bool → Entry
 entry e = record { goal = e.0; barred = e.1 }
@@ -47,11 +47,11 @@ pub none-here : {A : Type 0} (found : Option A) → is_some found ≡ false → 
 none-here (Some a) h = absurd cc
 none-here None h = refl
 
-marked_later : (x : Entry) (xs : List Entry) (i : ℕ) (y : Option Entry) → x ∷ marked xs i y ≡ marked (x ∷ xs) (suc i) y
+marked_later : (x : Entry) (xs : List Entry) (i : ℕ) (y : Option Entry) → x ∷ with_mark xs i y ≡ with_mark (x ∷ xs) (suc i) y
 marked_later x xs i None = refl
 marked_later x xs i (Some y) = refl
 
-pub mark-entries : (es : List (Goal × Bool)) (i : ℕ) → map entry (set_value_at es i true) ≡ marked (map entry es) i (slice_get (map entry es) i)
+pub mark-entries : (es : List (Goal × Bool)) (i : ℕ) → map entry (set_value_at es i true) ≡ with_mark (map entry es) i (slice_get (map entry es) i)
 mark-entries [] i = refl
 mark-entries (e ∷ es) zero = refl
 mark-entries (e ∷ es) (suc i) = ap (λ xs. entry e ∷ xs) (mark-entries es i) ∙ marked_later (entry e) (map entry es) i (slice_get (map entry es) i)

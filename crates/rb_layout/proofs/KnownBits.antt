@@ -1,6 +1,7 @@
 -- Constant bits, from the highest to the lowest.
 use Rattle.std.proofs.Common.{◌≡◌, ℕ, zero, suc, ◌+◌, ◌-◌, ◌*◌, ◌^◌, ◌<◌, ◌≤◌, ◌&&◌, List, [], ◌∷◌, Bool, true, false, Option, Some, None, refl, sym, ap, ◌∙◌, arith}
 use Rattle.std.specs.Prelude.{leb, ltb, if◌then◌else◌}
+use Rattle.std.specs.Option.{option_or}
 use Rattle.std.specs.Int.{bit_at}
 use Rattle.std.proofs.lemmas.Nat.{pow-add}
 use Rattle.std.proofs.lemmas.Nat.Bits.{bit_at-lt}
@@ -8,7 +9,7 @@ use Rattle.std.proofs.lemmas.Option.{same_Some}
 use Rattle.rb_layout.specs.declared.layout.Part.{Part}
 use Rattle.rb_layout.specs.declared.layout.Kind.{Kind}
 use Rattle.rb_layout.specs.declared.layout.Kind.TheVariants.{Const, Bits, Word, Pointer}
-use Rattle.rb_layout.specs.Locations.{or_else, bit_of_kind, bit_of_part, constant_bit, constant_bits, with_bit}
+use Rattle.rb_layout.specs.Locations.{bit_of_kind, bit_of_part, constant_bit, constant_bits, with_bit}
 
 kind_small : (k : Kind) (i b : ℕ) → bit_of_kind k i ≡ Some b → b < 2
 kind_small (Const c) i b e = let s = same_Some (bit_at c i) b e in omega (arith, bit_at-lt c i, s)
@@ -20,7 +21,7 @@ part_small : (p : Part) (i b : ℕ) (t : Bool) → (if t then bit_of_kind p.kind
 part_small p i b true e = kind_small p.kind (i - p.o) b e
 part_small p i b false e = absurd cc
 
-first_small : (x y : Option ℕ) (b : ℕ) → (x ≡ Some b → b < 2) → (y ≡ Some b → b < 2) → or_else x y ≡ Some b → b < 2
+first_small : (x y : Option ℕ) (b : ℕ) → (x ≡ Some b → b < 2) → (y ≡ Some b → b < 2) → option_or x y ≡ Some b → b < 2
 first_small None y b h k e = k e
 first_small (Some x) y b h k e = h e
 

@@ -1,6 +1,7 @@
 -- The loops that follow a location.
 use Rattle.std.proofs.Common.{◌≡◌, ℕ, ◌+◌, ◌/◌, ◌<◌, ◌≤◌, ◌==◌, ◌&&◌, List, [], ◌∷◌, drop, length, get_or, Bool, false, Option, Some, None, refl, sym, ap, ◌∙◌, add-one, drop-cons}
 use Rattle.std.specs.Prelude.{if◌then◌else◌}
+use Rattle.std.specs.Option.{option_or}
 use Rattle.std.proofs.lemmas.Option.{slice_get-get_or, slice_get_past}
 use Rattle.rb_layout.specs.declared.layout.FlatWord.{FlatWord}
 use Rattle.rb_layout.specs.declared.layout.Part.{Part}
@@ -9,13 +10,13 @@ use Rattle.rb_core.specs.declared.layout_decl.Step.{Step}
 use Rattle.rb_layout.specs.declared.layout.WordRef.{WordRef}
 use Rattle.rb_layout.specs.Words.{flat_at, bytes_taken}
 use Rattle.rb_layout.specs.declared.locate.End.{End}
-use Rattle.rb_layout.specs.Locations.{Reached, or_else, pointed_in, block_in, pointer_block, word_beginning, next_ref, range_in, resolve_from, reached_at, ref_of}
+use Rattle.rb_layout.specs.Locations.{Reached, pointed_in, block_in, pointer_block, word_beginning, next_ref, range_in, resolve_from, reached_at, ref_of}
 use Rattle.rb_layout.specs.inner.Ends.{end_of}
 use Rattle.rb_core.specs.declared.layout_decl.Loc.{Loc}
 use Rattle.rb_layout.specs.Readable.{AreShort}
 
 pub block-from : (ps : List Part) (k o l align : ℕ) (d : Part) → k < length ps
-    → block_in (drop k ps) o l align ≡ or_else (pointed_in (get_or ps k d) o l align) (block_in (drop (k + 1) ps) o l align)
+    → block_in (drop k ps) o l align ≡ option_or (pointed_in (get_or ps k d) o l align) (block_in (drop (k + 1) ps) o l align)
 block-from ps k o l align d lt = rw (add-one, drop-cons ps k d) refl
 
 pub word-from : (fs : List FlatWord) (k start byte width j : ℕ) (d : FlatWord) → k < length fs

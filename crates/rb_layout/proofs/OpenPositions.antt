@@ -1,6 +1,7 @@
 -- The type at a position is that of the open position there.
-use Rattle.std.proofs.Common.{◌≡◌, ℕ, zero, suc, ◌+◌, ◌==◌, ◌&&◌, ◌⊎◌, inl, inr, List, [], ◌∷◌, ◌++◌, map, Bool, true, false, Some, refl, sym, ap, ◌∙◌, arith}
+use Rattle.std.proofs.Common.{◌≡◌, ℕ, zero, suc, ◌+◌, ◌==◌, ◌⊎◌, inl, inr, List, [], ◌∷◌, ◌++◌, map, Bool, true, false, Some, refl, sym, ap, ◌∙◌, arith}
 use Rattle.std.specs.Prelude.{slice_get, if◌then◌else◌}
+use Rattle.std.proofs.lemmas.Bool.{and_parts}
 use Rattle.std.proofs.lemmas.Option.{same_Some}
 use Rattle.std.proofs.lemmas.Grind.{common_steps}
 use Rattle.rb_core.specs.declared.types.Ty.{Ty}
@@ -85,11 +86,6 @@ module _ (types : List DataDecl) where
   pub position-typed : (prov : Pat) (k : ℕ) (o : Open) → slice_get (open_positions types prov) k ≡ Some o → type_at (open_positions types prov) o.path ≡ Some o.ty
   position-typed prov k o e = type_at_walked types prov o.path ∙ open_typed prov (root_type (out-Pat prov)) k o e
 
-both : (a b : Bool) → (a && b) ≡ true → (a ≡ true) × (b ≡ true)
-both true true e = (refl, refl)
-both true false e = absurd cc
-both false b e = absurd cc
-
 same_nat : (a b : ℕ) → (a == b) ≡ true → a ≡ b
 same_nat a b e = grind (arith, common_steps)
 
@@ -97,7 +93,7 @@ path_is : (p q : List ℕ) → same_path p q ≡ true → p ≡ q
 path_is [] [] e = refl
 path_is [] (j ∷ q) e = absurd cc
 path_is (i ∷ p) [] e = absurd cc
-path_is (i ∷ p) (j ∷ q) e = let b = both (i == j) (same_path p q) e in let x = same_nat i j b.0 in let y = path_is p q b.1 in cc
+path_is (i ∷ p) (j ∷ q) e = let b = and_parts (i == j) (same_path p q) e in let x = same_nat i j b.0 in let y = path_is p q b.1 in cc
 
 -- the open position at a path
 abbrev IsOpen : List Open → List ℕ → Ty → Type 0

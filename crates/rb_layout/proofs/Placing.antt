@@ -14,6 +14,7 @@ use Rattle.rb_core.specs.declared.layout_decl.PartKind.{PartKind}
 use Rattle.rb_core.specs.declared.layout_decl.PartKind as K
 use Rattle.rb_core.specs.declared.layout_decl.PartDecl.{PartDecl}
 use Rattle.rb_core.specs.declared.layout_decl.LayoutDecl.{LayoutDecl}
+use Rattle.rb_core.proofs.LayoutInduction.{item-induction}
 use Rattle.rb_layout.specs.declared.layout.Block.{Block}
 use Rattle.rb_layout.specs.declared.layout.FlatWord.{FlatWord}
 use Rattle.rb_layout.specs.declared.layout.Part.{Part}
@@ -25,7 +26,6 @@ use Rattle.rb_layout.specs.Items.{Content, Number, Whole, Slice, WordOf, Address
 use Rattle.rb_layout.specs.Placing.{Standing, standing_of, parts_in_place, standing_in, part_placed, whole_placed, if_open, parts_placed, EachStandsOnce}
 use Rattle.rb_layout.proofs.FlatForms.{Each}
 use Rattle.rb_layout.proofs.WrittenForms as W
-use Rattle.rb_layout.proofs.WrittenForms.{item-induction}
 use Rattle.rb_layout.proofs.Computing.{word_laid, inline_laid, const_laid, whole_laid, slice_laid, word_of_laid, pointer_laid, part_laid_is}
 
 -- Items, form by form -------------------------------------------------------------------------------

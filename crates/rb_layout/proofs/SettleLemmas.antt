@@ -2,15 +2,15 @@
 use Rattle.std.proofs.Common.{◌≡◌, ℕ, zero, suc, ◌<◌, ◌≤◌, ◌||◌, ◌⊎◌, inl, inr, not, List, [], ◌∷◌, length, Bool, true, false, Option, Some, None, refl, sym, ap, subst, ◌∙◌, arith}
 use Rattle.std.specs.Prelude.{slice_get, slice_set, if◌then◌else◌}
 use Rattle.std.proofs.lemmas.Option.{same_Some, slice_get_within}
-use Rattle.std.proofs.lemmas.Bool.{cases_lt}
+use Rattle.std.proofs.lemmas.Bool.{cases_lt, and_parts}
 use Rattle.rb_core.specs.declared.types.DataDecl.{DataDecl}
 use Rattle.rb_layout.specs.declared.layout.Layout.{Layout}
 use Rattle.rb_layout.specs.declared.goals.Goal.{Goal}
 use Rattle.rb_layout.specs.declared.goals.Entry.{Entry}
 use Rattle.rb_layout.specs.inner.Barring.{same_goal, knows, goal_barred, IsAsked, AreAsked}
 use Rattle.rb_layout.specs.inner.Finding.{has_goal, KeepsGoals}
-use Rattle.rb_layout.specs.inner.Settling.{turns, marked, looked, passed, changes, entries_left, GoalHolds, AreTrue, AreSettled}
-use Rattle.rb_layout.proofs.Derivations.{both, or_is, or_left, or_right, goal-holds}
+use Rattle.rb_layout.specs.inner.Settling.{turns, with_mark, after_look, after_looks, changes, entries_left, GoalHolds, AreTrue, AreSettled}
+use Rattle.rb_layout.proofs.Derivations.{or_is, or_left, or_right, goal-holds}
 use Rattle.rb_layout.proofs.FindLemmas.{same-goal}
 
 abbrev mark : Entry → Entry
@@ -76,7 +76,7 @@ module _ (types : List DataDecl) (layouts : List Layout) where
     pub is_entry : slice_get es i ≡ Some entry
     pub not_yet : entry.barred ≡ false
     pub holds : goal_barred (knows es) types layouts entry.goal ≡ true
-    pub new : looked types layouts i es ≡ slice_set es i (mark entry)
+    pub new : after_look types layouts i es ≡ slice_set es i (mark entry)
 
   not_true : (b : Bool) → not b ≡ true → b ≡ false
   not_true true e = absurd cc
@@ -86,7 +86,7 @@ module _ (types : List DataDecl) (layouts : List Layout) where
       → (entry : Entry) × (slice_get es i ≡ Some entry) × (entry.barred ≡ false) × (goal_barred (knows es) types layouts entry.goal ≡ true)
   turned_case es i None is e = absurd cc
   turned_case es i (Some entry) is e =
-      let h = both (not entry.barred) (goal_barred (knows es) types layouts entry.goal) e in (entry, is, not_true entry.barred h.0, h.1)
+      let h = and_parts (not entry.barred) (goal_barred (knows es) types layouts entry.goal) e in (entry, is, not_true entry.barred h.0, h.1)
 
   turned : (es : List Entry) (i : ℕ) → turns types layouts es (slice_get es i) ≡ true → Turned es i
   turned es i e =
@@ -96,11 +96,11 @@ module _ (types : List DataDecl) (layouts : List Layout) where
         is_entry = r.1;
         not_yet = r.2;
         holds = r.3;
-        new = ap (λ b. if b then marked es i (slice_get es i) else es) e ∙ ap (marked es i) r.1;
+        new = ap (λ b. if b then with_mark es i (slice_get es i) else es) e ∙ ap (with_mark es i) r.1;
       }
 
-  still : (es : List Entry) (i : ℕ) → turns types layouts es (slice_get es i) ≡ false → looked types layouts i es ≡ es
-  still es i e = ap (λ b. if b then marked es i (slice_get es i) else es) e
+  still : (es : List Entry) (i : ℕ) → turns types layouts es (slice_get es i) ≡ false → after_look types layouts i es ≡ es
+  still es i e = ap (λ b. if b then with_mark es i (slice_get es i) else es) e
 
   true_or_false : (b : Bool) → (b ≡ true) ⊎ (b ≡ false)
   true_or_false true = inl refl
@@ -138,27 +138,27 @@ module _ (types : List DataDecl) (layouts : List Layout) where
     fewer = (let less = pending_set es i t.entry t.is_entry t.not_yet in omega arith);
   }
 
-  goes_look : (es : List Entry) (i : ℕ) → Goes es (looked types layouts i es)
+  goes_look : (es : List Entry) (i : ℕ) → Goes es (after_look types layouts i es)
   goes_look es i =
       elim (true_or_false (turns types layouts es (slice_get es i))) [
         | inl e ↦ let t = turned es i e in subst (λ fs. Goes es fs) (sym t.new) (goes_marked es i t)
         | inr e ↦ subst (λ fs. Goes es fs) (sym (still es i e)) (goes_alone es)
       ]
 
-  pub goes-pass : (n : ℕ) (es : List Entry) → Goes es (passed types layouts n es)
+  pub goes-pass : (n : ℕ) (es : List Entry) → Goes es (after_looks types layouts n es)
   goes-pass zero es = goes_alone es
-  goes-pass (suc n) es = goes_more (goes_look es n) (goes-pass n (looked types layouts n es))
+  goes-pass (suc n) es = goes_more (goes_look es n) (goes-pass n (after_look types layouts n es))
 
-  look_less : (es : List Entry) (i : ℕ) → turns types layouts es (slice_get es i) ≡ true → entries_left (looked types layouts i es) < entries_left es
+  look_less : (es : List Entry) (i : ℕ) → turns types layouts es (slice_get es i) ≡ true → entries_left (after_look types layouts i es) < entries_left es
   look_less es i e = let t = turned es i e in subst (λ fs. entries_left fs < entries_left es) (sym t.new) (pending_set es i t.entry t.is_entry t.not_yet)
 
   -- a pass that marks a goal leaves fewer unmarked
-  pub pass-less : (n : ℕ) (es : List Entry) → changes types layouts n es ≡ true → entries_left (passed types layouts n es) < entries_left es
+  pub pass-less : (n : ℕ) (es : List Entry) → changes types layouts n es ≡ true → entries_left (after_looks types layouts n es) < entries_left es
   pass-less zero es e = absurd cc
   pass-less (suc n) es e =
-      elim (or_is (turns types layouts es (slice_get es n)) (changes types layouts n (looked types layouts n es)) e) [
-        | inl h ↦ let one = look_less es n h in let rest = (goes-pass n (looked types layouts n es)).fewer in omega arith
-        | inr h ↦ let one = (goes_look es n).fewer in let rest = pass-less n (looked types layouts n es) h in omega arith
+      elim (or_is (turns types layouts es (slice_get es n)) (changes types layouts n (after_look types layouts n es)) e) [
+        | inl h ↦ let one = look_less es n h in let rest = (goes-pass n (after_look types layouts n es)).fewer in omega arith
+        | inr h ↦ let one = (goes_look es n).fewer in let rest = pass-less n (after_look types layouts n es) h in omega arith
       ]
 
   neither : (a b : Bool) → (a || b) ≡ false → (a ≡ false) × (b ≡ false)
@@ -167,16 +167,16 @@ module _ (types : List DataDecl) (layouts : List Layout) where
 
   -- a pass that marks none changes nothing, and none of its entries turns
   pub pass-still : (n : ℕ) (es : List Entry) → changes types layouts n es ≡ false
-      → (passed types layouts n es ≡ es) × ((k : ℕ) → k < n → turns types layouts es (slice_get es k) ≡ false)
+      → (after_looks types layouts n es ≡ es) × ((k : ℕ) → k < n → turns types layouts es (slice_get es k) ≡ false)
   pass-still zero es e = (refl, λ k lt. absurd (omega arith))
   pass-still (suc n) es e =
-      let h = neither (turns types layouts es (slice_get es n)) (changes types layouts n (looked types layouts n es)) e in
+      let h = neither (turns types layouts es (slice_get es n)) (changes types layouts n (after_look types layouts n es)) e in
       let same = still es n h.0 in
       let rest = pass-still n es (subst (λ fs. changes types layouts n fs ≡ false) same h.1) in
-      (ap (passed types layouts n) same ∙ rest.0, λ k lt. last_or (λ j. turns types layouts es (slice_get es j) ≡ false) n k lt h.0 rest.1)
+      (ap (after_looks types layouts n) same ∙ rest.0, λ k lt. last_or (λ j. turns types layouts es (slice_get es j) ≡ false) n k lt h.0 rest.1)
 
   pub settled-pass : (old es : List Entry) → changes types layouts (length es) es ≡ false → KeepsGoals old es → (AreTrue types layouts old → AreTrue types layouts es)
-      → AreSettled types layouts old (passed types layouts (length es) es)
+      → AreSettled types layouts old (after_looks types layouts (length es) es)
   settled-pass old es e keeps true_ones =
       let r = pass-still (length es) es e in
       let here : AreSettled types layouts old es = record {

@@ -12,6 +12,7 @@ use Rattle.rb_core.specs.declared.layout_decl.LayTree.{LayTree}
 use Rattle.rb_core.specs.declared.layout_decl.LayTree as S
 use Rattle.rb_core.specs.declared.layout_decl.LayTree.TheFolds.{fold_out-Arm}
 use Rattle.rb_core.specs.Layouts.{WrittenLeaf, leaves, leaves_under, leaves_step, arm_leaves}
+use Rattle.rb_core.proofs.LayoutInduction.{tree-induction}
 use Rattle.rb_layout.specs.declared.layout.FlatTree as Flat
 use Rattle.rb_layout.specs.declared.layout.FlatTree.{FlatTree}
 use Rattle.rb_layout.specs.declared.layout.FlatArm.{FlatArm}
@@ -19,7 +20,7 @@ use Rattle.rb_layout.specs.declared.layout.Leaf.{Leaf}
 use Rattle.rb_layout.specs.Splits.{Under}
 use Rattle.rb_layout.specs.Flattening.{LeafNumbering, numbering, arm_numbering, tree_step, arm_step, arms_count, arms_from}
 use Rattle.rb_layout.proofs.FlatForms.{Each}
-use Rattle.rb_layout.proofs.WrittenForms.{fold-Leaf, fold-Split, fold-Split-else, tree-induction}
+use Rattle.rb_layout.proofs.WrittenForms.{fold-Leaf, fold-Split, fold-Split-else}
 use Rattle.rb_layout.proofs.LayingLemmas.{one_more}
 use Rattle.rb_layout.proofs.Walks.{drop_from}
 

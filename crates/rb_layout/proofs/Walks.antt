@@ -1,6 +1,7 @@
 -- The type at a path of a provenance is that at which a walk along the path ends.
 use Rattle.std.proofs.Common.{◌≡◌, ℕ, zero, suc, ◌+◌, ◌<◌, ◌≤◌, ◌==◌, List, [], ◌∷◌, ◌++◌, map, Option, Some, None, Bool, true, false, refl, sym, ap, ◌∙◌, arith}
 use Rattle.std.specs.Prelude.{◌&&◌, drop, length, slice_get, if◌then◌else◌}
+use Rattle.std.specs.Option.{option_or}
 use Rattle.std.proofs.lemmas.List.{drop_all}
 use Rattle.std.proofs.lemmas.Option.{same_Some}
 use Rattle.std.proofs.lemmas.Bool.{ne_eqb, eq-eqb}
@@ -14,18 +15,17 @@ use Rattle.rb_core.specs.declared.pattern.Pat.TheOpen.{Pat-F}
 use Rattle.rb_core.specs.Values.{fields_of}
 use Rattle.rb_core.proofs.PatternLaws.{fold-Wild, fold-Var, fold-Num, fold-Con, Each, induction}
 use Rattle.rb_layout.specs.Positions.{Open, below, opens_below, opens_step, opens_of, open_positions, types_or_none, root_type, pair_of, sub_in, sub_pattern}
-use Rattle.rb_layout.specs.Locations.{or_else}
 use Rattle.rb_layout.specs.Flattening.{same_path, type_at}
 use Rattle.rb_layout.specs.inner.Walking.{open_type, type_along}
 
 -- Lists of open positions -----------------------------------------------------------------------
 
-type_at_first : (b : Bool) (ty : Ty) (os : List Open) (path : List ℕ) (ys : List Open) → type_at (os ++ ys) path ≡ or_else (type_at os path) (type_at ys path)
-    → (if b then Some ty else type_at (os ++ ys) path) ≡ or_else (if b then Some ty else type_at os path) (type_at ys path)
+type_at_first : (b : Bool) (ty : Ty) (os : List Open) (path : List ℕ) (ys : List Open) → type_at (os ++ ys) path ≡ option_or (type_at os path) (type_at ys path)
+    → (if b then Some ty else type_at (os ++ ys) path) ≡ option_or (if b then Some ty else type_at os path) (type_at ys path)
 type_at_first true ty os path ys e = refl
 type_at_first false ty os path ys e = e
 
-pub type_at-append : (xs ys : List Open) (path : List ℕ) → type_at (xs ++ ys) path ≡ or_else (type_at xs path) (type_at ys path)
+pub type_at-append : (xs ys : List Open) (path : List ℕ) → type_at (xs ++ ys) path ≡ option_or (type_at xs path) (type_at ys path)
 type_at-append [] ys path = refl
 type_at-append (o ∷ os) ys path = type_at_first (same_path o.path path) o.ty os path ys (type_at-append os ys path)
 
@@ -49,9 +49,9 @@ type_at-below-root : (i : ℕ) (os : List Open) → type_at (map (below i) os) [
 type_at-below-root i [] = refl
 type_at-below-root i (o ∷ os) = type_at-below-root i os
 
-or_else_None : {A : Type 0} (x : Option A) → or_else x None ≡ x
-or_else_None None = refl
-or_else_None (Some a) = refl
+option_or_None : {A : Type 0} (x : Option A) → option_or x None ≡ x
+option_or_None None = refl
+option_or_None (Some a) = refl
 
 pub drop_from : {A : Type 0} (xs : List A) (i : ℕ) (x : A) → slice_get xs i ≡ Some x → drop i xs ≡ x ∷ drop (suc i) xs
 drop_from [] i x e = absurd cc
@@ -69,7 +69,7 @@ module _ (types : List DataDecl) where
   not_at_root (p ∷ ps) [] i = refl
   not_at_root (p ∷ ps) (t ∷ ts) i =
       type_at-append (map (below i) (opens p t)) (opens_below (map opens ps) ts (i + 1)) []
-      ∙ ap (λ x. or_else x (type_at (opens_below (map opens ps) ts (i + 1)) [])) (type_at-below-root i (opens p t))
+      ∙ ap (λ x. option_or x (type_at (opens_below (map opens ps) ts (i + 1)) [])) (type_at-below-root i (opens p t))
       ∙ not_at_root ps ts (i + 1)
 
   -- fields before the first
@@ -79,7 +79,7 @@ module _ (types : List DataDecl) where
   not_before (p ∷ ps) (t ∷ ts) i k q lt =
       let other : (i == k) ≡ false = ne_eqb i k (λ e. absurd (omega (arith, e, lt))) in
       type_at-append (map (below i) (opens p t)) (opens_below (map opens ps) ts (i + 1)) (k ∷ q)
-      ∙ ap (λ x. or_else x (type_at (opens_below (map opens ps) ts (i + 1)) (k ∷ q)))
+      ∙ ap (λ x. option_or x (type_at (opens_below (map opens ps) ts (i + 1)) (k ∷ q)))
       (type_at-below i k (opens p t) q ∙ ap (λ b. if b then type_at (opens p t) q else None) other)
       ∙ not_before ps ts (i + 1) k q (omega (arith, lt))
 
@@ -98,16 +98,16 @@ module _ (types : List DataDecl) where
   field_walk (p ∷ ps) each (t ∷ ts) i zero q =
       let same : (i == (i + 0)) ≡ true = eq-eqb i (i + 0) (omega arith) in
       type_at-append (map (below i) (opens p t)) (opens_below (map opens ps) ts (i + 1)) ((i + 0) ∷ q)
-      ∙ ap (λ x. or_else x (type_at (opens_below (map opens ps) ts (i + 1)) ((i + 0) ∷ q)))
+      ∙ ap (λ x. option_or x (type_at (opens_below (map opens ps) ts (i + 1)) ((i + 0) ∷ q)))
       (type_at-below i (i + 0) (opens p t) q ∙ ap (λ b. if b then type_at (opens p t) q else None) same)
-      ∙ ap (λ x. or_else (type_at (opens p t) q) x) (not_before ps ts (i + 1) (i + 0) q (omega arith))
-      ∙ or_else_None (type_at (opens p t) q)
+      ∙ ap (λ x. option_or (type_at (opens p t) q) x) (not_before ps ts (i + 1) (i + 0) q (omega arith))
+      ∙ option_or_None (type_at (opens p t) q)
       ∙ each.0 t q
   field_walk (p ∷ ps) each (t ∷ ts) i (suc k) q =
       let other : (i == (i + suc k)) ≡ false = ne_eqb i (i + suc k) (λ e. absurd (omega (arith, e))) in
       let next : i + suc k ≡ (i + 1) + k = omega arith in
       type_at-append (map (below i) (opens p t)) (opens_below (map opens ps) ts (i + 1)) ((i + suc k) ∷ q)
-      ∙ ap (λ x. or_else x (type_at (opens_below (map opens ps) ts (i + 1)) ((i + suc k) ∷ q)))
+      ∙ ap (λ x. option_or x (type_at (opens_below (map opens ps) ts (i + 1)) ((i + suc k) ∷ q)))
       (type_at-below i (i + suc k) (opens p t) q ∙ ap (λ b. if b then type_at (opens p t) q else None) other)
       ∙ ap (λ n. type_at (opens_below (map opens ps) ts (i + 1)) (n ∷ q)) next
       ∙ field_walk ps each.1 ts (i + 1) k q

@@ -1,4 +1,4 @@
--- Written items and trees: the equations of folds. The plain inductions are those of rb_core.
+-- Written items and trees: the equations of folds.
 use Rattle.std.proofs.Common.{◌≡◌, ℕ, List, map, Some, None}
 use Rattle.rb_core.specs.declared.pattern.Pat.{Pat}
 use Rattle.rb_core.specs.declared.layout_decl.Loc.{Loc}
@@ -16,7 +16,6 @@ use Rattle.rb_core.specs.declared.layout_decl.LayTree as S
 use Rattle.rb_core.specs.declared.layout_decl.LayTree.TheOpen as split
 use Rattle.rb_core.specs.declared.layout_decl.LayTree.TheOpen.{LayTree-F}
 use Rattle.rb_core.specs.declared.layout_decl.LayTree.TheFolds.{fold-LayTree, fold-Arm, fold-roll-LayTree}
-pub use Rattle.rb_core.proofs.LayoutInduction.{ItemCases, TreeCases, item-induction, tree-induction}
 
 module _ (A B C : Type 0) (step : LayItem-F A B C → A) (kind_step : PartKind-F A B C → B) (part_step : PartDecl-F A B C → C) where
   pub fold-Word : (width : ℕ) (parts : List PartDecl)

@@ -3,6 +3,7 @@
 -- the pointer's alignment, in the pointer's block the word of some width that begins at some byte, and a range of
 -- that. The range [o:l] is the l bits from bit o on.
 use Rattle.std.specs.Prelude.{ℕ, zero, suc, ◌+◌, ◌-◌, ◌*◌, ◌/◌, ◌==◌, ◌&&◌, leb, ltb, List, [], ◌∷◌, Option, Some, None, if◌then◌else◌}
+use Rattle.std.specs.Option.{option_or}
 use Rattle.std.specs.Int.{bit_at}
 use Rattle.rb_core.specs.declared.layout_decl.Loc.{Loc}
 use Rattle.rb_core.specs.declared.layout_decl.Step.{Step}
@@ -21,11 +22,6 @@ pub record Reached : Type 0 where
   pub o : ℕ
   pub l : ℕ
 
--- the first of two that is there, and None where neither is
-abbrev pub or_else : {A : Type 0} → Option A → Option A → Option A
-or_else None b = b
-or_else (Some a) b = Some a
-
 -- the block of a part of this kind that is a pointer of this alignment, and None for any other
 abbrev pub pointed_by : Kind → ℕ → Option ℕ
 pointed_by (Const c) align = None
@@ -41,7 +37,7 @@ pointed_in p o l align = if (p.o == o) && (p.l == l) then pointed_by p.kind alig
 -- none is
 abbrev pub block_in : List Part → ℕ → ℕ → ℕ → Option ℕ
 block_in [] o l align = None
-block_in (p ∷ ps) o l align = or_else (pointed_in p o l align) (block_in ps o l align)
+block_in (p ∷ ps) o l align = option_or (pointed_in p o l align) (block_in ps o l align)
 
 -- the block to which a flat word that may be missing points in exactly the range [o:l] and with this alignment; None
 -- where the word is missing or has no such pointer
@@ -108,7 +104,7 @@ bit_of_part p i = if leb p.o i && ltb i (p.o + p.l) then bit_of_kind p.kind (i -
 -- bit i of a word with these parts, by the first of them that is a constant and has this bit; None where none is
 abbrev pub constant_bit : List Part → ℕ → Option ℕ
 constant_bit [] i = None
-constant_bit (p ∷ ps) i = or_else (bit_of_part p i) (constant_bit ps i)
+constant_bit (p ∷ ps) i = option_or (bit_of_part p i) (constant_bit ps i)
 
 -- a number by its lowest bit and the number of its higher bits, where both are there
 abbrev pub with_bit : Option ℕ → Option ℕ → Option ℕ

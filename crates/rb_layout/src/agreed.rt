@@ -2,8 +2,6 @@
 //! above learns it from a getter's clause.
 
 ghost use Rattle.std.specs.Prelude.{◌≡◌};
-ghost use Rattle.rb_core.specs.Coverage.{IsCovered};
-ghost use Rattle.rb_core.specs.TypedPrograms.{IsTyped};
 ghost use Rattle.rb_layout.specs.Agreement.{Agrees};
 ghost use Rattle.rb_layout.specs.Flattening.{flat_layouts};
 

@@ -4,7 +4,6 @@
 //! the type.
 
 ghost use Rattle.std.specs.Prelude.{◌≡◌};
-ghost use Rattle.rb_bits.specs.Words.{IsRange};
 ghost use Rattle.rb_layout.specs.Locations.{constant_bit};
 ghost use Rattle.rb_layout.specs.inner.Barring.{is_other, bit_differs, is_pointer, null_at, null_in, IsAsked, position_type, knows, part_barred, parts_barred, word_barred, leaf_barred, leaves_barred, goal_barred};
 

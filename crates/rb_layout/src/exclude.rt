@@ -24,7 +24,7 @@
 //! marked before, until a pass marks none. What is marked has a finite derivation, and a goal that
 //! would rest on itself alone stays unmarked.
 
-ghost use Rattle.std.specs.Prelude.{◌≡◌, ◌↔◌, IfOk, IsTrue};
+ghost use Rattle.std.specs.Prelude.{◌↔◌, IfOk, IsTrue};
 ghost use Rattle.rb_layout.specs.Excluded.{Bars, Excludes};
 ghost use Rattle.rb_layout.specs.Readable.{IsReadable};
 ghost use Rattle.rb_layout.specs.inner.Barring.{IsAsked};

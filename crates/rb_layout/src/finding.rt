@@ -4,8 +4,7 @@
 //! part with a word of a field asks the same of that word, for the bits where it meets the range.
 //! What fails, fails for want of memory.
 
-ghost use Rattle.std.specs.Prelude.{◌≡◌, IfOk, OnOk};
-ghost use Rattle.rb_bits.specs.Words.{IsRange};
+ghost use Rattle.std.specs.Prelude.{◌≡◌, OnOk};
 ghost use Rattle.rb_layout.specs.inner.Barring.{position_type, IsAsked, AreAsked, goal_in};
 ghost use Rattle.rb_layout.specs.inner.Finding.{with_found, with_parts, with_leaf, with_leaves, with_below, AreFresh, AreFound};
 

@@ -5,7 +5,7 @@
 ghost use Rattle.std.specs.Prelude.{◌≡◌, ◌<◌, [], length, slice_get, OnOk};
 ghost use Rattle.rb_layout.specs.inner.Barring.{knows};
 ghost use Rattle.rb_layout.specs.inner.Finding.{with_goal};
-ghost use Rattle.rb_layout.specs.inner.Settling.{marked};
+ghost use Rattle.rb_layout.specs.inner.Settling.{with_mark};
 
 use indexmap::IndexMap;
 use std::alloc::{AllocError, Global};
@@ -109,7 +109,7 @@ impl Goals {
     /// Notes that the goal with this number holds. Its caller knows that it is here.
     pub fn mark(&mut self, i: usize)
         requires { i < length self.old }
-        ensures { self.new ≡ marked self.old i (slice_get self.old i) }
+        ensures { self.new ≡ with_mark self.old i (slice_get self.old i) }
     {
         self.known[i] = true;
     }

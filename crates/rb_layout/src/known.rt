@@ -1,7 +1,7 @@
 //! Bits that are constant in a leaf. A number is known at a location where the location resolves in
 //! the leaf and each bit of its last range stands in a part that is a constant.
 
-ghost use Rattle.std.specs.Prelude.{◌≡◌, ◌+◌, ◌<◌, ◌≤◌};
+ghost use Rattle.std.specs.Prelude.{◌≡◌, ◌+◌, ◌<◌};
 ghost use Rattle.rb_bits.specs.Words.{IsRange};
 ghost use Rattle.rb_layout.specs.Locations.{bit_of_kind, bit_of_part, constant_bit, constant_bits, number_known};
 ghost use Rattle.rb_layout.specs.Readable.{IsReadable};

@@ -2,7 +2,7 @@
 //! step goes on through a pointer in just the range so far, to the word of its block that begins at
 //! the step's byte and has its width, and names a range of that.
 
-ghost use Rattle.std.specs.Prelude.{◌≡◌, ◌≤◌, ◌==◌, ◌&&◌, length, Some, None};
+ghost use Rattle.std.specs.Prelude.{◌≡◌, ◌==◌, ◌&&◌, Some, None};
 ghost use Rattle.std.specs.Option.{option_copied};
 ghost use Rattle.rb_layout.specs.Words.{words_in, flat_at};
 ghost use Rattle.rb_layout.specs.Locations.{pointed_in, block_in, word_beginning, reached_at, next_ref, pointer_block, range_in, ref_of};

@@ -3,7 +3,6 @@
 //! literal's bits where the part meets the range. Any other part gives no goal.
 
 ghost use Rattle.std.specs.Prelude.{◌≡◌, IfSome};
-ghost use Rattle.rb_bits.specs.Words.{IsRange};
 ghost use Rattle.rb_layout.specs.inner.Barring.{position_type, IsAsked, part_literal, goal_in};
 
 use crate::goals::{Goal, Literal};

@@ -7,7 +7,7 @@
 
 ghost use Rattle.std.specs.Prelude.{◌≡◌, length, slice_get, Some};
 ghost use Rattle.rb_layout.specs.inner.Barring.{IsAsked, AreAsked};
-ghost use Rattle.rb_layout.specs.inner.Settling.{turns, looked, passed, changes, AreSettled};
+ghost use Rattle.rb_layout.specs.inner.Settling.{turns, after_look, after_looks, changes, AreSettled};
 
 use crate::barring::goal_barred;
 use crate::goals::{Entry, Goals};
@@ -31,7 +31,7 @@ fn turns(types: &[DataDecl], layouts: &[Layout], entries: &Goals, entry: Entry) 
 fn look(types: &[DataDecl], layouts: &[Layout], entries: &mut Goals, i: usize) -> bool
     requires { AreAsked entries.old }
     ensures result { result ≡ turns types.now layouts.now entries.old (slice_get entries.old i) }
-    ensures new { entries.new ≡ looked types.now layouts.now i entries.old }
+    ensures new { entries.new ≡ after_look types.now layouts.now i entries.old }
 {
     let entry = match entries.get(i) {
         None => return false,
@@ -48,7 +48,7 @@ fn look(types: &[DataDecl], layouts: &[Layout], entries: &mut Goals, i: usize) -
 fn pass(types: &[DataDecl], layouts: &[Layout], entries: &mut Goals) -> bool
     requires { AreAsked entries.old }
     ensures result { result ≡ changes types.now layouts.now (length entries.old) entries.old }
-    ensures new { entries.new ≡ passed types.now layouts.now (length entries.old) entries.old }
+    ensures new { entries.new ≡ after_looks types.now layouts.now (length entries.old) entries.old }
 {
     let mut changed = false;
     for i in (0..entries.len()).rev() {

@@ -78,7 +78,7 @@ pub fn file_bytes(alloc: Global, count: u64, limit: u64) -> Result<Vec<u8>, Allo
 /// # Errors
 ///
 /// Want of memory.
-pub fn spent(alloc: Global, calls: u64) -> Result<Vec<u8>, AllocError>
+pub fn calls_spent(alloc: Global, calls: u64) -> Result<Vec<u8>, AllocError>
     ensures { IfOk result (λ text. text.items ≡ line.spent_line calls) }
 {
     Ok(format!(in alloc; "ribbit: calls spent: {calls}\n")?.into_bytes())

@@ -63,7 +63,7 @@ fn push_notes(
 /// # Errors
 ///
 /// Want of memory.
-pub fn checked(
+pub fn check_output(
     alloc: Global,
     placed: &[Placed],
     length: usize,

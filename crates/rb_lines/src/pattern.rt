@@ -16,7 +16,12 @@ use std::alloc::{AllocError, Global};
 /// # Errors
 ///
 /// Want of memory.
-pub fn missing(alloc: Global, types: &[DataDecl], pat: &Pat, at: u64) -> Result<Vec<u8>, AllocError>
+pub fn missing_values(
+    alloc: Global,
+    types: &[DataDecl],
+    pat: &Pat,
+    at: u64,
+) -> Result<Vec<u8>, AllocError>
     ensures { IfOk result (λ text. text.items ≡ line.missing_line types.now pat.now at) }
 {
     let mut text = begin(alloc, b"match at byte ")?;

@@ -8,7 +8,6 @@ use Rattle.rb_target.specs.Meaning.{World, CallEnd, over, from, enter, body_of, 
 use Rattle.rb_target.specs.Validity.{IsValidFun, IsValid, FitsCall}
 use Rattle.rb_target.specs.Laws.{IsLawful, IsFinal}
 use Rattle.rb_target.specs.declared.outcome.End.{End}
-use Rattle.rb_target.specs.declared.outcome.End.TheVariants.{Spent}
 use Rattle.rb_target.specs.declared.code.CodeFun.{CodeFun}
 use Rattle.rb_target.specs.declared.instr.Instr.{Instr}
 use Rattle.rb_target.specs.declared.instr.Instr.TheVariants.{Return}
@@ -109,9 +108,3 @@ enter_some funs (suc depth) left f words w e d =
     let below : depth ≡ suc depth - 1 = omega arith in
     ap (λ n. after_one_call n w (λ v. from (body_of funs f) (enter funs depth) 0 (first_slots funs f words) v)) e
     ∙ ap (λ k. from (body_of funs f) (enter funs k) 0 (first_slots funs f words) (with_left w left)) below
-
-pub enter_none : (funs : List CodeFun) (depth f : ℕ) (words : List ℕ) (w : World) → w.left ≡ 0 → enter funs depth f words w ≡ over Spent w
-unfolding enter
-enter_none funs zero f words w e = refl
-enter_none funs (suc depth) f words w e =
-    ap (λ n. after_one_call n w (λ v. from (body_of funs f) (enter funs depth) 0 (first_slots funs f words) v)) e

@@ -13,7 +13,8 @@ use Rattle.rb_target.specs.declared.outcome.End.TheVariants.{Returned, Spent}
 use Rattle.rb_target.specs.declared.code.CodeFun.{CodeFun}
 use Rattle.rb_target.specs.declared.instr.Instr.{Instr}
 use Rattle.rb_target.specs.declared.instr.Instr.TheVariants.{Call, Return}
-use Rattle.rb_machine.proofs.Rest.{known_at, callee_from, valid_begins, valid_goes_on, IsNoReturn, room_in-push, held_in-push, unwind_push, unwind_final, enter_some, enter_none}
+use Rattle.rb_target.proofs.Calling.{enter_none}
+use Rattle.rb_machine.proofs.Rest.{known_at, callee_from, valid_begins, valid_goes_on, IsNoReturn, room_in-push, held_in-push, unwind_push, unwind_final, enter_some}
 use Rattle.rb_machine.specs.inner.Turns.{call_dests, slot_count, unwind, waiting_slots, current_slots, world_of, rest_of, room_at, room_in, work, slots_in_wait, outermost, results_in, IsPlace, IsFrame, StateIsSound, Turned, Ended}
 use Rattle.rb_machine.specs.declared.state.Frame.{Frame}
 use Rattle.rb_machine.specs.declared.state.State.{State}

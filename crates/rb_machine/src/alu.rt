@@ -1,6 +1,6 @@
 //! Operations on words: numbers of 64 bits. `bits` is how many bits an operation keeps.
 
-ghost use Rattle.std.specs.Prelude.{◌≡◌, ℕ, ◌%◌, ◌^◌, ◌≤◌};
+ghost use Rattle.std.specs.Prelude.{◌≡◌, ◌%◌, ◌^◌, ◌≤◌};
 ghost use Rattle.rb_target.specs.Meaning.{alu_of};
 
 use rb_bits::words::take;

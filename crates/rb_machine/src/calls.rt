@@ -5,7 +5,7 @@
 //! waits. `froms` are the slots whose words a call or a return passes on, `dests` those to which a
 //! call instruction writes its results, and `depth` is how many calls can be nested in the first.
 
-ghost use Rattle.std.specs.Prelude.{◌≡◌, ℕ, ◌<◌, ◌≤◌, ◌+◌, ◌-◌, Some, List, length, take, drop, slice_get, IfOk, ◌++◌, replicate, vec_len, vec_capacity};
+ghost use Rattle.std.specs.Prelude.{◌≡◌, ◌<◌, ◌≤◌, ◌+◌, ◌-◌, Some, length, take, drop, slice_get, IfOk, ◌++◌, replicate, vec_len, vec_capacity};
 ghost use Rattle.rb_bytes.specs.Memory.{Memory};
 ghost use Rattle.rb_target.specs.Meaning.{body_of, slots_at, put_slots};
 ghost use Rattle.rb_target.specs.Validity.{IsValid, AreSlots};

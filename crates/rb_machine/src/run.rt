@@ -2,7 +2,7 @@
 //! call's own words, by its number; a call waits while one that it made goes on, and has a frame
 //! then.
 
-ghost use Rattle.std.specs.Prelude.{◌≡◌, ℕ, ◌<◌, ◌≤◌, ◌+◌, false, length, slice_get, IfOk};
+ghost use Rattle.std.specs.Prelude.{◌≡◌, ◌<◌, ◌≤◌, ◌+◌, false, length, slice_get, IfOk};
 ghost use Rattle.rb_bytes.specs.Memory.{Memory};
 ghost use Rattle.rb_core.specs.Limits.{most_calls};
 ghost use Rattle.rb_target.specs.Meaning.{run_of};

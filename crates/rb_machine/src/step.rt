@@ -1,8 +1,7 @@
 //! One instruction. A slot is one of a function's own words, by its number; `pc` is the number of
 //! the instruction in the function's body.
 
-ghost use Rattle.std.specs.Prelude.{◌≡◌, ℕ, ◌<◌, ◌≤◌, ◌+◌, ◌^◌, false, length, IsOk, slice_set};
-ghost use Rattle.rb_bytes.specs.Memory.{IsWidth, load_of, store_of, place_of};
+ghost use Rattle.std.specs.Prelude.{◌≡◌, ℕ, ◌<◌, ◌≤◌, ◌+◌, ◌^◌, false, length, slice_set};
 ghost use Rattle.rb_target.specs.Meaning.{Next, Callee, act, target_of as the_target_of};
 ghost use Rattle.rb_target.specs.Validity.{IsFine};
 ghost use Rattle.rb_machine.specs.inner.Turns.{world, IsFlow, flow_to, MayRun, HasNext, IsLeft};

@@ -3,7 +3,6 @@
 //! `fun` is that of the call, and `switches` counts the switches that are done.
 
 ghost use Rattle.std.specs.Prelude.{◌≡◌, ℕ, ◌<◌, ◌≤◌, ◌+◌, ◌-◌, ◌^◌, false, length, take, drop};
-ghost use Rattle.rb_bytes.specs.Memory.{Memory};
 ghost use Rattle.rb_target.specs.Meaning.{Callee, from};
 ghost use Rattle.rb_target.specs.Validity.{IsValidFun};
 ghost use Rattle.rb_target.specs.Laws.{Law};

@@ -2,7 +2,7 @@
 //! of the code, and `depth` is how many calls can be nested in the first. The current call of a
 //! state is the one that runs; the others wait for one that they made.
 
-ghost use Rattle.std.specs.Prelude.{◌≡◌, ℕ, ◌≤◌, ◌-◌, false, IfOk, slice_get};
+ghost use Rattle.std.specs.Prelude.{◌≡◌, ◌≤◌, ◌-◌, false, IfOk, slice_get};
 ghost use Rattle.rb_bytes.specs.Memory.{Memory};
 ghost use Rattle.rb_target.specs.Meaning.{body_of};
 ghost use Rattle.rb_target.specs.Validity.{IsValid};

@@ -1,7 +1,7 @@
 -- Code that binds: nothing, a variable, a field, several fields, a constructor.
 use Rattle.std.proofs.Common.{◌≡◌, ℕ, suc, ◌+◌, ◌==◌, inl, inr, Bool, true, false, List, [], ◌∷◌, ◌++◌, map, length, Some, refl, sym, subst, ap, ◌∙◌, arith}
-use Rattle.std.specs.Prelude.{slice_get, ◌&&◌}
-use Rattle.std.proofs.lemmas.Bool.{false≢true}
+use Rattle.std.specs.Prelude.{slice_get}
+use Rattle.std.proofs.lemmas.Bool.{false≢true, and_parts}
 use Rattle.std.proofs.lemmas.Option.{slice_get_within}
 use Rattle.rb_core.specs.declared.value.Value.{Value, out-Value}
 use Rattle.rb_core.specs.declared.value.Value.TheOpen as V
@@ -14,7 +14,7 @@ use Rattle.rb_core.specs.declared.typing.Binder.{Binder}
 use Rattle.rb_core.specs.declared.binding.Binding.{Binding}
 use Rattle.rb_core.specs.declared.pattern.Pat.{Pat, Wild, Var, Num, Con}
 use Rattle.rb_core.specs.Inference.{binders, binders_step, all_binders}
-use Rattle.rb_core.specs.Matching.{all_bound, all_pass, bindings, bound_within, is_con, matches_of}
+use Rattle.rb_core.specs.Matching.{all_bindings, all_pass, bindings, layer_bindings, is_con, matches_of}
 use Rattle.rb_core.specs.Typing.{field_types}
 use Rattle.rb_core.specs.Values.{part_at, subs_in}
 use Rattle.rb_core.proofs.MatchingForms.{matches-Con, bindings-Wild, bindings-Var, bindings-Num, bindings-Con}
@@ -37,7 +37,7 @@ use Rattle.rb_layout.specs.Agreement.{Agrees}
 use Rattle.rb_layout.specs.Flattening.{flat_layouts}
 use Rattle.rb_rel.specs.Switches.{choose_of, depth_of, greatest, mend_leaf, mend_of}
 use Rattle.rb_rel.proofs.Mending.{mending_recurs}
-use Rattle.rb_match.specs.Bounding.{TypedPosition, binding_bound, binding_look, takes_none_apart, looks_with, place_below, places_below, places_in, places_step, rebuilding}
+use Rattle.rb_match.specs.Bounding.{TypedPosition, binding_bound, binding_look, takes_none_apart, looks_with, place_below, places_below, places_in, places_step, rebuilding_bound}
 use Rattle.rb_match.specs.inner.Saving.{FetchesPart, mend_at, mends_at, mends_from}
 use Rattle.rb_match.proofs.Composing.{pieces, piece_framed, piece_less}
 use Rattle.rb_match.proofs.Mending.{mends_within}
@@ -47,16 +47,11 @@ use Rattle.rb_fragment.specs.Slots.{AllBelow}
 use Rattle.rb_fragment.proofs.Adding.{Adds-refl, Adds-trans}
 use Rattle.rb_fragment.proofs.Holds.{AllBelow-more, AreGiven-more, AreGiven-append, Holds-append, IsOfLocal-append, slots_at-kept}
 use Rattle.rb_fragment.proofs.Pieces.{piece_none}
-use Rattle.rb_fetch.specs.Finding.{IsPlanOf, leaf_count, leaf_within, leaves_within}
+use Rattle.rb_fetch.specs.Finding.{IsPlanOf, leaf_count, leaf_within, layout_leaf_count}
 use Rattle.rb_match.specs.Choosing.{Binds, BindsPattern}
 use Rattle.rb_match.specs.inner.Binding.{is_unbound, IsOnlyLeaf, BindsParts, FieldsMatch, BindsFields, FieldMatches, BindsField, fields_bound}
 use Rattle.rb_match.proofs.Unbound.{unbound_binds}
 use Rattle.rb_match.proofs.Edges.{same-nat}
-
-both : (a b : Bool) → (a && b) ≡ true → (a ≡ true) × (b ≡ true)
-both true true e = (refl, refl)
-both true false e = absurd cc
-both false b e = absurd cc
 
 -- nothing is done
 nothing : (plan : Plan) (b : Sheet) (most : ℕ) (Pre Post : List ℕ → Memory → Type 0) → ((s : List ℕ) (m : Memory) → Pre s m → Post s m) → CodePiece plan b.slots b b Nowhere most Pre (AtEnd b Post)
@@ -209,16 +204,16 @@ fields_binds agreed t leaf words sub subs field fields i old mid new bound more 
     go : (plan : Plan) (f : BindsParts plan (mend_at plan.layouts t leaf (i ∷ []) + binding_bound plan.program.types plan.layouts field sub) t leaf words (binders plan.program.types sub field) old mid bound (FieldMatches sub i))
         (o : BindsParts plan (mends_from plan.layouts t leaf subs (i + 1) + fields_bound plan subs fields) t leaf words (all_binders (map (binders plan.program.types) subs) fields) mid new more (FieldsMatch subs (i + 1)))
         → AllBelow old.slots words → (clean : Bool) (v : Value) (bs : List Binding) (layout : Layout) → layout_of plan.layouts t ≡ Some layout → leaf_of layout v ≡ Some leaf
-        → (vs : List Value) → ((j : ℕ) → part_at v ((i + j) ∷ []) ≡ slice_get vs j) → all_pass (map matches_of (sub ∷ subs)) vs ≡ true → bs ≡ all_bound (map bindings (sub ∷ subs)) vs
+        → (vs : List Value) → ((j : ℕ) → part_at v ((i + j) ∷ []) ≡ slice_get vs j) → all_pass (map matches_of (sub ∷ subs)) vs ≡ true → bs ≡ all_bindings (map bindings (sub ∷ subs)) vs
         → CodePiece plan old.slots old new Nowhere (mends_from plan.layouts t leaf (sub ∷ subs) i + fields_bound plan (sub ∷ subs) (field ∷ fields)) (λ s m. IsGood m × Rep plan m clean (Named t) v (slots_at s words)) (AtEnd new (λ s m. Holds plan clean s m (bound ++ more) bs))
     go plan f o all clean v bs layout is_layout is_leaf [] at pass is = absurd (false≢true pass)
     go plan f o all clean v bs layout is_layout is_leaf (u ∷ vs) at pass is =
-        let b = both (matches_of sub u) (all_pass (map matches_of subs) vs) pass in
+        let b = and_parts (matches_of sub u) (all_pass (map matches_of subs) vs) pass in
         let z : i ≡ i + 0 = omega arith in
         let here : part_at v (i ∷ []) ≡ Some u = ap (λ n. part_at v (n ∷ [])) z ∙ at 0 in
         let Pre : List ℕ → Memory → Type 0 = λ s m. IsGood m × Rep plan m clean (Named t) v (slots_at s words) in
         let bs1 = bindings sub u in
-        let bs2 = all_bound (map bindings subs) vs in
+        let bs2 = all_bindings (map bindings subs) vs in
         let Has1 : List ℕ → Memory → Type 0 = λ s m. Holds plan clean s m bound bs1 in
         let Has2 : List ℕ → Memory → Type 0 = λ s m. Holds plan clean s m more bs2 in
         let keep_pre : (s s' : List ℕ) (m : Memory) → Keeps old.slots s s' → Pre s m → Pre s' m = λ s s' m k x. (x.0, subst (λ ws. Rep plan m clean (Named t) v ws) (sym (slots_at-kept old.slots s s' words all k)) x.1) in
@@ -237,7 +232,7 @@ fields_binds agreed t leaf words sub subs field fields i old mid new bound more 
 
 pub begins_with : (d : ℕ) (ts : List (Value → Bool)) (l : Value-F Value) → is_con d ts l ≡ true → (us : List Value) × (l ≡ V.Con d us) × (all_pass ts us ≡ true)
 begins_with d ts (V.Num n) e = absurd (false≢true e)
-begins_with d ts (V.Con k us) e = let b = both (d == k) (all_pass ts us) e in (us, ap (λ n. V.Con n us) (sym (same-nat d k b.0)), b.1)
+begins_with d ts (V.Con k us) e = let b = and_parts (d == k) (all_pass ts us) e in (us, ap (λ n. V.Con n us) (sym (same-nat d k b.0)), b.1)
 
 mends_more : (layouts : List Layout) (t leaf : ℕ) (subs : List Pat) (i : ℕ) → mends_at layouts t leaf [] i + mends_from layouts t leaf subs i ≡ mends_at layouts t leaf [] (i + length subs)
 mends_more layouts t leaf [] i = let z : i + 0 ≡ i = omega arith in (let e = ap (mends_at layouts t leaf []) z in omega (arith, e))
@@ -248,7 +243,7 @@ mends_more layouts t leaf (p ∷ ps) i =
     let a = ap (mends_at layouts t leaf []) up in
     let b = ap (mends_at layouts t leaf []) z in omega (arith, h, a, b)
 
-pub look_more : (layouts : List Layout) (t : ℕ) → rebuilding layouts (Named t) ≤ binding_look layouts (Named t)
+pub look_more : (layouts : List Layout) (t : ℕ) → rebuilding_bound layouts (Named t) ≤ binding_look layouts (Named t)
 look_more layouts t = go (takes_none_apart layouts t)
   where
     go : (u : Bool) → (if u then 0 else mend_of layouts t) ≤ (if u then 0 else depth_of layouts (Named t) + mend_of layouts t)
@@ -307,8 +302,8 @@ con_binds agreed t at c subs leaf words old new bound mends named only fields = 
           let matched = leaf_matches b.layout.leaves v 0 b.number b.leaf b.is_leaf b.number start b.is_number in
           let found : leaf_within (layout_of agreed.layouts c.ty) b.number ≡ Some b.leaf = ap (λ o. leaf_within o b.number) (sym (ap (λ ls. layout_of ls c.ty) of.layouts) ∙ b.is_layout) ∙ b.is_number in
           let lt = slice_get_within b.layout.leaves b.number b.leaf b.is_number in
-          let n : leaf_count agreed c.ty ≡ length b.layout.leaves = ap leaves_within (sym (ap (λ ls. layout_of ls c.ty) of.layouts) ∙ b.is_layout) in
+          let n : leaf_count agreed c.ty ≡ length b.layout.leaves = ap layout_leaf_count (sym (ap (λ ls. layout_of ls c.ty) of.layouts) ∙ b.is_layout) in
           let is_leaf : b.number ≡ leaf = elim (only b.number (omega (arith, lt, n))) [ inl same ↦ same | inr out ↦ absurd (out b.leaf found v matched matches) ] in
-          let parts : FieldsMatch subs 0 v (bindings (Con at c subs) v) = (us, (λ j. let z : 0 + j ≡ j = omega arith in ap (λ l. slice_get (subs_in l) (0 + j)) is ∙ ap (slice_get us) z), pass, bindings-Con v at c subs ∙ ap (bound_within (map bindings subs)) is) in
+          let parts : FieldsMatch subs 0 v (bindings (Con at c subs) v) = (us, (λ j. let z : 0 + j ≡ j = omega arith in ap (λ l. slice_get (subs_in l) (0 + j)) is ∙ ap (slice_get us) z), pass, bindings-Con v at c subs ∙ ap (layer_bindings (map bindings subs)) is) in
           (f.runs clean v (bindings (Con at c subs) v) b.layout b.is_layout (b.is_leaf ∙ ap Some is_leaf) parts).runs final callee next law agrees s w long (pre.0, rep);
     }

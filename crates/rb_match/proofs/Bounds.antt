@@ -1,7 +1,8 @@
 -- Looks at distinct places, all among those at which patterns have numbers and constructors, are within their sum.
 use Rattle.std.proofs.Common.{◌≡◌, ℕ, zero, suc, ◌+◌, ◌≤◌, Bool, true, false, List, [], ◌∷◌, map, Some, refl, sym, subst, ap, ◌∙◌, arith}
-use Rattle.std.specs.Prelude.{slice_get, filter, not, if◌then◌else◌, ◌&&◌}
+use Rattle.std.specs.Prelude.{slice_get, filter, not, if◌then◌else◌}
 use Rattle.std.specs.List.{AllByRecursion}
+use Rattle.std.proofs.lemmas.Bool.{and_parts}
 use Rattle.std.proofs.lemmas.Option.{same_Some}
 use Rattle.rb_core.specs.Typing.{same_type}
 use Rattle.rb_core.proofs.TypingAnswers.{same_type-is}
@@ -13,14 +14,9 @@ use Rattle.rb_match.specs.Bounding.{TypedPosition, same_place, distinct_places, 
 use Rattle.rb_match.specs.inner.Flowing.{path_of}
 use Rattle.rb_match.specs.inner.Places.{IsPlaceIn}
 
-both : (a b : Bool) → (a && b) ≡ true → (a ≡ true) × (b ≡ true)
-both true true e = (refl, refl)
-both true false e = absurd cc
-both false b e = absurd cc
-
 place_is : (a b : TypedPosition) → same_place a b ≡ true → a ≡ b
 place_is a b e =
-    let h = both (same_path a.path b.path) (same_type a.ty b.ty) e in
+    let h = and_parts (same_path a.path b.path) (same_type a.ty b.ty) e in
     ap (λ q. record { path = q; ty = a.ty }) (path_is a.path b.path h.0) ∙ ap (λ u. record { path = b.path; ty = u }) (same_type-is a.ty b.ty h.1)
 
 kept : (f : TypedPosition → Bool) (q : TypedPosition) → f q ≡ true → (ps : List TypedPosition) → IsPlaceIn q ps → IsPlaceIn q (filter f ps)

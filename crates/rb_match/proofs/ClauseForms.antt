@@ -26,7 +26,7 @@ use Rattle.rb_layout.specs.declared.agreed.LaidOut.{LaidOut}
 use Rattle.rb_layout.specs.Agreement.{Agrees}
 use Rattle.rb_layout.specs.Flattening.{flat_layouts}
 use Rattle.rb_fragment.specs.declared.reads.Read.{Read, Slot}
-use Rattle.rb_fragment.specs.Arms.{AreHoles, AreOfOneWay, ArePatchable, closed}
+use Rattle.rb_fragment.specs.Arms.{AreHoles, AreOfOneWay, ArePatchable, with_targets}
 use Rattle.rb_fragment.specs.Plan.{Rep}
 use Rattle.rb_fragment.specs.Pieces.{IsLater, GoesOutBy}
 use Rattle.rb_fragment.specs.WordReads.{AreMeant}
@@ -130,7 +130,7 @@ module _ (agreed : LaidOut) (ty : Ty) (words : List Read) (pat : Pat) (number : 
   targets = length mid.code ∷ []
 
   abbrev pub clause_code : Sheet
-  clause_code = closed mid others targets
+  clause_code = with_targets mid others targets
 
   abbrev lo : ℕ
   lo = length old.code

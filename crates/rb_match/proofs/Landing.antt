@@ -4,13 +4,13 @@ use Rattle.std.specs.Prelude.{slice_get, slice_index}
 use Rattle.std.proofs.lemmas.Option.{same_Some}
 use Rattle.rb_target.specs.declared.instr.Instr.{Instr}
 use Rattle.rb_target.specs.declared.body.Hole.{Hole}
-use Rattle.rb_target.specs.Sheet.{Sheet, patched, IsHole}
+use Rattle.rb_target.specs.Sheet.{Sheet, with_target_at, IsHole}
 use Rattle.rb_target.specs.Targets.{Finishes, IsHoleAmong, IsOpenTarget, target_in}
 use Rattle.rb_target.proofs.Finishing.{agrees-sub, finishes_patched, leads_patched}
 use Rattle.rb_target.proofs.Shapes.{patch_is}
 use Rattle.rb_fragment.proofs.Closing.{is_open}
 use Rattle.rb_fragment.proofs.Patching.{AreAllHoles, AreClosable, adds_closed, all_holes_patched, closed_length, closed_slots, hole_within}
-use Rattle.rb_fragment.specs.Arms.{AreOfOneWay, closed}
+use Rattle.rb_fragment.specs.Arms.{AreOfOneWay, with_targets}
 use Rattle.rb_match.specs.declared.knowledge.Known.{Known}
 use Rattle.rb_match.specs.declared.knowledge.Edge.{Edge}
 use Rattle.rb_match.specs.inner.Knowing.{IsEdge, IsCommonKnowledge, view_of}
@@ -23,13 +23,13 @@ pub record IsLanded (final : List Instr) (b : Sheet) (hs ks : List Hole) (ts : L
   pub finishes : Finishes final b.code (hs ++ ks) lo hi
   pub leads : (h : Hole) → IsHoleAmong h hs → lo ≤ h.pc → h.pc < hi → target_in (slice_get final h.pc) h.arm ≡ Some (slice_index ts h.leaf)
 
-pub closed_open : (final : List Instr) (ks : List Hole) (ts : List ℕ) (lo hi : ℕ) (hs : List Hole) (b : Sheet) → Finishes final (closed b hs ts).code ks lo hi → AreAllHoles b.code hs → AreOfOneWay hs
+pub closed_open : (final : List Instr) (ks : List Hole) (ts : List ℕ) (lo hi : ℕ) (hs : List Hole) (b : Sheet) → Finishes final (with_targets b hs ts).code ks lo hi → AreAllHoles b.code hs → AreOfOneWay hs
     → ((h : Hole) → IsHoleAmong h hs → IsOpenTarget ks h.pc h.arm → ⊥) → IsLanded final b hs ks ts lo hi
 closed_open final ks ts lo hi [] b fin holes one apart = record { finishes = fin; leads = λ h i. absurd (in_none h i) }
 closed_open final ks ts lo hi (h ∷ hs) b fin holes one apart =
     let t = slice_index ts h.leaf in
     let p = patch_is b h t holes.0 in
-    let k = closed_open final ks ts lo hi hs (patched b h t) fin (all_holes_patched b h t hs holes.1) (λ x y i j e f. one x y (in_tail h hs x i) (in_tail h hs y j) e f) (λ x i o. apart x (in_tail h hs x i) o) in
+    let k = closed_open final ks ts lo hi hs (with_target_at b h t) fin (all_holes_patched b h t hs holes.1) (λ x y i j e f. one x y (in_tail h hs x i) (in_tail h hs y j) e f) (λ x i o. apart x (in_tail h hs x i) o) in
     let here : lo ≤ h.pc → h.pc < hi → target_in (slice_get final h.pc) h.arm ≡ Some t = λ low high. elim (is_open (hs ++ ks) h.pc h.arm) [
       | inl o ↦ elim (in_append hs ks o.0 o.1) [
         | inl j ↦
@@ -78,7 +78,7 @@ module _ (b : Sheet) (edges : List Edge) (n from : ℕ) (stand : AreOpen from b.
 
 module _ (job : Job) (b : Sheet) (edges : List Edge) (n : ℕ) (known : List Known) (f : Flows job b edges) (st : JobStands job.first b edges) (common : IsCommonKnowledge edges n (Some known)) where
   abbrev pub landed_code : Sheet
-  landed_code = closed b (landing_of n edges) (length b.code ∷ [])
+  landed_code = with_targets b (landing_of n edges) (length b.code ∷ [])
 
   abbrev rest : List Edge
   rest = others_of n edges

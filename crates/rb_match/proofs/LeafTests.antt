@@ -1,8 +1,8 @@
 -- A test of a value of a data type: its leaf is found, and leads to the node of its constructor.
 use denote.Ref.{Bor}
 use Rattle.std.proofs.Common.{◌≡◌, ℕ, zero, suc, ◌+◌, ◌-◌, ◌<◌, ◌≤◌, ◌==◌, inl, inr, Bool, true, false, List, [], ◌∷◌, ◌++◌, map, length, Option, Some, None, refl, sym, subst, ap, ◌∙◌, arith}
-use Rattle.std.specs.Prelude.{if◌then◌else◌, ◌&&◌, nat_lt}
-use Rattle.std.proofs.lemmas.Bool.{false≢true}
+use Rattle.std.specs.Prelude.{if◌then◌else◌, nat_lt}
+use Rattle.std.proofs.lemmas.Bool.{false≢true, and_parts}
 use Rattle.std.proofs.lemmas.Bool.Decides.{nat_tests}
 use Rattle.std.proofs.lemmas.Option.{same_Some, slice_get_within}
 use Rattle.rb_core.specs.declared.value.Value.{Value, out-Value}
@@ -36,7 +36,7 @@ use Rattle.rb_rel.proofs.Represented.{opened}
 use Rattle.rb_fragment.specs.declared.reads.Read.{Read}
 use Rattle.rb_fragment.specs.Arms.{AreHoles, AreOfOneWay}
 use Rattle.rb_fragment.specs.Plan.{Plan}
-use Rattle.rb_fetch.specs.Finding.{FindsGroupOf, HasGroupMeant, leaf_count, leaf_within, leaves_within}
+use Rattle.rb_fetch.specs.Finding.{FindsGroupOf, HasGroupMeant, leaf_count, leaf_within, layout_leaf_count}
 use Rattle.rb_fetch.specs.Pruning.{group_at, group_or_none}
 use Rattle.rb_fetch.proofs.Grouping.{found_by_depth}
 use Rattle.rb_match.specs.declared.knowledge.Known.{Known}
@@ -49,18 +49,13 @@ use Rattle.rb_match.proofs.Edges.{same-nat, hole_at, in_tail, open_edge}
 use Rattle.rb_match.proofs.Following.{carried_known, known-kept, snoc-at}
 use Rattle.rb_match.proofs.NumberTests.{Keeps-less}
 
-pub both : (a b : Bool) → (a && b) ≡ true → (a ≡ true) × (b ≡ true)
-both true true e = (refl, refl)
-both true false e = absurd cc
-both false b e = absurd cc
-
 -- a value that a provenance matches begins with its constructor
 abbrev Begins : Pat → Type 0
 Begins p = (v : Value) (c : ℕ) → con_of_layer (out-Pat p) ≡ Some c → matches_of p v ≡ true → (us : List Value) × (out-Value v ≡ V.Con c us)
 
 con_begins : (c : ConRef) (ts : List (Value → Bool)) (k : ℕ) (l : Value-F Value) → c.con ≡ k → is_con c.con ts l ≡ true → (us : List Value) × (l ≡ V.Con k us)
 con_begins c ts k (V.Num m) same e = absurd (false≢true e)
-con_begins c ts k (V.Con j us) same e = let b = both (c.con == j) (all_pass ts us) e in let is : j ≡ k = sym (same-nat c.con j b.0) ∙ same in (us, ap (λ n. V.Con n us) is)
+con_begins c ts k (V.Con j us) same e = let b = and_parts (c.con == j) (all_pass ts us) e in let is : j ≡ k = sym (same-nat c.con j b.0) ∙ same in (us, ap (λ n. V.Con n us) is)
 
 begins : (p : Pat) → Begins p
 begins = induction Begins (record {
@@ -194,7 +189,7 @@ module _ (agreed : LaidOut) (nodes : List GraphNode) (t : ℕ) (position : Bor (
         leaves = λ final callee next law fin s w v part clean ws node long good meant rep all at takes.
             let b = (opened plan.program.types plan.layouts w.memory clean rep).made in
             let within = slice_get_within b.layout.leaves b.number b.leaf b.is_number in
-            let leaves : leaf_count agreed t ≡ length b.layout.leaves = ap leaves_within (sym (ap (λ ls. layout_of ls t) of.layouts) ∙ b.is_layout) in
+            let leaves : leaf_count agreed t ≡ length b.layout.leaves = ap layout_leaf_count (sym (ap (λ ls. layout_of ls t) of.layouts) ∙ b.is_layout) in
             let lt : b.number < leaf_count agreed t = omega (arith, within, leaves) in
             let its = grouped.each b.number lt in
             let begin = leaf_begins agreed t b.number its.2.con its.2.is_con plan of b.layout part b.is_layout b.is_leaf in

@@ -1,8 +1,8 @@
 -- What rebuilding parts of one leaf costs is within its type's mending, and the parts are there.
 use Rattle.std.proofs.Common.{◌≡◌, ℕ, zero, suc, ◌+◌, ◌≤◌, ◌==◌, Bool, true, false, List, [], ◌∷◌, ◌++◌, map, length, Option, Some, None, refl, sym, ap, ◌∙◌, arith}
-use Rattle.std.specs.Prelude.{slice_get, drop, if◌then◌else◌, ◌&&◌}
+use Rattle.std.specs.Prelude.{slice_get, drop, if◌then◌else◌}
 use Rattle.std.specs.List.{list_all, sum_by}
-use Rattle.std.proofs.lemmas.Bool.{false≢true}
+use Rattle.std.proofs.lemmas.Bool.{false≢true, and_parts}
 use Rattle.std.proofs.lemmas.List.Sums.{sum_by-append, sum_by-cons}
 use Rattle.std.proofs.lemmas.Option.{same_Some}
 use Rattle.rb_core.specs.declared.value.Value.{Value, out-Value}
@@ -14,6 +14,7 @@ use Rattle.rb_core.specs.declared.pattern.Pat.TheVariants.{outs-Wild, outs-Var, 
 use Rattle.rb_core.specs.Matching.{all_pass, is_con, matches_of}
 use Rattle.rb_core.specs.Values.{part_at, part_from, subs_in}
 use Rattle.rb_core.proofs.MatchingForms.{matches-Con}
+use Rattle.rb_core.proofs.MatchingLemmas.{all_at}
 use Rattle.rb_core.proofs.PatternLaws.{fold-Con, induction}
 use Rattle.rb_decide.specs.Decisions.{subpatterns}
 use Rattle.rb_layout.specs.declared.layout.Layout.{Layout}
@@ -22,15 +23,10 @@ use Rattle.rb_layout.specs.Positions.{layout_of, leaves_of_layout, leaf_of}
 use Rattle.rb_rel.specs.Switches.{HeadAt, choose_of, greatest, head_below, heads_below, heads_of, heads_step, inner_heads, is_shallow, mend_leaf, mend_of}
 use Rattle.rb_rel.proofs.Leaves.{leaf_matches}
 use Rattle.rb_fragment.specs.Plan.{Plan}
-use Rattle.rb_match.specs.Bounding.{takes_none_apart, rebuilding}
+use Rattle.rb_match.specs.Bounding.{takes_none_apart, rebuilding_bound}
 use Rattle.rb_fetch.specs.Finding.{leaf_within}
 use Rattle.rb_match.specs.inner.Saving.{HasPart, mend_at, mend_below, mend_inside, mend_pattern, mends_at, pattern_at, prov_at, provenance}
 use Rattle.rb_match.proofs.Edges.{same-nat}
-
-both : (a b : Bool) → (a && b) ≡ true → (a ≡ true) × (b ≡ true)
-both true true e = (refl, refl)
-both true false e = absurd cc
-both false b e = absurd cc
 
 -- Sums
 
@@ -124,17 +120,12 @@ module _ (layouts : List Layout) where
   greatest-at (l ∷ ls) zero leaf e = (let same = ap (mend_leaf (choose_of layouts)) (same_Some l leaf e) in omega (arith, same))
   greatest-at (l ∷ ls) (suc k) leaf e = (let r = greatest-at ls k leaf e in omega (arith, r))
 
-  shallow-at : (ls : List Leaf) → list_all is_shallow ls ≡ true → (k : ℕ) (leaf : Leaf) → slice_get ls k ≡ Some leaf → is_shallow leaf ≡ true
-  shallow-at [] all k leaf e = absurd cc
-  shallow-at (l ∷ ls) all zero leaf e = ap is_shallow (sym (same_Some l leaf e)) ∙ (both (is_shallow l) (list_all is_shallow ls) all).0
-  shallow-at (l ∷ ls) all (suc k) leaf e = shallow-at ls (both (is_shallow l) (list_all is_shallow ls) all).1 k leaf e
-
   no-heads : (hs : List HeadAt) → (length hs == 0) ≡ true → sum_by cost hs ≡ 0
   no-heads [] e = refl
   no-heads (h ∷ hs) e = absurd (let x = same-nat (length (h ∷ hs)) 0 e in omega (arith, x))
 
   -- rebuilding what one leaf takes apart
-  pub mend_within : (t : ℕ) → mend_of layouts t ≡ greatest (map (mend_leaf (choose_of layouts)) (leaves_of_layout (layout_of layouts t))) → (number : ℕ) → mend_below layouts t number [] ≤ rebuilding layouts (Named t)
+  pub mend_within : (t : ℕ) → mend_of layouts t ≡ greatest (map (mend_leaf (choose_of layouts)) (leaves_of_layout (layout_of layouts t))) → (number : ℕ) → mend_below layouts t number [] ≤ rebuilding_bound layouts (Named t)
   mend_within t recurs number = in_layout (layout_of layouts t) refl
     where
       here : (layout : Layout) → layout_of layouts t ≡ Some layout → (leaf : Leaf) → slice_get layout.leaves number ≡ Some leaf → mend_below layouts t number [] ≡ sum_by cost (inner_heads leaf)
@@ -143,23 +134,23 @@ module _ (layouts : List Layout) where
       in_both : (layout : Layout) → layout_of layouts t ≡ Some layout → (leaf : Leaf) → slice_get layout.leaves number ≡ Some leaf → (u : Bool) → takes_none_apart layouts t ≡ u → mend_below layouts t number [] ≤ (if u then 0 else mend_of layouts t)
       in_both layout is leaf at true plain =
           let a = here layout is leaf at in
-          let s = shallow-at layout.leaves (ap (λ o. list_all is_shallow (leaves_of_layout o)) (sym is) ∙ plain) number leaf at in
+          let s = all_at is_shallow layout.leaves number leaf (ap (λ o. list_all is_shallow (leaves_of_layout o)) (sym is) ∙ plain) at in
           let c = no-heads (inner_heads leaf) s in omega (arith, a, c)
       in_both layout is leaf at false plain =
           let a = here layout is leaf at in
           let g = greatest-at layout.leaves number leaf at in
           let e = ap (λ o. greatest (map (mend_leaf (choose_of layouts)) (leaves_of_layout o))) is in omega (arith, a, g, e, recurs)
 
-      in_leaf : (layout : Layout) → layout_of layouts t ≡ Some layout → (o : Option Leaf) → slice_get layout.leaves number ≡ o → mend_below layouts t number [] ≤ rebuilding layouts (Named t)
+      in_leaf : (layout : Layout) → layout_of layouts t ≡ Some layout → (o : Option Leaf) → slice_get layout.leaves number ≡ o → mend_below layouts t number [] ≤ rebuilding_bound layouts (Named t)
       in_leaf layout is None none = (let z = ap (λ o. mend_inside layouts (pattern_at (provenance o) [])) (ap (λ o. leaf_within o number) is ∙ none) in omega (arith, z))
       in_leaf layout is (Some leaf) at = in_both layout is leaf at (takes_none_apart layouts t) refl
 
-      in_layout : (o : Option Layout) → layout_of layouts t ≡ o → mend_below layouts t number [] ≤ rebuilding layouts (Named t)
+      in_layout : (o : Option Layout) → layout_of layouts t ≡ o → mend_below layouts t number [] ≤ rebuilding_bound layouts (Named t)
       in_layout None is = (let z = ap (λ o. mend_inside layouts (pattern_at (provenance (leaf_within o number)) [])) is in omega (arith, z))
       in_layout (Some layout) is = in_leaf layout is (slice_get layout.leaves number) refl
 
   -- rebuilding fields of one leaf, each once
-  pub mends_within : (t : ℕ) → mend_of layouts t ≡ greatest (map (mend_leaf (choose_of layouts)) (leaves_of_layout (layout_of layouts t))) → (number i : ℕ) → mends_at layouts t number [] i ≤ rebuilding layouts (Named t)
+  pub mends_within : (t : ℕ) → mend_of layouts t ≡ greatest (map (mend_leaf (choose_of layouts)) (leaves_of_layout (layout_of layouts t))) → (number i : ℕ) → mends_at layouts t number [] i ≤ rebuilding_bound layouts (Named t)
   mends_within t recurs number i = (let a = mends_below t number [] i in let b = mend_within t recurs number in omega (arith, a, b))
 
 -- Fields that are there
@@ -167,8 +158,8 @@ module _ (layouts : List Layout) where
 passed : (ts : List (Value → Bool)) (us : List Value) (k : ℕ) (t : Value → Bool) → all_pass ts us ≡ true → slice_get ts k ≡ Some t → (u : Value) × (slice_get us k ≡ Some u) × (t u ≡ true)
 passed [] us k t all e = absurd cc
 passed (x ∷ ts) [] k t all e = absurd (false≢true all)
-passed (x ∷ ts) (u ∷ us) zero t all e = (u, refl, ap (λ f. f u) (sym (same_Some x t e)) ∙ (both (x u) (all_pass ts us) all).0)
-passed (x ∷ ts) (u ∷ us) (suc k) t all e = passed ts us k t (both (x u) (all_pass ts us) all).1 e
+passed (x ∷ ts) (u ∷ us) zero t all e = (u, refl, ap (λ f. f u) (sym (same_Some x t e)) ∙ (and_parts (x u) (all_pass ts us) all).0)
+passed (x ∷ ts) (u ∷ us) (suc k) t all e = passed ts us k t (and_parts (x u) (all_pass ts us) all).1 e
 
 get-tests : (ps : List Pat) (k : ℕ) (p : Pat) → slice_get ps k ≡ Some p → slice_get (map matches_of ps) k ≡ Some (matches_of p)
 get-tests [] k p e = absurd cc
@@ -177,7 +168,7 @@ get-tests (q ∷ ps) (suc k) p e = get-tests ps k p e
 
 begun : (d : ℕ) (ts : List (Value → Bool)) (l : Value-F Value) → is_con d ts l ≡ true → (us : List Value) × (subs_in l ≡ us) × (all_pass ts us ≡ true)
 begun d ts (V.Num n) e = absurd (false≢true e)
-begun d ts (V.Con k us) e = let b = both (d == k) (all_pass ts us) e in (us, refl, b.1)
+begun d ts (V.Con k us) e = let b = and_parts (d == k) (all_pass ts us) e in (us, refl, b.1)
 
 -- a value that a pattern matches has a part at each of its paths, which the pattern there matches
 pub has_sub : (q : Pat) (v : Value) (field : ℕ) (sub : Pat) → slice_get (subpatterns (out-Pat q)) field ≡ Some sub → matches_of q v ≡ true → (part : Value) × (slice_get (subs_in (out-Value v)) field ≡ Some part) × (matches_of sub part ≡ true)

@@ -11,7 +11,7 @@ use Rattle.rb_target.specs.declared.instr.Instr.TheVariants.{Jump}
 use Rattle.rb_target.specs.declared.body.Hole.{Hole}
 use Rattle.rb_target.specs.Growth.{Grows}
 use Rattle.rb_target.specs.Meaning.{taken}
-use Rattle.rb_target.specs.Sheet.{Sheet, pushed, IsHole, IsHoleIn}
+use Rattle.rb_target.specs.Sheet.{Sheet, with_more, IsHole, IsHoleIn}
 use Rattle.rb_target.specs.Targets.{Finishes, IsHoleAmong, without_targets_in, target_in}
 use Rattle.rb_target.proofs.Finishing.{agrees-sub}
 use Rattle.rb_target.proofs.Growing.{Grows-trans, Grows-append, Keeps-refl, get-seam}
@@ -19,7 +19,7 @@ use Rattle.rb_target.proofs.Shapes.{jump_shape}
 use Rattle.rb_layout.specs.declared.agreed.LaidOut.{LaidOut}
 use Rattle.rb_rel.proofs.Lists.{got, get-append-at}
 use Rattle.rb_fragment.specs.declared.reads.Read.{Read}
-use Rattle.rb_fragment.specs.Arms.{AreHoles, AreOfOneWay, ArePatchable, HasHole, closed}
+use Rattle.rb_fragment.specs.Arms.{AreHoles, AreOfOneWay, ArePatchable, HasHole, with_targets}
 use Rattle.rb_fragment.specs.Plan.{Plan, Rep, words_needed}
 use Rattle.rb_fragment.specs.WordReads.{AllFit}
 use Rattle.rb_fragment.proofs.Adding.{push_adds}
@@ -105,7 +105,7 @@ has_in pc [] h = absurd h
 has_in pc (x ∷ hs) (inl e) = (x, (0, refl), e)
 has_in pc (x ∷ hs) (inr h) = let r = has_in pc hs h in (r.0, (suc r.1.0, r.1.1), r.2)
 
-pub closed_grows : (first b : Sheet) (hs : List Hole) (ts : List ℕ) → Grows first.code b.code → ((h : Hole) → IsHoleAmong h hs → length first.code ≤ h.pc) → Grows first.code (closed b hs ts).code
+pub closed_grows : (first b : Sheet) (hs : List Hole) (ts : List ℕ) → Grows first.code b.code → ((h : Hole) → IsHoleAmong h hs → length first.code ≤ h.pc) → Grows first.code (with_targets b hs ts).code
 closed_grows first b hs ts g low = record {
   longer = (let n = closed_length b hs ts in omega (arith, n, g.longer));
   same = λ pc lt. at_closed b hs ts pc ∙ retarget_none pc hs ts _ (λ h. let r = has_in pc hs h in let l = low r.0 r.1 in omega (arith, l, r.2, lt)) ∙ g.same pc lt;
@@ -130,7 +130,7 @@ module _ (agreed : LaidOut) (graph : Whole) (words : List Read) (spots : List Sp
 
   module _ (known : List Known) (common : IsCommonKnowledge edges n (Some known)) (new : Sheet) (asked onward : List Edge) where
     abbrev b : Sheet
-    b = closed old (landing_of n edges) (length old.code ∷ [])
+    b = with_targets old (landing_of n edges) (length old.code ∷ [])
 
     abbrev rest : List Edge
     rest = others_of n edges
@@ -198,7 +198,7 @@ begins_test agreed graph words spots root position arms other old new edges onwa
       thread_flows agreed graph.ty graph.pats.now graph.nodes.now plan base spots words root old new edges onward fine.of fine.lower threads.threaded f;
 }
 
-pub begins_jump : (agreed : LaidOut) (ty : Ty) (words : List Read) (pats : List Pat) (spots : List Spot) (nodes : List GraphNode) (root : ℕ) (old : Sheet) → RootStands agreed ty words pats spots nodes root old (pushed old (Jump (length old.code + 1))) (edge_at (length old.code) None root [] ∷ [])
+pub begins_jump : (agreed : LaidOut) (ty : Ty) (words : List Read) (pats : List Pat) (spots : List Spot) (nodes : List GraphNode) (root : ℕ) (old : Sheet) → RootStands agreed ty words pats spots nodes root old (with_more old (Jump (length old.code + 1))) (edge_at (length old.code) None root [] ∷ [])
 begins_jump agreed ty words pats spots nodes root old =
     let pc = length old.code in
     let code = old.code ++ Jump (pc + 1) ∷ [] in

@@ -1,8 +1,8 @@
 -- A test of an integer: one switch over its numbers.
 use Rattle.std.proofs.Common.{◌≡◌, ℕ, ◌≤◌, zero, suc, ◌+◌, ◌<◌, ◌⊎◌, inl, inr, Bool, true, false, List, [], ◌∷◌, ◌++◌, length, Option, Some, None, refl, sym, subst, ap, ◌∙◌, arith, length-append}
-use Rattle.std.specs.Prelude.{slice_get, slice_index, if◌then◌else◌, ◌&&◌, nat_eq, All, IfSome, is_some}
+use Rattle.std.specs.Prelude.{slice_get, slice_index, if◌then◌else◌, nat_eq, All, IfSome, is_some}
 use Rattle.std.specs.Bool.{then_some}
-use Rattle.std.proofs.lemmas.Bool.{false≢true, ltb-true}
+use Rattle.std.proofs.lemmas.Bool.{false≢true, ltb-true, and_parts}
 use Rattle.std.proofs.lemmas.List.{length-map}
 use Rattle.std.proofs.lemmas.List.Elements.{All-nil, All-cons}
 use Rattle.std.proofs.lemmas.Option.{same_Some, slice_get_within}
@@ -19,8 +19,8 @@ use Rattle.rb_target.specs.declared.instr.SwitchArm.{SwitchArm}
 use Rattle.rb_target.specs.declared.instr.Instr.{Instr}
 use Rattle.rb_target.specs.declared.instr.Instr.TheVariants.{Switch}
 use Rattle.rb_target.specs.Growth.{Keeps, AgreesBut, Grows, Nowhere}
-use Rattle.rb_target.specs.Meaning.{taken, switched, target_of, after_switch}
-use Rattle.rb_target.specs.Sheet.{Sheet, pushed, IsHoleIn}
+use Rattle.rb_target.specs.Meaning.{taken, with_switch, target_of, after_switch}
+use Rattle.rb_target.specs.Sheet.{Sheet, with_more, IsHoleIn}
 use Rattle.rb_target.specs.Targets.{without_targets, without_targets_in, target_in}
 use Rattle.rb_target.specs.Validity.{IsTarget}
 use Rattle.rb_target.proofs.Growing.{Grows-trans, Grows-append, get-append, get-seam}
@@ -36,11 +36,6 @@ use Rattle.rb_match.specs.inner.Knowing.{IsEdge, view_of}
 use Rattle.rb_match.specs.inner.Asking.{take_link, number_of_head, is_number, are_numbers, number_arm, number_arms, edge_in, arm_edges, else_edges, StandOpen, AsksNumber}
 use Rattle.rb_match.proofs.Edges.{edge_append, edge_left, edge_right, open_edge}
 use Rattle.rb_match.proofs.Following.{carried_known, known-kept}
-
-both : (a b : Bool) → (a && b) ≡ true → (a ≡ true) × (b ≡ true)
-both true true e = (refl, refl)
-both true false e = absurd cc
-both false b e = absurd cc
 
 -- the arm that is picked leads where the value goes
 head_step : (h : Head) (under : ℕ) (rest p : Option ℕ) (x node : ℕ) → is_number h ≡ true → (if layer_begins h (V.Num x) then Some under else rest) ≡ Some node
@@ -67,7 +62,7 @@ module _ (nodes : List GraphNode) (read : Read) (known : List Known) (arms : Lis
   switch = Switch slot (then_some (is_some other) (pc + 1)) ways
 
   abbrev pub new : Sheet
-  new = pushed mid switch
+  new = with_more mid switch
 
   abbrev pub edges : List Edge
   edges = arm_edges nodes pc known arms 0 ++ else_edges nodes pc known other
@@ -149,7 +144,7 @@ module _ (nodes : List GraphNode) (read : Read) (known : List Known) (arms : Lis
   goes : (ys : List GraphArm) (x node : ℕ) → are_numbers ys ≡ true → take_link ys other (V.Num x) ≡ Some node → Goes ys x node
   goes [] x node nums e = inr (e, refl)
   goes (y ∷ ys) x node nums e =
-      let n = both (is_number y.head) (are_numbers ys) nums in
+      let n = and_parts (is_number y.head) (are_numbers ys) nums in
       elim (head_step y.head y.under (take_link ys other (V.Num x)) (picked ys x) x node n.0 e) [
         | inl h ↦ inl (0, y, refl, h.0, h.1)
         | inr h ↦ elim (goes ys x node n.1 h.0) [
@@ -168,7 +163,7 @@ module _ (nodes : List GraphNode) (read : Read) (known : List Known) (arms : Lis
   arms_small : (ys : List GraphArm) → are_numbers ys ≡ true → All (λ (x : SwitchArm). x.number < 18446744073709551616) (number_arms (pc + 1) ys)
   arms_small [] nums = All-nil (λ (x : SwitchArm). x.number < 18446744073709551616)
   arms_small (y ∷ ys) nums =
-      let n = both (is_number y.head) (are_numbers ys) nums in
+      let n = and_parts (is_number y.head) (are_numbers ys) nums in
       All-cons (λ (x : SwitchArm). x.number < 18446744073709551616) (number_arm (pc + 1) y.head) (number_arms (pc + 1) ys) (small y.head n.0) (arms_small ys n.1)
     where
       small : (h : Head) → is_number h ≡ true → number_of_head h < 18446744073709551616
@@ -212,7 +207,7 @@ module _ (nodes : List GraphNode) (read : Read) (known : List Known) (arms : Lis
             let to : target_in (slice_get final pc) (picked arms x) ≡ Some t.0 = ap (λ o. target_in o (picked arms x)) hole.1 ∙ t.1 in
             let goes_to : target_of sw.list sw.other (slice_index r.1 slot) ≡ Some t.0 =
             ap (target_of sw.list sw.other) r.6.1 ∙ target_shaped slot sw.other ways sw.list x sw.same ∙ sym (ap (λ o. target_in o (picked arms x)) sw.is) ∙ to in
-            let w1 = switched (taken r.2) in
+            let w1 = with_switch (taken r.2) in
             let ran : next pc r.1 r.2 ≡ next t.0 r.1 w1 = law.step pc (Switch slot sw.other sw.list) r.1 r.2 sw.is ∙ ap (λ o. after_switch o (slice_index r.1 slot) w1 (λ k. next k r.1 w1)) goes_to in
             record {
               edge = edge_in nodes pc (picked arms x) node known;

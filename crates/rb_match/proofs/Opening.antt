@@ -16,7 +16,7 @@ use Rattle.rb_target.specs.declared.body.Hole.{Hole}
 use Rattle.rb_target.specs.Growth.{AgreesBut, Grows, Nowhere}
 use Rattle.rb_target.specs.Laws.{Law}
 use Rattle.rb_target.specs.Meaning.{World, Next, Callee, slots_at, taken}
-use Rattle.rb_target.specs.Sheet.{Sheet, IsHole, IsHoleIn, pushed}
+use Rattle.rb_target.specs.Sheet.{Sheet, IsHole, IsHoleIn, with_more}
 use Rattle.rb_target.specs.Targets.{Finishes, IsHoleAmong, IsOpenTarget, without_targets_in, target_in}
 use Rattle.rb_target.proofs.Finishing.{agrees-sub}
 use Rattle.rb_target.proofs.Growing.{Grows-append, Grows-trans, Keeps-trans, get-append, get-seam}
@@ -26,7 +26,7 @@ use Rattle.rb_layout.specs.Positions.{layout_of, leaf_of}
 use Rattle.rb_rel.specs.Switches.{depth_of}
 use Rattle.rb_rel.proofs.Lists.{get-map, get-mapped}
 use Rattle.rb_fragment.specs.declared.reads.Read.{Read}
-use Rattle.rb_fragment.specs.Arms.{AreHoles, AreOfOneWay, ArePatchable, closed}
+use Rattle.rb_fragment.specs.Arms.{AreHoles, AreOfOneWay, ArePatchable, with_targets}
 use Rattle.rb_fragment.specs.Plan.{Plan, Rep}
 use Rattle.rb_fragment.specs.Pieces.{GoesOutBy}
 use Rattle.rb_fragment.specs.Slots.{AllBelow}
@@ -35,7 +35,7 @@ use Rattle.rb_fragment.proofs.Holds.{AllBelow-more, slots_at-kept}
 use Rattle.rb_fragment.proofs.Patching.{AreAllHoles, adds_closed, closed_hole, closed_length, closed_slots, hole_within}
 use Rattle.rb_fragment.specs.WordReads.{MakesAll}
 use Rattle.rb_rel.proofs.Represented.{opened}
-use Rattle.rb_fetch.specs.Finding.{FindsGroup, HasGroup, IsPlanOf, leaf_count, leaves_within}
+use Rattle.rb_fetch.specs.Finding.{FindsGroup, HasGroup, IsPlanOf, leaf_count, layout_leaf_count}
 use Rattle.rb_fetch.specs.Pruning.{group_at, group_or_none}
 use Rattle.rb_fetch.proofs.Grouping.{found_by_depth}
 use Rattle.rb_match.specs.declared.deep.Onward.{Onward}
@@ -44,7 +44,7 @@ use Rattle.rb_match.specs.declared.knowledge.Known.TheVariants as K
 use Rattle.rb_match.specs.declared.knowledge.Spot.{Spot}
 use Rattle.rb_match.specs.declared.knowledge.Edge.{Edge}
 use Rattle.rb_match.specs.declared.spots.Whole.{Whole}
-use Rattle.rb_match.specs.Bounding.{choosing_look, rebuilding}
+use Rattle.rb_match.specs.Bounding.{choosing_look, rebuilding_bound}
 use Rattle.rb_match.specs.inner.Knowing.{AreKnown, IsEdge, IsKnown, view_of}
 use Rattle.rb_match.specs.inner.Asking.{AreGroups, AreSpots, LeavesWhere, StandOpen, group_for, edge_at, holes_of, take_link}
 use Rattle.rb_match.specs.inner.Clauses.{way_holes}
@@ -185,13 +185,13 @@ module _ (agreed : LaidOut) (t : ℕ) (words : List ℕ) (spots : List Spot) (po
     targets = length old.code ∷ []
 
     abbrev b : Sheet
-    b = closed old here targets
+    b = with_targets old here targets
 
     abbrev pub way_edge : Edge
     way_edge = edge_at (length c.code) None o.node more
 
     abbrev pub way_code : Sheet
-    way_code = pushed c (Jump (length c.code + 1))
+    way_code = with_more c (Jump (length c.code + 1))
 
     abbrev all : List Edge
     all = edges ++ way_edge ∷ []
@@ -354,7 +354,7 @@ module _ (agreed : LaidOut) (t : ℕ) (words : List ℕ) (spots : List Spot) (po
           below {a = a} lt ne = grind (arith, lt, ne)
 
           go : (known : List Known) (graph : Whole) (arms : List GraphArm) (other : Option ℕ) (plan : Plan) (n : ℕ) (mid : Sheet) (top : ℕ) → LeadsLeaf agreed graph t known position arms other i found → IsPlanOf agreed plan → (are : AreSpots plan n mid.slots spots) → AllBelow mid.slots words → mid.slots ≤ b.slots
-              → (st : WaysStand mid top holes i old edges) → (k : Knows plan n (rebuilding plan.layouts (Named t)) t i words spots position.now o.known more b c) → (ways : AreOfOneWay holes)
+              → (st : WaysStand mid top holes i old edges) → (k : Knows plan n (rebuilding_bound plan.layouts (Named t)) t i words spots position.now o.known more b c) → (ways : AreOfOneWay holes)
               → (final : List Instr) (callee : Callee) (next : Next) → Law final callee next → Finishes final way_code.code (holes_to_set (i + 1) holes ++ holes_of all) (length mid.code) (length way_code.code)
               → (s : List ℕ) (w : World) (clean : Bool) (v part : Value) (layout : Layout) (leaf node1 group : ℕ) → way_code.slots ≤ length s → IsThereWith plan clean t v part words spots known s w.memory
               → part_at v position.now ≡ Some part → layout_of plan.layouts t ≡ Some layout → leaf_of layout part ≡ Some leaf → take_link arms other (out-Value part) ≡ Some node1 → (group ≡ i → leaf ≡ i)
@@ -517,7 +517,7 @@ module _ (nodes : List GraphNode) (known : List Known) (holes : List Hole) (coun
         let same : b.layout ≡ layout = same_Some b.layout layout (sym b.is_layout ∙ is_layout) in
         let number : b.number ≡ leaf = same_Some b.number leaf (sym b.is_leaf ∙ ap (λ (l : Layout). leaf_of l part) same ∙ is_leaf) in
         let within = slice_get_within b.layout.leaves b.number b.leaf b.is_number in
-        let leaves : leaf_count agreed t ≡ length b.layout.leaves = ap leaves_within (sym (ap (λ ls. layout_of ls t) of.layouts) ∙ b.is_layout) in
+        let leaves : leaf_count agreed t ≡ length b.layout.leaves = ap layout_leaf_count (sym (ap (λ ls. layout_of ls t) of.layouts) ∙ b.is_layout) in
         let all = lead.long in
         let l = lead.each leaf (omega (arith, within, leaves, number)) in
         let g = here.each leaf (omega (arith, within, leaves, number, all)) in

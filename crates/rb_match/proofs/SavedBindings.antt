@@ -1,7 +1,7 @@
 -- Code that binds what stands in saved fields.
 use Rattle.std.proofs.Common.{◌≡◌, ℕ, suc, ◌+◌, inl, inr, Bool, true, false, List, [], ◌∷◌, ◌++◌, map, Some, refl, sym, subst, ap, ◌∙◌, arith}
-use Rattle.std.specs.Prelude.{slice_get, ◌&&◌, if◌then◌else◌}
-use Rattle.std.proofs.lemmas.Bool.{false≢true}
+use Rattle.std.specs.Prelude.{slice_get, if◌then◌else◌}
+use Rattle.std.proofs.lemmas.Bool.{false≢true, and_parts}
 use Rattle.std.proofs.lemmas.Option.{same_Some}
 use Rattle.rb_core.specs.declared.value.Value.{Value, out-Value}
 use Rattle.rb_core.specs.declared.types.Ty.{Ty}
@@ -11,7 +11,7 @@ use Rattle.rb_core.specs.declared.typing.Binder.{Binder}
 use Rattle.rb_core.specs.declared.binding.Binding.{Binding}
 use Rattle.rb_core.specs.declared.pattern.Pat.{Pat, Con}
 use Rattle.rb_core.specs.Inference.{binders, binders_step, all_binders}
-use Rattle.rb_core.specs.Matching.{all_bound, all_pass, bindings, bound_within, matches_of}
+use Rattle.rb_core.specs.Matching.{all_bindings, all_pass, bindings, layer_bindings, matches_of}
 use Rattle.rb_core.specs.Typing.{field_types}
 use Rattle.rb_core.specs.Values.{part_at, subs_in}
 use Rattle.rb_core.proofs.MatchingForms.{matches-Con, bindings-Con}
@@ -45,11 +45,6 @@ use Rattle.rb_match.proofs.Following.{known-kept}
 use Rattle.rb_match.proofs.Nodes.{spots-more}
 use Rattle.rb_match.proofs.SavedParts.{item-is}
 use Rattle.std.proofs.Common.{get_or}
-
-both : (a b : Bool) → (a && b) ≡ true → (a ≡ true) × (b ≡ true)
-both true true e = (refl, refl)
-both true false e = absurd cc
-both false b e = absurd cc
 
 -- a field without variables
 spot_none : (agreed : LaidOut) (spots : List Spot) (known : List Known) (sub : Pat) (field : Ty) (i : ℕ) (old : Sheet) → ((plan : Plan) → (binders plan.program.types sub field ≡ []) × ((v : Value) → bindings sub v ≡ [])) → BindsSpot agreed spots known sub field i old old []
@@ -133,16 +128,16 @@ spots_bind agreed spots known sub subs field fields i old mid new bound more fir
 
     go : (plan : Plan) (n : ℕ) → AreSpots plan n old.slots spots → (f : BindsSaved plan n (binding_bound plan.program.types plan.layouts field sub) spots known (binders plan.program.types sub field) old mid bound (FieldMatches sub i))
         (o : BindsSaved plan n (fields_bound plan subs fields) spots known (all_binders (map (binders plan.program.types) subs) fields) mid new more (FieldsMatch subs (i + 1)))
-        → (clean : Bool) (v : Value) (bs : List Binding) (vs : List Value) → ((j : ℕ) → part_at v ((i + j) ∷ []) ≡ slice_get vs j) → all_pass (map matches_of (sub ∷ subs)) vs ≡ true → bs ≡ all_bound (map bindings (sub ∷ subs)) vs
+        → (clean : Bool) (v : Value) (bs : List Binding) (vs : List Value) → ((j : ℕ) → part_at v ((i + j) ∷ []) ≡ slice_get vs j) → all_pass (map matches_of (sub ∷ subs)) vs ≡ true → bs ≡ all_bindings (map bindings (sub ∷ subs)) vs
         → CodePiece plan old.slots old new Nowhere (fields_bound plan (sub ∷ subs) (field ∷ fields)) (λ s m. AreSeen plan clean v spots known s m) (AtEnd new (λ s m. Holds plan clean s m (bound ++ more) bs))
     go plan n are f o clean v bs [] at pass is = absurd (false≢true pass)
     go plan n are f o clean v bs (u ∷ vs) at pass is =
-        let b = both (matches_of sub u) (all_pass (map matches_of subs) vs) pass in
+        let b = and_parts (matches_of sub u) (all_pass (map matches_of subs) vs) pass in
         let z : i ≡ i + 0 = omega arith in
         let here : part_at v (i ∷ []) ≡ Some u = ap (λ n. part_at v (n ∷ [])) z ∙ at 0 in
         let Pre : List ℕ → Memory → Type 0 = λ s m. AreSeen plan clean v spots known s m in
         let bs1 = bindings sub u in
-        let bs2 = all_bound (map bindings subs) vs in
+        let bs2 = all_bindings (map bindings subs) vs in
         let Has1 : List ℕ → Memory → Type 0 = λ s m. Holds plan clean s m bound bs1 in
         let Has2 : List ℕ → Memory → Type 0 = λ s m. Holds plan clean s m more bs2 in
         let Post : List ℕ → Memory → Type 0 = λ s m. Holds plan clean s m (bound ++ more) bs in
@@ -190,7 +185,7 @@ deep_binds agreed t token c subs words spots known old mid b new bound deep name
       runs = λ clean v matches.
           let w = begins_with c.con (map matches_of subs) (out-Value v) (sym (matches-Con v token c subs) ∙ matches) in
           let us = w.0 in
-          let parts : FieldsMatch subs 0 v (bindings (Con token c subs) v) = (us, (λ j. let z : 0 + j ≡ j = omega arith in ap (λ l. slice_get (subs_in l) (0 + j)) w.1 ∙ ap (slice_get us) z), w.2, bindings-Con v token c subs ∙ ap (bound_within (map bindings subs)) w.1) in
+          let parts : FieldsMatch subs 0 v (bindings (Con token c subs) v) = (us, (λ j. let z : 0 + j ≡ j = omega arith in ap (λ l. slice_get (subs_in l) (0 + j)) w.1 ∙ ap (slice_get us) z), w.2, bindings-Con v token c subs ∙ ap (layer_bindings (map bindings subs)) w.1) in
           let Pre : List ℕ → Memory → Type 0 = λ s m. IsGood m × Rep plan m clean t v (slots_at s words) in
           let There : List ℕ → Memory → Type 0 = λ s m. IsThere plan clean c.ty v words s m in
           let Seen : List ℕ → Memory → Type 0 = λ s m. AreSeen plan clean v spots known s m in

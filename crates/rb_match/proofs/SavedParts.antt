@@ -5,7 +5,7 @@ use Rattle.std.proofs.lemmas.Option.{same_Some}
 use Rattle.rb_core.specs.declared.types.Ty.{Ty}
 use Rattle.rb_bytes.specs.Memory.{Memory}
 use Rattle.rb_target.specs.declared.instr.Instr.TheVariants.{Const}
-use Rattle.rb_target.specs.Sheet.{Sheet, pushed, with_slot}
+use Rattle.rb_target.specs.Sheet.{Sheet, with_more, with_slot}
 use Rattle.rb_target.proofs.Growing.{Grows-refl, Grows-trans, Grows-append}
 use Rattle.rb_layout.specs.declared.agreed.LaidOut.{LaidOut}
 use Rattle.rb_fragment.specs.Plan.{Plan, words_needed}
@@ -69,13 +69,13 @@ zeroes-none b = record {
   grows = Grows-refl b.code;
 }
 
-pub zeroes-more : (a b : Sheet) (i : ℕ) → Zeroes a b i → Zeroes a (pushed (with_slot b) (Const b.slots 0)) (i + 1)
+pub zeroes-more : (a b : Sheet) (i : ℕ) → Zeroes a b i → Zeroes a (with_more (with_slot b) (Const b.slots 0)) (i + 1)
 zeroes-more a b i z = record {
   slots = (let e = z.slots in omega (arith, e));
   straight = λ plan n le.
       let e = z.slots in
       let low : n ≤ b.slots = omega (arith, le, e) in
-      straight_seq plan n a b (pushed (with_slot b) (Const b.slots 0)) Anything Anything Anything (z.straight plan n le) (straight_const plan n b low (λ k m. Unit {0}) 0 (omega arith));
+      straight_seq plan n a b (with_more (with_slot b) (Const b.slots 0)) Anything Anything Anything (z.straight plan n le) (straight_const plan n b low (λ k m. Unit {0}) 0 (omega arith));
   grows = Grows-trans _ _ _ z.grows (Grows-append b.code (Const b.slots 0 ∷ []));
 }
 
@@ -166,10 +166,10 @@ copies_straight plan n P (d ∷ ds) (f ∷ fs) b le from below reads =
     let one = straight_write plan n b (Copy d f) d (λ s m. P (copied (slice_set s d (slice_index s f)) ds fs) m) (λ s m. P (copied s ds fs) m) le from.0
     (record { bounded = tt; slots_fit = (below.0, reads.0); targets = tt; calls = tt })
     (λ next callee pc s w inside pre. (slice_index s f, refl, pre)) in
-    let more = copies_straight plan n P ds fs (pushed b (Copy d f)) le from.1 below.1 reads.1 in
-    let same : with_copies (pushed b (Copy d f)) ds fs ≡ with_copies b (d ∷ ds) (f ∷ fs) = ap (λ (c : List Instr). let s : Sheet = record b { code = c } in s) (append_assoc b.code (Copy d f ∷ []) (copies ds fs)) in
+    let more = copies_straight plan n P ds fs (with_more b (Copy d f)) le from.1 below.1 reads.1 in
+    let same : with_copies (with_more b (Copy d f)) ds fs ≡ with_copies b (d ∷ ds) (f ∷ fs) = ap (λ (c : List Instr). let s : Sheet = record b { code = c } in s) (append_assoc b.code (Copy d f ∷ []) (copies ds fs)) in
     subst (λ c. Straight plan n b c (λ s m. P (copied s (d ∷ ds) (f ∷ fs)) m) P) same
-    (straight_seq plan n b (pushed b (Copy d f)) (with_copies (pushed b (Copy d f)) ds fs) (λ s m. P (copied (slice_set s d (slice_index s f)) ds fs) m) (λ s m. P (copied s ds fs) m) P one more)
+    (straight_seq plan n b (with_more b (Copy d f)) (with_copies (with_more b (Copy d f)) ds fs) (λ s m. P (copied (slice_set s d (slice_index s f)) ds fs) m) (λ s m. P (copied s ds fs) m) P one more)
 
 -- slots apart from those that are written
 pub slots_at-apart : (n : ℕ) (ds xs s s' : List ℕ) → KeepsOthers n ds s s' → AllBelow n xs → SlotsAreApart ds xs → slots_at s' xs ≡ slots_at s xs

@@ -1,7 +1,7 @@
 -- What provenances show: what stands at a position, and which leaf all values have that a pattern matches.
 use Rattle.std.proofs.Common.{◌≡◌, ℕ, zero, suc, ◌+◌, ◌<◌, ◌==◌, inl, inr, Bool, true, false, List, [], ◌∷◌, ◌++◌, map, length, Option, Some, None, refl, sym, subst, ap, ◌∙◌, arith}
 use Rattle.std.specs.Prelude.{IfSome, ◌&&◌, slice_get, if◌then◌else◌}
-use Rattle.std.proofs.lemmas.Bool.{false≢true}
+use Rattle.std.proofs.lemmas.Bool.{false≢true, and_parts}
 use Rattle.std.proofs.lemmas.Grind.{common_steps}
 use Rattle.std.proofs.lemmas.Option.{same_Some}
 use Rattle.rb_core.specs.declared.value.Value.{Value, out-Value}
@@ -25,7 +25,6 @@ use Rattle.rb_match.specs.inner.Threading.{AllFollow, AreWild, TellsConstructor,
 use Rattle.rb_matrix.proofs.Differing.{pass-at}
 use Rattle.rb_match.proofs.Bindings.{begins_with}
 use Rattle.rb_match.proofs.Following.{snoc-at}
-use Rattle.rb_match.proofs.LeafTests.{both}
 use Rattle.rb_match.proofs.Placing.{part-append}
 use denote.Ref.{Bor}
 
@@ -77,7 +76,7 @@ wild_pass [] (q ∷ qs) us w n e = absurd (omega (arith, n))
 wild_pass (p ∷ ps) [] us w n e = absurd (omega (arith, n))
 wild_pass (p ∷ ps) (q ∷ qs) [] w n e = absurd (false≢true e)
 wild_pass (p ∷ ps) (q ∷ qs) (u ∷ us) w n e =
-    let b = both (matches_of q u) (all_pass (map matches_of qs) us) e in
+    let b = and_parts (matches_of q u) (all_pass (map matches_of qs) us) e in
     ap (λ x. x && all_pass (map matches_of ps) us) (w 0 p refl u) ∙ wild_pass ps qs us (λ k x at. w (suc k) x at) (omega (arith, n)) b.1
 
 -- a constructor over wildcards matches each value that begins with it

@@ -17,7 +17,7 @@ use Rattle.rb_target.specs.Targets.{Finishes}
 use Rattle.rb_target.proofs.Finishing.{agrees-sub}
 use Rattle.rb_layout.specs.declared.agreed.LaidOut.{LaidOut}
 use Rattle.rb_fragment.specs.declared.reads.Read.{Slot}
-use Rattle.rb_fragment.specs.Arms.{closed}
+use Rattle.rb_fragment.specs.Arms.{with_targets}
 use Rattle.rb_fragment.proofs.Closing.{closed_is}
 use Rattle.rb_fragment.proofs.MakingAll.{slots_fit, slots_meant}
 use Rattle.rb_fragment.proofs.Patching.{adds_closed, closed_length, closed_slots, hole_within}
@@ -43,12 +43,12 @@ goes c v us is =
     ap (take_link (arm_of c) None) is ∙ ap (λ u. if u then Some 0 else None) same
 
 pub saves_together : (agreed : LaidOut) (graph : Whole) (c : ConRef) (words : List ℕ) (spots : List Spot) (known : List Known) (old b : Sheet) (edges : List Edge)
-    → AsksDeep agreed graph c.ty spots (map (λ x. Slot x) words) [] [] (arm_of c) None old b edges → graph.nodes.now ≡ [] → StandOpen old b edges → IsCommonKnowledge edges 0 (Some known) → SavesTogether agreed c words spots known old (closed b (landing_of 0 edges) (length b.code ∷ []))
+    → AsksDeep agreed graph c.ty spots (map (λ x. Slot x) words) [] [] (arm_of c) None old b edges → graph.nodes.now ≡ [] → StandOpen old b edges → IsCommonKnowledge edges 0 (Some known) → SavesTogether agreed c words spots known old (with_targets b (landing_of 0 edges) (length b.code ∷ []))
 saves_together agreed graph c words spots known old b edges asks none stand common = λ plan n of are low count.
     let a = asks plan n of are (slots_fit old.slots words low) (length-map words (λ x. Slot x) ∙ count) in
     let L = landing_of 0 edges in
     let ts = length b.code ∷ [] in
-    let new = closed b L ts in
+    let new = with_targets b L ts in
     let lo = length old.code in
     let len : length new.code ≡ length b.code = closed_length b L ts in
     let slots = closed_slots b L ts in

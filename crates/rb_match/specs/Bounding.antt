@@ -87,14 +87,14 @@ abbrev pub takes_none_apart : List Layout → ℕ → Bool
 takes_none_apart layouts t = list_all is_shallow (leaves_of_layout (layout_of layouts t))
 
 -- the switches that rebuild what the leaf of a value of this type has taken apart, at most; none for an integer
-abbrev pub rebuilding : List Layout → Ty → ℕ
-rebuilding layouts (Int bits) = 0
-rebuilding layouts (Named t) = if takes_none_apart layouts t then 0 else mend_of layouts t
+abbrev pub rebuilding_bound : List Layout → Ty → ℕ
+rebuilding_bound layouts (Int bits) = 0
+rebuilding_bound layouts (Named t) = if takes_none_apart layouts t then 0 else mend_of layouts t
 
 -- the switches of a test of a value of this type: those that find the leaf or the number, and those that rebuild what
 -- is saved of it
 abbrev pub choosing_look : List Layout → Ty → ℕ
-choosing_look layouts t = depth_of layouts t + rebuilding layouts t
+choosing_look layouts t = depth_of layouts t + rebuilding_bound layouts t
 
 -- the switches that choose the clause of a match on a value of type t, at most
 abbrev pub choosing_bound : List DataDecl → List Layout → Ty → List Pat → ℕ

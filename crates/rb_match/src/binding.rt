@@ -24,7 +24,7 @@ use crate::engine::land;
 use crate::knowledge::{Known, Spot, Test, node_known, saved_known};
 use crate::patterns::binds_nothing;
 use crate::saving::{LeafSlots, fetch_part, spot_at};
-use crate::spots::{Wanted, Whole, field_below, give_spots, is_deep};
+use crate::spots::{Wanted, Whole, give_spots, is_deep};
 use rb_core::inference::types_of_fields;
 use rb_core::pattern::Pat;
 use rb_core::seq::Seq;
@@ -35,6 +35,7 @@ use rb_fetch::field::copy_slots;
 use rb_fragment::held::Local;
 use rb_fragment::reads::slot_reads;
 use rb_layout::agreed::Agreed;
+use rb_layout::paths::path_below;
 use rb_matrix::are_apart;
 use rb_matrix::matrix::Head;
 use rb_target::body::Body;
@@ -177,7 +178,7 @@ fn bound_fields(alloc: Global, subs: &[Pat], fields: &[Ty]) -> Result<Seq<Wanted
         if let Some(sub) = subs.get(i)
             && !binds_nothing(sub)
         {
-            let position = field_below(alloc, &[], number_of(i)?)?;
+            let position = path_below(alloc, &[], number_of(i)? as usize)?;
             wanted.push(Wanted {
                 position,
                 ty: *field,

@@ -18,7 +18,7 @@
 
 ghost use Rattle.std.specs.Prelude.{◌≡◌, ◌∷◌, [], IfOk, OnOk, length};
 ghost use Rattle.rb_target.specs.Growth.{Grows};
-ghost use Rattle.rb_fragment.specs.Arms.{closed};
+ghost use Rattle.rb_fragment.specs.Arms.{with_targets};
 ghost use Rattle.rb_match.specs.inner.Clauses.{way_holes};
 ghost use Rattle.rb_fetch.specs.Finding.{leaf_count};
 ghost use Rattle.rb_match.specs.inner.Asking.{AreGroups, StandOpen};
@@ -46,7 +46,7 @@ use std::alloc::{AllocError, Global};
 // Sets those of the holes that have the number of a leaf to the end of the code.
 fn land_leaf(alloc: Global, body: &mut Body, holes: &[Hole], leaf: usize) -> Result<(), AllocError>
     requires { CanOpen body.old.code holes.now leaf }
-    ensures { OnOk result (body.new ≡ closed body.old (way_holes leaf 0 holes.now) (length body.old.code ∷ [])) }
+    ensures { OnOk result (body.new ≡ with_targets body.old (way_holes leaf 0 holes.now) (length body.old.code ∷ [])) }
 {
     let mut targets = Seq::new(alloc);
     targets.push(body.len())?;

@@ -15,7 +15,7 @@
 
 ghost use Rattle.std.specs.Prelude.{◌≡◌, ◌∷◌, [], IfOk, OnOk, length};
 ghost use Rattle.rb_target.specs.Growth.{Grows};
-ghost use Rattle.rb_fragment.specs.Arms.{AreHoles, AreOfOneWay, closed};
+ghost use Rattle.rb_fragment.specs.Arms.{AreHoles, AreOfOneWay, with_targets};
 ghost use Rattle.rb_match.specs.inner.Asking.{AreOpen};
 ghost use Rattle.rb_match.specs.inner.Flowing.{landing_of, others_of, StepsNode, RootStands, IsClauseHole, AreClauseHoles, TakesGraph};
 
@@ -73,7 +73,8 @@ pub fn land<'a>(
     node: usize,
 ) -> Result<Seq<Edge<'a>>, AllocError>
     requires { AreOpen 0 body.old.code edges }
-    ensures code { OnOk result (body.new ≡ closed body.old (landing_of node edges.entry) (length body.old.code ∷ [])) }
+    ensures code { OnOk result
+        (body.new ≡ with_targets body.old (landing_of node edges.entry) (length body.old.code ∷ [])) }
     ensures rest { IfOk result (λ rest. rest ≡ others_of node edges.entry) }
 {
     let mut targets = Seq::new(alloc);

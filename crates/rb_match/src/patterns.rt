@@ -1,7 +1,8 @@
 //! What patterns tell by themselves.
 
 ghost use Rattle.std.specs.Prelude.{◌≡◌, map};
-ghost use Rattle.rb_match.specs.inner.Binding.{all_unbound, is_unbound};
+ghost use Rattle.std.specs.List.{list_all};
+ghost use Rattle.rb_match.specs.inner.Binding.{is_unbound};
 
 use rb_core::pattern::Pat;
 
@@ -20,7 +21,7 @@ pub fn binds_nothing(pat: &Pat) -> bool
 // Whether none of some patterns has a variable; so it is of no patterns.
 #[cycle(seeking)]
 fn bind_nothing(pats: &[Pat]) -> bool
-    ensures { result ≡ all_unbound (map is_unbound pats.now) }
+    ensures { result ≡ list_all (λ b. b) (map is_unbound pats.now) }
 {
     for pat in pats {
         if !binds_nothing(pat) {

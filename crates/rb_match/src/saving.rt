@@ -13,7 +13,7 @@ ghost use Rattle.rb_match.specs.inner.Saving.{FetchesPart, HasBelow, IsPositionO
 
 use crate::asking::prov_of;
 use crate::knowledge::{Known, Spot, same_position};
-use crate::spots::{Needs, field_below, is_needed, is_tested};
+use crate::spots::{Needs, is_needed, is_tested};
 use crate::threading::is_opened;
 use rb_core::inference::types_of_fields;
 use rb_core::pattern::Pat;
@@ -23,6 +23,7 @@ use rb_decide::clause_matrix::number_of;
 use rb_fetch::field::fetch_field;
 use rb_fragment::emit::emit_copies;
 use rb_layout::agreed::Agreed;
+use rb_layout::paths::path_below;
 use rb_target::body::Body;
 use std::alloc::{AllocError, Global};
 
@@ -271,7 +272,7 @@ fn save_below<'a>(
                     return Err(AllocError);
                 };
                 let number = number_of(j)?;
-                let below = field_below(alloc, path, number)?;
+                let below = path_below(alloc, path, number as usize)?;
                 let below = below.as_slice();
                 known = save_at(alloc, body, agreed, source, below, sub, *at, known)?;
             }

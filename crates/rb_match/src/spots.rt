@@ -12,7 +12,7 @@
 //! as for want of memory, where that is not known. So a wrong guess costs instructions, or the code, and never makes
 //! code that is wrong.
 
-ghost use Rattle.std.specs.Prelude.{◌≡◌, ◌++◌, ◌∷◌, [], IfOk, OnOk, true, false, nat_eq};
+ghost use Rattle.std.specs.Prelude.{◌≡◌, IfOk, OnOk, true, false, nat_eq};
 ghost use Rattle.std.specs.List.{list_any, starts_with};
 ghost use Rattle.rb_target.specs.Growth.{Grows};
 ghost use Rattle.rb_fragment.specs.Slots.{slots_from};
@@ -30,6 +30,7 @@ use rb_decide::decision_graph::{GraphArm, GraphNode};
 use rb_fragment::emit::emit_const;
 use rb_layout::agreed::Agreed;
 use rb_layout::layout::Leaf;
+use rb_layout::paths::path_below;
 use rb_rel::words::word_count;
 use rb_target::body::Body;
 use std::alloc::{AllocError, Global};
@@ -83,20 +84,6 @@ pub fn is_deep(agreed: &Agreed, ty: u32) -> bool
     }
 }
 
-/// A position with one field number more at its end.
-///
-/// # Errors
-///
-/// Want of memory.
-pub fn field_below(alloc: Global, position: &[u32], field: u32) -> Result<Seq<u32>, AllocError>
-    ensures { IfOk result (λ below. below ≡ position.now ++ field ∷ []) }
-{
-    let fields = Vec::from_slice(alloc, position)?;
-    let mut below = Seq::from_vec(fields);
-    below.push(field)?;
-    Ok(below)
-}
-
 // Adds a part to those that are to be saved, where it is not among them yet. What is saved is a guess.
 fn add_wanted(found: &mut Seq<Wanted>, position: Seq<u32>, ty: Ty) -> Result<(), AllocError> {
     for wanted in found.as_slice() {
@@ -128,7 +115,7 @@ fn add_parts(
                 match sub {
                     Pat::Wild(_) | Pat::Var(_, _) => {}
                     Pat::Num(_, _) | Pat::Con(_, _, _) => {
-                        let below = field_below(alloc, position, number_of(j)?)?;
+                        let below = path_below(alloc, position, number_of(j)? as usize)?;
                         add_parts(alloc, agreed, sub, below.as_slice(), found)?;
                         if deep {
                             if let Some(ty) = fields.get(j) {

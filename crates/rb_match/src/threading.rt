@@ -116,7 +116,7 @@ fn sub_known<'a>(agreed: &'a Agreed, known: &[Known], position: &[u32]) -> Optio
 // The node to which a test leads, where what is known decides it: the constructor of its part is
 // known, and some pattern looks there. None where that is not so, or the test leads such values to
 // no node.
-fn decided(
+fn decided_node(
     agreed: &Agreed,
     ty: Ty,
     pats: &[Pat],
@@ -154,7 +154,7 @@ fn node_behind(
         GraphNode::Test(position, arms, other) => {
             let position = position.as_slice();
             let arms = arms.as_slice();
-            let next = decided(agreed, ty, pats, known, position, arms, *other)?;
+            let next = decided_node(agreed, ty, pats, known, position, arms, *other)?;
             Some(next as usize)
         }
     }
@@ -251,7 +251,7 @@ fn leaf_shown<'a>(agreed: &Agreed, pat: &Pat, position: &'a [u32]) -> Option<Kno
 }
 
 // The fact which leaf the part at a position has, where what is known shows it; else None.
-fn shown<'a>(agreed: &Agreed, known: &[Known], position: &'a [u32]) -> Option<Known<'a>>
+fn shown_fact<'a>(agreed: &Agreed, known: &[Known], position: &'a [u32]) -> Option<Known<'a>>
     ensures { IfSome result (λ fact. ShowTogether agreed.now known.now fact) }
 {
     let sub = sub_known(agreed, known, position)?;
@@ -352,7 +352,7 @@ fn pass_over<'a>(
         return Ok(());
     }
     if carries(exit, position) {
-        if let Some(fact) = shown(agreed, known.as_slice(), position) {
+        if let Some(fact) = shown_fact(agreed, known.as_slice(), position) {
             known.push(fact)?;
             return Ok(());
         }
@@ -416,7 +416,7 @@ fn ascend(edges: &[Edge]) -> bool
 
 // What an edge to a node carries: what is known where it is a test, and else nothing. At a clause
 // nothing is asked any more, and a long pattern has many edges to one.
-fn carried<'a>(
+fn carried_facts<'a>(
     alloc: Global,
     agreed: &Agreed,
     nodes: &[GraphNode],
@@ -453,7 +453,7 @@ fn thread_edge<'a>(
         &mut facts,
         edge.hole.leaf,
     )?;
-    let known = carried(alloc, agreed, nodes, leaf, facts);
+    let known = carried_facts(alloc, agreed, nodes, leaf, facts);
     Ok(Edge {
         hole: Hole {
             pc: edge.hole.pc,

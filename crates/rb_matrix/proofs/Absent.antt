@@ -1,6 +1,6 @@
 -- Patterns that are absent from the heads of a column.
-use Rattle.std.proofs.Common.{◌≡◌, ℕ, ◌^◌, ◌<◌, ◌≤◌, List, [], ◌∷◌, map, length, true, false, ◌&&◌, ◌==◌, Option, Some, None, refl, sym, ap, ◌∙◌, arith, subst, inl, inr}
-use Rattle.std.specs.Prelude.{slice_get, MatchOption}
+use Rattle.std.proofs.Common.{◌≡◌, ℕ, ◌^◌, ◌<◌, List, [], ◌∷◌, map, length, true, false, ◌&&◌, ◌==◌, Option, Some, None, refl, sym, ap, ◌∙◌, arith, subst, inl, inr}
+use Rattle.std.specs.Prelude.{slice_get}
 use Rattle.std.proofs.lemmas.Bool.{false≢true, eqb-true, eq-eqb, lt-ltb, ltb-true, cases_lt}
 use Rattle.std.proofs.lemmas.Option.{none-some, slice_get_past}
 use Rattle.rb_core.specs.declared.value.Value.{Value, Num, Con, out-Value}
@@ -29,14 +29,6 @@ use Rattle.rb_matrix.proofs.Vectors.{and-left, vector-length, con-of, con-of_int
 pub none-of_length : (hs : List Head) → length hs ≡ 0 → hs ≡ []
 none-of_length [] e = refl
 none-of_length (h ∷ hs) e = absurd (omega (arith, e))
-
--- what the least number that is missing answers
-abbrev pub NumberAnswer : List Head → ℕ → Option ℕ → Type 0
-NumberAnswer hs most r = MatchOption r ((m : ℕ) → m ≤ most → any_begins hs (V.Num m) ≡ true) (λ m. (m ≤ most) × (any_begins hs (V.Num m) ≡ false) × ((j : ℕ) → j < m → any_begins hs (V.Num j) ≡ true))
-
--- what the first constructor that is missing of so many answers
-abbrev pub ConAnswer : List Head → ℕ → Option ℕ → Type 0
-ConAnswer hs count r = MatchOption r ((k : ℕ) → k < count → any_begins hs (V.Con k []) ≡ true) (λ k. (k < count) × (any_begins hs (V.Con k []) ≡ false) × ((j : ℕ) → j < k → any_begins hs (V.Con j []) ≡ true))
 
 module _ (types : List DataDecl) where
   -- no head at all

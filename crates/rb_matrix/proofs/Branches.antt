@@ -15,7 +15,7 @@ use Rattle.rb_matrix.specs.Heads.{begins, any_begins, some_head}
 use Rattle.rb_matrix.specs.FirstHead.{first_head}
 use Rattle.rb_matrix.specs.Search.{AreTypesIn}
 use Rattle.rb_matrix.specs.inner.Problems.{with_column, NoneBy, IsPartAt, part_cost}
-use Rattle.rb_matrix.specs.Counts.{rows_heads}
+use Rattle.rb_matrix.specs.Counts.{rows_head_count}
 use Rattle.rb_matrix.specs.declared.groups.Groups.{Groups}
 use Rattle.rb_matrix.specs.inner.Groups.{AreGrouped}
 use Rattle.rb_matrix.specs.inner.Left.{parent, wholes, NoneByHead, AllNone, costs, LeadsTo, AreWithin, IsSplit}
@@ -29,7 +29,7 @@ head-stands rows h e = rw e (omega arith)
 
 module _ (types : List DataDecl) where
   -- heads with which every value begins
-  pub all-branches : (ty : Ty) (p : Problem) (hs : List Head) (x : Groups) → AreGrouped p.unwanted x → AreTypesIn types p.tys → 1 ≤ some_head (first_head p.unwanted) → length hs ≤ rows_heads p.unwanted
+  pub all-branches : (ty : Ty) (p : Problem) (hs : List Head) (x : Groups) → AreGrouped p.unwanted x → AreTypesIn types p.tys → 1 ≤ some_head (first_head p.unwanted) → length hs ≤ rows_head_count p.unwanted
       → ((v : Value) → is_of_type types v ty ≡ true → any_begins hs (out-Value v) ≡ true)
       → IsSplit types (Whole (with_column ty p)) (ByHead (record { ty = ty; behind = p; heads = hs; groups = x }) ∷ [])
   all-branches ty p hs x groups lives stands few every =

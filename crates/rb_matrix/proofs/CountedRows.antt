@@ -3,15 +3,15 @@ use Rattle.std.proofs.Common.{◌≡◌, ℕ, zero, suc, ◌+◌, ◌-◌, ◌<�
 use Rattle.rb_core.specs.declared.pattern.Pat.{Pat, Wild, out-Pat}
 use Rattle.rb_matrix.specs.declared.matrix.Head.{Head}
 use Rattle.rb_matrix.specs.inner.Open.{layer_open, is_open}
-use Rattle.rb_matrix.specs.Specialize.{wilds, special_image, special_row}
+use Rattle.rb_matrix.specs.Specialize.{wilds, special_of_layer, special_row}
 
 wild-open : layer_open (out-Pat (Wild 0)) ≡ true
 unfolding out-Pat denote.Hole.Carrier.out
 wild-open = refl
 
-wild-image : (h : Head) (n : ℕ) (rest : List Pat) → special_image h n rest (out-Pat (Wild 0)) ≡ Some (wilds n ++ rest)
+wild-special : (h : Head) (n : ℕ) (rest : List Pat) → special_of_layer h n rest (out-Pat (Wild 0)) ≡ Some (wilds n ++ rest)
 unfolding out-Pat denote.Hole.Carrier.out
-wild-image h n rest = refl
+wild-special h n rest = refl
 
 wilds-more : (n m : ℕ) (rest : List Pat) → wilds n ++ (wilds m ++ rest) ≡ wilds (n + m) ++ rest
 wilds-more zero m rest = ap (λ k. wilds k ++ rest) (omega arith)
@@ -27,4 +27,4 @@ pub special_counted : (h : Head) (fields n k : ℕ) (rest : List Pat) → 0 < n 
 special_counted h fields zero k rest some e = absurd (omega (arith, some))
 special_counted h fields (suc n) k rest some e =
     let all : fields + n ≡ k = omega (arith, e) in
-    wild-image h fields (wilds n ++ rest) ∙ ap (λ l. Some l) (wilds-more fields n rest ∙ ap (λ m. wilds m ++ rest) all)
+    wild-special h fields (wilds n ++ rest) ∙ ap (λ l. Some l) (wilds-more fields n rest ∙ ap (λ m. wilds m ++ rest) all)

@@ -1,5 +1,5 @@
 -- Patterns that match all that others do.
-use Rattle.std.proofs.Common.{◌≡◌, ℕ, suc, ◌+◌, ◌≤◌, List, [], ◌∷◌, map, length, Bool, true, false, ◌&&◌, ◌==◌, Some, refl, sym, ap, ◌∙◌, subst, arith, inl, inr}
+use Rattle.std.proofs.Common.{◌≡◌, ℕ, suc, ◌+◌, ◌≤◌, List, [], ◌∷◌, ◌++◌, map, length, Bool, true, false, ◌&&◌, ◌==◌, Some, refl, sym, ap, ◌∙◌, subst, arith, inl, inr}
 use Rattle.std.specs.Prelude.{slice_get}
 use Rattle.std.specs.Bool.{OnTrue}
 use Rattle.std.proofs.lemmas.Bool.{cases_lt, false≢true}
@@ -13,6 +13,7 @@ use Rattle.rb_core.specs.Matching.{all_pass, is_con, matches_of}
 use Rattle.rb_matrix.specs.Rows.{row_matches}
 use Rattle.rb_matrix.specs.inner.Against.{Covers, CoverEach, AreCovered}
 use Rattle.rb_matrix.proofs.Differing.{at-con}
+use Rattle.rb_matrix.proofs.Keys.{get-push}
 use Rattle.rb_matrix.proofs.Vectors.{and-left, and-right, con-matches}
 
 -- Rows -------------------------------------------------------------------------------------------
@@ -25,6 +26,15 @@ covered-more i ps qs p q at bt c h = λ k x y lt here there. elim (cases_lt k i)
       let one : p ≡ x = same_Some p x (sym at ∙ ap (slice_get ps) (sym same) ∙ here) in
       let other : q ≡ y = same_Some q y (sym bt ∙ ap (slice_get qs) (sym same) ∙ there) in
       λ v m. ap (λ (r : Pat). matches_of r v) (sym one) ∙ c v (ap (λ (r : Pat). matches_of r v) other ∙ m)
+]
+
+-- one more behind the others
+pub covered-push : (i : ℕ) (ps qs : List Pat) (p q : Pat) → length qs ≡ i → slice_get ps i ≡ Some p → Covers p q → AreCovered i ps qs → AreCovered (i + 1) ps (qs ++ q ∷ [])
+covered-push i ps qs p q len at c h = λ k x y lt here there. elim (get-push qs q k y there) [
+  | inl l ↦ h k x y (let w = slice_get_within qs k y l in omega (arith, w, len)) here l
+  | inr s ↦
+      let one : p ≡ x = same_Some p x (sym at ∙ ap (slice_get ps) (sym (s.0 ∙ len)) ∙ here) in
+      λ v m. ap (λ (r : Pat). matches_of r v) (sym one) ∙ c v (ap (λ (r : Pat). matches_of r v) s.1 ∙ m)
 ]
 
 both : (a b : Bool) → a ≡ true → b ≡ true → (a && b) ≡ true

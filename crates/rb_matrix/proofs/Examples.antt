@@ -4,15 +4,15 @@ use Rattle.rb_core.specs.declared.pattern.Pat.{Wild, out-Pat}
 use Rattle.rb_core.specs.declared.pattern.Pat as Pats
 use Rattle.rb_core.specs.declared.pattern.Pat.TheVariants as PV
 use Rattle.rb_matrix.specs.declared.matrix.Head.TheVariants as H
-use Rattle.rb_matrix.specs.Specialize.{special_image, special_row, default_row, special}
+use Rattle.rb_matrix.specs.Specialize.{special_of_layer, special_row, default_row, special}
 
 -- S keeps the subpatterns of the head's own rows, opens wildcards, and drops the other rows
 node-row : special_row (H.Con (record { ty = 1; con = 1 })) 3 (Pats.Con 0 (record { ty = 1; con = 1 }) (Wild 0 ∷ Wild 5 ∷ Wild 6 ∷ []) ∷ Wild 7 ∷ [])
     ≡ Some (Wild 0 ∷ Wild 5 ∷ Wild 6 ∷ Wild 7 ∷ [])
-node-row = ap (special_image (H.Con (record { ty = 1; con = 1 })) 3 (Wild 7 ∷ [])) (PV.outs-Con 0 (record { ty = 1; con = 1 }) (Wild 0 ∷ Wild 5 ∷ Wild 6 ∷ []))
+node-row = ap (special_of_layer (H.Con (record { ty = 1; con = 1 })) 3 (Wild 7 ∷ [])) (PV.outs-Con 0 (record { ty = 1; con = 1 }) (Wild 0 ∷ Wild 5 ∷ Wild 6 ∷ []))
 
 leaf-row : special_row (H.Con (record { ty = 1; con = 1 })) 3 (Pats.Con 0 (record { ty = 1; con = 0 }) [] ∷ Wild 7 ∷ []) ≡ None
-leaf-row = ap (special_image (H.Con (record { ty = 1; con = 1 })) 3 (Wild 7 ∷ [])) (PV.outs-Con 0 (record { ty = 1; con = 0 }) [])
+leaf-row = ap (special_of_layer (H.Con (record { ty = 1; con = 1 })) 3 (Wild 7 ∷ [])) (PV.outs-Con 0 (record { ty = 1; con = 0 }) [])
 
 wild-row : special_row (H.Con (record { ty = 1; con = 1 })) 3 (Wild 4 ∷ Wild 7 ∷ []) ≡ Some (Wild 0 ∷ Wild 0 ∷ Wild 0 ∷ Wild 7 ∷ [])
 unfolding out-Pat denote.Hole.Carrier.out

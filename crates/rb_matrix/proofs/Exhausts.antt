@@ -1,6 +1,7 @@
 -- What a search in one column says of the patterns.
-use Rattle.std.proofs.Common.{◌≡◌, ℕ, zero, suc, List, [], ◌∷◌, ◌++◌, length, take, Bool, true, false, ◌&&◌, ◌||◌, not, Option, Some, None, refl, sym, ap, ◌∙◌, arith, subst}
+use Rattle.std.proofs.Common.{◌≡◌, ◌<◌, ℕ, zero, suc, List, [], ◌∷◌, ◌++◌, length, take, Bool, true, false, ◌&&◌, ◌||◌, not, Option, Some, None, refl, sym, ap, ◌∙◌, arith, subst}
 use Rattle.std.specs.Prelude.{slice_get, is_some, IsSome, if◌then◌else◌}
+use Rattle.std.specs.Bool.{OnTrue}
 use Rattle.std.proofs.Math.Bool.{and-true}
 use Rattle.std.proofs.lemmas.Bool.{false≢true}
 use Rattle.std.proofs.lemmas.List.{length-append}
@@ -13,8 +14,8 @@ use Rattle.rb_core.specs.Matching.{matches_of, next_clause, chosen_clause, IsExh
 use Rattle.rb_core.specs.Values.{is_of_type}
 use Rattle.rb_matrix.specs.Rows.{row_matches, any_row, all_rows}
 use Rattle.rb_matrix.specs.Search.{is_plain, useful_by, RowIsFound, AreUseless, IsSearchAnswer}
-use Rattle.rb_matrix.specs.inner.Against.{IsCovered, StandFor}
-use Rattle.rb_matrix.specs.inner.OneColumn.{one_each, any_matches, IsReachAnswer, IsOneAnswer}
+use Rattle.rb_matrix.specs.inner.Against.{Covers, IsCovered, StandFor}
+use Rattle.rb_matrix.specs.inner.OneColumn.{one_each, any_matches, IsReachAnswer, IsOneAnswer, IsUseful, IsUseless, IsUseAnswer, IsEnd}
 use Rattle.rb_matrix.specs.Exhaust.{IsMissing, IsReached, both_match, IsCommon}
 use Rattle.rb_matrix.proofs.Laws.{or-false-left, or-false-right}
 use Rattle.rb_matrix.proofs.Vectors.{and-left, and-right, plain-length}
@@ -149,44 +150,99 @@ module _ (types : List DataDecl) (ty : Ty) where
     none = λ w of m. chosen-none ps w (sym (one_each-any ps w) ∙ not-true _ (each [] (one_each ps) q r w of m));
   }
 
-  -- One wanted pattern, and those before it -------------------------------------------------------
+  -- One wanted pattern, and others -------------------------------------------------------
 
-  pub covered-unreached : (ps : List Pat) (i : ℕ) (p : Pat) → slice_get ps i ≡ Some p → IsCovered p (take i ps) → IsUnreached types ty ps i
-  covered-unreached ps i p at h v of e =
-      let hit = chosen-first ps i p v at e in
-      let any = h v (and-left (matches_of p v) (not (any_matches (take i ps) v)) hit) in
-      absurd (false≢true (sym (not-true _ (and-right (matches_of p v) (not (any_matches (take i ps) v)) hit)) ∙ any))
-
-  module _ (ps : List Pat) (i : ℕ) (p : Pat) (at : slice_get ps i ≡ Some p) (U : List (List Pat)) (stand : StandFor p (take i ps) U) where
+  module _ (ps : List Pat) (q : Pat) (U : List (List Pat)) (stand : StandFor q ps U) where
     abbrev W : List (List Pat)
-    W = (p ∷ []) ∷ []
+    W = (q ∷ []) ∷ []
 
     same-none : (a b c : Bool) → (a ≡ true → b ≡ c) → (a && not b) ≡ (a && not c)
     same-none true b c h = ap not (h refl)
     same-none false b c h = refl
 
-    as-first : (v : Value) → (all_rows W (v ∷ []) && not (any_row U (v ∷ []))) ≡ (matches_of p v && not (any_matches (take i ps) v))
-    as-first v = ap (λ b. (b && true) && not (any_row U (v ∷ []))) (and-true (matches_of p v)) ∙ ap (λ b. b && not (any_row U (v ∷ []))) (and-true (matches_of p v))
-        ∙ same-none (matches_of p v) (any_row U (v ∷ [])) (any_matches (take i ps) v) (stand v)
+    as-first : (v : Value) → (all_rows W (v ∷ []) && not (any_row U (v ∷ []))) ≡ (matches_of q v && not (any_matches ps v))
+    as-first v = ap (λ b. (b && true) && not (any_row U (v ∷ []))) (and-true (matches_of q v)) ∙ ap (λ b. b && not (any_row U (v ∷ []))) (and-true (matches_of q v))
+        ∙ same-none (matches_of q v) (any_row U (v ∷ [])) (any_matches ps v) (stand v)
 
-    not-both : (a b : Bool) → ((a && true) && b) ≡ false → a ≡ true → b ≡ true → ⊥
-    not-both true true h e f = false≢true (sym h)
-    not-both true false h e f = false≢true f
-    not-both false b h e f = false≢true e
+    must-any : (a b c d : Bool) → ((a && true) && d) ≡ false → d ≡ (b && not c) → a ≡ true → b ≡ true → c ≡ true
+    must-any a b true d h e f g = refl
+    must-any true true false d h e f g = absurd (false≢true (sym h ∙ e))
+    must-any false b false d h e f g = absurd (false≢true f)
+    must-any true false false d h e f g = absurd (false≢true g)
 
-    pub never-first : AreUseless types (ty ∷ []) W U → IsUnreached types ty ps i
-    never-first h v of e = not-both (is_of_type types v ty) (all_rows W (v ∷ []) && not (any_row U (v ∷ []))) (h (v ∷ [])) of (as-first v ∙ chosen-first ps i p v at e)
+    use-useless : AreUseless types (ty ∷ []) W U → IsUseless types ty ps q
+    use-useless h v of m = must-any (is_of_type types v ty) (matches_of q v) (any_matches ps v) (all_rows W (v ∷ []) && not (any_row U (v ∷ []))) (h (v ∷ [])) (as-first v) of m
 
-    pub is-reached : (q : Pat) → RowIsFound types (ty ∷ []) W U (q ∷ []) → IsReached types ty ps i
-    is-reached q r = let v = value W U q r in let h = sym (as-first v.0) ∙ v.3 in record {
+    use-useful : (r : Pat) → RowIsFound types (ty ∷ []) W U (r ∷ []) → IsUseful types ty ps q
+    use-useful r f = let v = value W U r f in let h = sym (as-first v.0) ∙ v.3 in record {
       value = v.0;
       typed = v.1;
-      chosen = first-chosen ps i p v.0 at (and-left (matches_of p v.0) (not (any_matches (take i ps) v.0)) h) (not-true _ (and-right (matches_of p v.0) (not (any_matches (take i ps) v.0)) h));
+      matched = and-left (matches_of q v.0) (not (any_matches ps v.0)) h;
+      none = not-true _ (and-right (matches_of q v.0) (not (any_matches ps v.0)) h);
     }
 
-    pub reach-answer : (found : Option Pat) → IsOneAnswer types ty W U found → IsReachAnswer types ty ps i (is_some found)
-    reach-answer None h = never-first h
-    reach-answer (Some q) r = is-reached q r
+    pub use-answer : (found : Option Pat) → IsOneAnswer types ty W U found → IsUseAnswer types ty ps q (is_some found)
+    use-answer None h = use-useless h
+    use-answer (Some r) f = use-useful r f
+
+  -- of a pattern that another covers
+  pub useful-covered : (ps : List Pat) (p q : Pat) → Covers p q → (b : Bool) → IsUseAnswer types ty ps q b → OnTrue b (IsUseful types ty ps p)
+  useful-covered ps p q h true u = record { value = u.value; typed = u.typed; matched = h u.value u.matched; none = u.none }
+  useful-covered ps p q h false u = tt
+
+  -- of one pattern behind those before it
+  module _ (ps : List Pat) (i : ℕ) (p : Pat) (at : slice_get ps i ≡ Some p) where
+    pub useful-reached : IsUseful types ty (take i ps) p → IsReached types ty ps i
+    useful-reached u = record {
+      value = u.value;
+      typed = u.typed;
+      chosen = first-chosen ps i p u.value at u.matched u.none;
+    }
+
+    useless-unreached : IsUseless types ty (take i ps) p → IsUnreached types ty ps i
+    useless-unreached h v of e =
+        let hit = chosen-first ps i p v at e in
+        let any = h v of (and-left (matches_of p v) (not (any_matches (take i ps) v)) hit) in
+        absurd (false≢true (sym (not-true _ (and-right (matches_of p v) (not (any_matches (take i ps) v)) hit)) ∙ any))
+
+    pub covered-unreached : IsCovered p (take i ps) → IsUnreached types ty ps i
+    covered-unreached h = useless-unreached (λ v of m. h v m)
+
+    pub reach-answer : (b : Bool) → IsUseAnswer types ty (take i ps) p b → IsReachAnswer types ty ps i b
+    reach-answer true u = useful-reached u
+    reach-answer false h = useless-unreached h
+
+  -- The end of what is reached --------------------------------------------------------------------
+
+  chosen-below : (n : ℕ) (ps : List Pat) (v : Value) (i : ℕ) → any_matches (take n ps) v ≡ true → chosen_clause ps v ≡ Some i → i < n
+  chosen-below zero ps v i any e = absurd (false≢true any)
+  chosen-below (suc n) [] v i any e = absurd (false≢true any)
+  chosen-below (suc n) (p ∷ ps) v i any e = by (matches_of p v) refl any (λ j h f. chosen-below n ps v j h f)
+    where
+      by : (b : Bool) → matches_of p v ≡ b → (b || any_matches (take n ps) v) ≡ true
+          → ((j : ℕ) → any_matches (take n ps) v ≡ true → chosen_clause ps v ≡ Some j → j < n) → i < suc n
+      by true f h rest = let same : Some 0 ≡ Some i = sym (chosen-hit p ps v f) ∙ e in let first : 0 ≡ i = cc in omega (arith, first)
+      by false f h rest =
+          let next = next-is (chosen_clause ps v) i (sym (chosen-miss p ps v f) ∙ e) in
+          let low = rest next.0 h next.1 in let is = next.2 in omega (arith, low, is)
+
+  chosen-within : (ps : List Pat) (v : Value) (i : ℕ) → chosen_clause ps v ≡ Some i → i < length ps
+  chosen-within [] v i e = absurd cc
+  chosen-within (p ∷ ps) v i e = by (matches_of p v) refl (λ j f. chosen-within ps v j f)
+    where
+      by : (b : Bool) → matches_of p v ≡ b → ((j : ℕ) → chosen_clause ps v ≡ Some j → j < length ps) → i < suc (length ps)
+      by true f rest = let same : Some 0 ≡ Some i = sym (chosen-hit p ps v f) ∙ e in let first : 0 ≡ i = cc in omega (arith, first)
+      by false f rest =
+          let next = next-is (chosen_clause ps v) i (sym (chosen-miss p ps v f) ∙ e) in
+          let low = rest next.0 next.1 in let is = next.2 in omega (arith, low, is)
+
+  pub end-all : (ps : List Pat) → IsEnd types ty ps (length ps)
+  end-all ps i le v of e = let lt = chosen-within ps v i e in omega (arith, lt, le)
+
+  pub end-useless : (ps : List Pat) (n : ℕ) → AreUseless types (ty ∷ []) [] (one_each (take n ps)) → IsEnd types ty ps n
+  end-useless ps n h i le v of e =
+      let any = sym (one_each-any (take n ps) v) ∙ must (is_of_type types v ty) (any_row (one_each (take n ps)) (v ∷ [])) (h (v ∷ [])) of in
+      let lt = chosen-below n ps v i any e in omega (arith, lt, le)
 
   -- Two wanted patterns ----------------------------------------------------------------------------
 

@@ -11,8 +11,8 @@ use Rattle.rb_matrix.specs.declared.matrix.Head.{Head}
 use Rattle.rb_matrix.specs.declared.matrix.Head.TheVariants as H
 use Rattle.rb_matrix.specs.declared.groups.Groups.{Groups}
 use Rattle.rb_matrix.specs.Heads.{layer_head}
-use Rattle.rb_matrix.specs.Specialize.{special_image, special_row, special, keep}
-use Rattle.rb_matrix.specs.inner.Groups.{beside, merged, numbers_with, near, HasNoNumber, IsGrouped, IsNumberAdded, key_of_head, row_key, rows_at, AreGrouped}
+use Rattle.rb_matrix.specs.Specialize.{special_of_layer, special_row, special, keep}
+use Rattle.rb_matrix.specs.inner.Groups.{insertion, merged, numbers_with, near, HasNoNumber, IsGrouped, IsNumberAdded, key_of_head, row_key, rows_at, AreGrouped}
 
 -- Merged numbers ----------------------------------------------------------------------------------
 
@@ -32,24 +32,24 @@ below-push i (n ∷ ns) h = (let a = h.0 in omega (arith, a), below-push i ns h.
 -- a number above all comes last, in either list
 module _ (i : ℕ) where
   module _ (n : ℕ) (rest : List ℕ → List ℕ) (less : n < i) (on : (ms : List ℕ) → rest (ms ++ i ∷ []) ≡ rest ms ++ i ∷ []) where
-    beside-push : (ms : List ℕ) → beside n rest (ms ++ i ∷ []) ≡ beside n rest ms ++ i ∷ []
-    beside-push [] = ap (λ b. if b then n ∷ rest (i ∷ []) else i ∷ beside n rest []) (lt-ltb n i less) ∙ ap (λ l. n ∷ l) (on [])
-    beside-push (m ∷ ms) = by (nat_lt n m) (beside-push ms)
+    insertion-push : (ms : List ℕ) → insertion n rest (ms ++ i ∷ []) ≡ insertion n rest ms ++ i ∷ []
+    insertion-push [] = ap (λ b. if b then n ∷ rest (i ∷ []) else i ∷ insertion n rest []) (lt-ltb n i less) ∙ ap (λ l. n ∷ l) (on [])
+    insertion-push (m ∷ ms) = by (nat_lt n m) (insertion-push ms)
       where
-        by : (b : Bool) → beside n rest (ms ++ i ∷ []) ≡ beside n rest ms ++ i ∷ [] → (if b then n ∷ rest (m ∷ ms ++ i ∷ []) else m ∷ beside n rest (ms ++ i ∷ [])) ≡ (if b then n ∷ rest (m ∷ ms) else m ∷ beside n rest ms) ++ i ∷ []
+        by : (b : Bool) → insertion n rest (ms ++ i ∷ []) ≡ insertion n rest ms ++ i ∷ [] → (if b then n ∷ rest (m ∷ ms ++ i ∷ []) else m ∷ insertion n rest (ms ++ i ∷ [])) ≡ (if b then n ∷ rest (m ∷ ms) else m ∷ insertion n rest ms) ++ i ∷ []
         by true e = ap (λ l. n ∷ l) (on (m ∷ ms))
         by false e = ap (λ l. m ∷ l) e
 
   pub merged-right : (ns ms : List ℕ) → AreBelow i ns → merged ns (ms ++ i ∷ []) ≡ merged ns ms ++ i ∷ []
   merged-right [] ms below = refl
-  merged-right (n ∷ ns) ms below = beside-push n (merged ns) below.0 (λ l. merged-right ns l below.1) ms
+  merged-right (n ∷ ns) ms below = insertion-push n (merged ns) below.0 (λ l. merged-right ns l below.1) ms
 
   module _ (n : ℕ) (more rest : List ℕ → List ℕ) (on : (ms : List ℕ) → AreBelow i ms → more ms ≡ rest ms ++ i ∷ []) where
-    beside-more : (ms : List ℕ) → AreBelow i ms → beside n more ms ≡ beside n rest ms ++ i ∷ []
-    beside-more [] below = ap (λ l. n ∷ l) (on [] tt)
-    beside-more (m ∷ ms) below = by (nat_lt n m) (beside-more ms below.1)
+    insertion-more : (ms : List ℕ) → AreBelow i ms → insertion n more ms ≡ insertion n rest ms ++ i ∷ []
+    insertion-more [] below = ap (λ l. n ∷ l) (on [] tt)
+    insertion-more (m ∷ ms) below = by (nat_lt n m) (insertion-more ms below.1)
       where
-        by : (b : Bool) → beside n more ms ≡ beside n rest ms ++ i ∷ [] → (if b then n ∷ more (m ∷ ms) else m ∷ beside n more ms) ≡ (if b then n ∷ rest (m ∷ ms) else m ∷ beside n rest ms) ++ i ∷ []
+        by : (b : Bool) → insertion n more ms ≡ insertion n rest ms ++ i ∷ [] → (if b then n ∷ more (m ∷ ms) else m ∷ insertion n more ms) ≡ (if b then n ∷ rest (m ∷ ms) else m ∷ insertion n rest ms) ++ i ∷ []
         by true e = ap (λ l. n ∷ l) (on (m ∷ ms) below)
         by false e = ap (λ l. m ∷ l) e
 
@@ -59,7 +59,7 @@ module _ (i : ℕ) where
 
   pub merged-left : (ns ms : List ℕ) → AreBelow i ms → merged (ns ++ i ∷ []) ms ≡ merged ns ms ++ i ∷ []
   merged-left [] ms below = merged-last ms below
-  merged-left (n ∷ ns) ms below = beside-more n (merged (ns ++ i ∷ [])) (merged ns) (λ l b. merged-left ns l b) ms below
+  merged-left (n ∷ ns) ms below = insertion-more n (merged (ns ++ i ∷ [])) (merged ns) (λ l b. merged-left ns l b) ms below
 
 -- Specialised rows --------------------------------------------------------------------------------
 
@@ -72,7 +72,7 @@ special-append h n [] ss = refl
 special-append h n (r ∷ rs) ss = ap (keep (special_row h n r)) (special-append h n rs ss) ∙ keep-append (special_row h n r) (special h n rs) (special h n ss)
 
 -- a row with another key has no specialised row
-layer-other : (h : Head) (n : ℕ) (rest : List Pat) (l : Pat-F Pat) (q : ℕ) → option_map key_of_head (layer_head l) ≡ Some q → (q ≡ key_of_head h → ⊥) → special_image h n rest l ≡ None
+layer-other : (h : Head) (n : ℕ) (rest : List Pat) (l : Pat-F Pat) (q : ℕ) → option_map key_of_head (layer_head l) ≡ Some q → (q ≡ key_of_head h → ⊥) → special_of_layer h n rest l ≡ None
 layer-other h n rest (P.Wild at) q e ne = absurd (none-some q e)
 layer-other h n rest (P.Var at x) q e ne = absurd (none-some q e)
 layer-other (H.Num m) n rest (P.Num at k) q e ne = by (k == m) refl

@@ -1,10 +1,9 @@
 -- Values of types, where each type has one.
-use Rattle.std.proofs.Common.{◌≡◌, ℕ, zero, suc, ◌^◌, ◌≤◌, List, [], ◌∷◌, length, Bool, true, ◌&&◌, Some, refl, sym, ap, ◌∙◌, arith}
+use Rattle.std.proofs.Common.{◌≡◌, ℕ, ◌^◌, ◌≤◌, List, [], ◌∷◌, length, true, ◌&&◌, Some, refl, ap, ◌∙◌}
 use Rattle.std.specs.Prelude.{slice_get, nat_le}
 use Rattle.std.specs.List.{list_all}
 use Rattle.std.proofs.lemmas.Bool.{lt-ltb, ltb-true, leb-true}
 use Rattle.std.proofs.lemmas.Nat.{pow_pos}
-use Rattle.std.proofs.lemmas.Option.{slice_get_within, get_or_from_slice_get}
 use Rattle.rb_core.specs.declared.value.Value.{Value, Num, out-Value}
 use Rattle.rb_core.specs.declared.value.Value.TheOpen as V
 use Rattle.rb_core.specs.declared.types.Con as Cons
@@ -13,6 +12,7 @@ use Rattle.rb_core.specs.declared.types.Ty.{Ty}
 use Rattle.rb_core.specs.declared.types.Ty.TheVariants.{Int, Named}
 use Rattle.rb_core.specs.Values.{is_of_type}
 use Rattle.rb_core.specs.WellNumbered.{is_type, is_upper, is_between, con_is_numbered, type_is_numbered}
+use Rattle.rb_core.proofs.MatchingLemmas.{all_at}
 use Rattle.rb_matrix.specs.Rows.{vector_of}
 use Rattle.rb_matrix.specs.Search.{IsTypeIn, AreTypesIn, AreInhabited}
 use Rattle.rb_matrix.proofs.Vectors.{and-left, and-right, num-of_int}
@@ -20,12 +20,6 @@ use Rattle.rb_matrix.proofs.Vectors.{and-left, and-right, num-of_int}
 pub out-num : (n : ℕ) → out-Value (Num n) ≡ V.Num n
 unfolding out-Value denote.Hole.Carrier.out
 out-num n = refl
-
--- what holds of all items holds of each
-all-at : {A : Type 0} (p : A → Bool) (xs : List A) (k : ℕ) (x : A) → list_all p xs ≡ true → slice_get xs k ≡ Some x → p x ≡ true
-all-at p [] k x all e = absurd (omega (arith, slice_get_within [] k x e))
-all-at p (y ∷ ys) zero x all e = let same : y ≡ x = get_or_from_slice_get (y ∷ ys) 0 x y e in ap p (sym same) ∙ and-left (p y) (list_all p ys) all
-all-at p (y ∷ ys) (suc k) x all e = all-at p ys k x (and-right (p y) (list_all p ys) all) e
 
 module _ (types : List DataDecl) where
   types-in : (ts : List Ty) → list_all (is_type types) ts ≡ true → AreTypesIn types ts
@@ -37,7 +31,7 @@ module _ (types : List DataDecl) where
 
   module _ (i : AreInhabited types) where
     declared : (t : ℕ) (d : DataDecl) → slice_get types t ≡ Some d → type_is_numbered types d ≡ true
-    declared t d e = all-at (type_is_numbered types) types t d i.numbered e
+    declared t d e = all_at (type_is_numbered types) types t d i.numbered e
 
     pub con-count : (t : ℕ) (d : DataDecl) → slice_get types t ≡ Some d → length d.cons ≤ 256
     con-count t d e =
@@ -47,7 +41,7 @@ module _ (types : List DataDecl) where
     pub con-types : (t k : ℕ) (d : DataDecl) (c : Cons.Con) → slice_get types t ≡ Some d → slice_get d.cons k ≡ Some c → AreTypesIn types c.fields
     con-types t k d c e f =
         let counts = and-right (is_upper d.name) (is_between 1 256 (length d.cons) && list_all (con_is_numbered types) d.cons) (declared t d e) in
-        let con = all-at (con_is_numbered types) d.cons k c (and-right (is_between 1 256 (length d.cons)) (list_all (con_is_numbered types) d.cons) counts) f in
+        let con = all_at (con_is_numbered types) d.cons k c (and-right (is_between 1 256 (length d.cons)) (list_all (con_is_numbered types) d.cons) counts) f in
         types-in c.fields (and-right (nat_le (length c.fields) 32) (list_all (is_type types) c.fields) (and-right (is_upper c.name) (nat_le (length c.fields) 32 && list_all (is_type types) c.fields) con))
 
     -- a value of a type of the program

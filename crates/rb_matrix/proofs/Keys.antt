@@ -64,7 +64,7 @@ keys-apart p q path a b h k ne = λ v m w. ne (sym (h v m) ∙ k v w)
 
 -- Indexes ----------------------------------------------------------------------------------------
 
-get-push : (ps : List Pat) (p : Pat) (j : ℕ) (q : Pat) → slice_get (ps ++ p ∷ []) j ≡ Some q → (slice_get ps j ≡ Some q) ⊎ ((j ≡ length ps) × (p ≡ q))
+pub get-push : (ps : List Pat) (p : Pat) (j : ℕ) (q : Pat) → slice_get (ps ++ p ∷ []) j ≡ Some q → (slice_get ps j ≡ Some q) ⊎ ((j ≡ length ps) × (p ≡ q))
 get-push [] p zero q e = inr (refl, same_Some p q e)
 get-push [] p (suc j) q e = absurd cc
 get-push (r ∷ ps) p zero q e = inl e

@@ -1,6 +1,7 @@
 -- What falls from a problem to its parts.
 use Rattle.std.proofs.Common.{◌≡◌, ℕ, zero, suc, ◌+◌, ◌-◌, ◌*◌, ◌^◌, ◌<◌, ◌≤◌, List, [], ◌∷◌, ◌++◌, map, length, sum, Bool, true, false, ◌&&◌, ◌==◌, Option, Some, None, refl, sym, ap, ◌∙◌, arith}
 use Rattle.std.specs.Prelude.{slice_get, if◌then◌else◌}
+use Rattle.std.specs.Option.{option_or}
 use Rattle.std.proofs.lemmas.Option.{slice_get_within, get_or_from_slice_get}
 use Rattle.std.proofs.Math.Nat.{mul-le-mul_right, pow-le-pow_left, pow-le-pow_right, one-le-pow}
 use Rattle.std.proofs.lemmas.Grind.{common_steps, pow_more}
@@ -16,22 +17,22 @@ use Rattle.rb_matrix.specs.declared.matrix.Head.{Head}
 use Rattle.rb_matrix.specs.declared.matrix.Head.TheVariants as H
 use Rattle.rb_matrix.specs.declared.problem.Problem.{Problem}
 use Rattle.rb_matrix.specs.Heads.{layer_head, row_head, some_head}
-use Rattle.rb_matrix.specs.FirstHead.{first_head, or_else}
-use Rattle.rb_matrix.specs.Specialize.{wilds, keep, number_image, con_image, special_image, special_row, special, default_image, default_row, defaults}
-use Rattle.rb_matrix.specs.Counts.{heads_step, head_count, row_heads, rows_heads}
+use Rattle.rb_matrix.specs.FirstHead.{first_head}
+use Rattle.rb_matrix.specs.Specialize.{wilds, keep, special_of_number, special_of_con, special_of_layer, special_row, special, default_of_layer, default_row, defaults}
+use Rattle.rb_matrix.specs.Counts.{heads_step, head_count, row_head_count, rows_head_count}
 use Rattle.rb_matrix.specs.inner.Problems.{con_fields, decl_fields, fields_bound, heads_of, weight, cost, part_cost}
 use Rattle.rb_matrix.proofs.Absent.{con-at}
 
 sum-cons : {A : Type 0} (f : A → ℕ) (x : A) (xs : List A) → sum (map f (x ∷ xs)) ≡ f x + sum (map f xs)
 sum-cons f x xs = grind (arith, common_steps)
 
-row-cons : (p : Pat) (ps : List Pat) → row_heads (p ∷ ps) ≡ head_count p + row_heads ps
+row-cons : (p : Pat) (ps : List Pat) → row_head_count (p ∷ ps) ≡ head_count p + row_head_count ps
 row-cons p ps = grind (arith, common_steps)
 
-pub rows-cons : (r : List Pat) (rs : List (List Pat)) → rows_heads (r ∷ rs) ≡ row_heads r + rows_heads rs
+pub rows-cons : (r : List Pat) (rs : List (List Pat)) → rows_head_count (r ∷ rs) ≡ row_head_count r + rows_head_count rs
 rows-cons r rs = grind (arith, common_steps)
 
-row-append : (ps qs : List Pat) → row_heads (ps ++ qs) ≡ row_heads ps + row_heads qs
+row-append : (ps qs : List Pat) → row_head_count (ps ++ qs) ≡ row_head_count ps + row_head_count qs
 row-append [] qs = omega arith
 row-append (p ∷ ps) qs = let h = row-append ps qs in omega (arith, h, row-cons p ps, row-cons p (ps ++ qs))
 
@@ -42,71 +43,71 @@ wild-heads : head_count (Wild 0) ≡ 0
 unfolding out-Pat denote.Hole.Carrier.out
 wild-heads = opened_heads (Wild 0)
 
-wilds-heads : (n : ℕ) → row_heads (wilds n) ≡ 0
+wilds-heads : (n : ℕ) → row_head_count (wilds n) ≡ 0
 wilds-heads zero = refl
 wilds-heads (suc n) = let h = wilds-heads n in let w = wild-heads in omega (arith, h, w, row-cons (Wild 0) (wilds n))
 
 -- heads of what becomes of rows ------------------------------------------------------------------
 
-abbrev image_heads : Option (List Pat) → ℕ
-image_heads None = 0
-image_heads (Some r) = row_heads r
+abbrev row_or_none_heads : Option (List Pat) → ℕ
+row_or_none_heads None = 0
+row_or_none_heads (Some r) = row_head_count r
 
-if-heads : (b : Bool) (r : List Pat) → image_heads (if b then Some r else None) ≤ row_heads r
+if-heads : (b : Bool) (r : List Pat) → row_or_none_heads (if b then Some r else None) ≤ row_head_count r
 if-heads true r = omega arith
 if-heads false r = omega arith
 
-number-heads : (h : Head) (k : ℕ) (rest : List Pat) → image_heads (number_image h k rest) ≤ row_heads rest
+number-heads : (h : Head) (k : ℕ) (rest : List Pat) → row_or_none_heads (special_of_number h k rest) ≤ row_head_count rest
 number-heads (H.Num m) k rest = if-heads (k == m) rest
 number-heads (H.Con c) k rest = omega arith
 
-con-heads : (h : Head) (n : ℕ) (c : ConRef) (ps rest : List Pat) → image_heads (con_image h n c ps rest) ≤ row_heads ps + row_heads rest
+con-heads : (h : Head) (n : ℕ) (c : ConRef) (ps rest : List Pat) → row_or_none_heads (special_of_con h n c ps rest) ≤ row_head_count ps + row_head_count rest
 con-heads (H.Num m) n c ps rest = omega arith
 con-heads (H.Con d) n c ps rest = let a = if-heads ((c.con == d.con) && (length ps == n)) (ps ++ rest) in let b = row-append ps rest in omega (arith, a, b)
 
-special_image-heads : (h : Head) (n : ℕ) (rest : List Pat) (l : Pat-F Pat) → image_heads (special_image h n rest l) + some_head (layer_head l) ≤ heads_step (map-Pat Pat ℕ head_count l) + row_heads rest
-special_image-heads h n rest (P.Wild at) = let a = row-append (wilds n) rest in let b = wilds-heads n in omega (arith, a, b)
-special_image-heads h n rest (P.Var at x) = let a = row-append (wilds n) rest in let b = wilds-heads n in omega (arith, a, b)
-special_image-heads h n rest (P.Num at k) = let a = number-heads h k rest in omega (arith, a)
-special_image-heads h n rest (P.Con at c ps) = let a = con-heads h n c ps rest in omega (arith, a)
+special_of_layer-heads : (h : Head) (n : ℕ) (rest : List Pat) (l : Pat-F Pat) → row_or_none_heads (special_of_layer h n rest l) + some_head (layer_head l) ≤ heads_step (map-Pat Pat ℕ head_count l) + row_head_count rest
+special_of_layer-heads h n rest (P.Wild at) = let a = row-append (wilds n) rest in let b = wilds-heads n in omega (arith, a, b)
+special_of_layer-heads h n rest (P.Var at x) = let a = row-append (wilds n) rest in let b = wilds-heads n in omega (arith, a, b)
+special_of_layer-heads h n rest (P.Num at k) = let a = number-heads h k rest in omega (arith, a)
+special_of_layer-heads h n rest (P.Con at c ps) = let a = con-heads h n c ps rest in omega (arith, a)
 
-special_row-heads : (h : Head) (n : ℕ) (r : List Pat) → image_heads (special_row h n r) + some_head (row_head r) ≤ row_heads r
+special_row-heads : (h : Head) (n : ℕ) (r : List Pat) → row_or_none_heads (special_row h n r) + some_head (row_head r) ≤ row_head_count r
 special_row-heads h n [] = omega arith
-special_row-heads h n (p ∷ ps) = let a = special_image-heads h n ps (out-Pat p) in let b = opened_heads p in omega (arith, a, b, row-cons p ps)
+special_row-heads h n (p ∷ ps) = let a = special_of_layer-heads h n ps (out-Pat p) in let b = opened_heads p in omega (arith, a, b, row-cons p ps)
 
-keep-heads : (o : Option (List Pat)) (rs : List (List Pat)) → rows_heads (keep o rs) ≡ image_heads o + rows_heads rs
+keep-heads : (o : Option (List Pat)) (rs : List (List Pat)) → rows_head_count (keep o rs) ≡ row_or_none_heads o + rows_head_count rs
 keep-heads None rs = omega arith
 keep-heads (Some r) rs = rows-cons r rs
 
-else-head : (a b : Option Head) → some_head (or_else a b) ≤ some_head a + some_head b
+else-head : (a b : Option Head) → some_head (option_or a b) ≤ some_head a + some_head b
 else-head None b = omega arith
 else-head (Some h) b = omega arith
 
-special-heads : (h : Head) (n : ℕ) (rs : List (List Pat)) → rows_heads (special h n rs) + some_head (first_head rs) ≤ rows_heads rs
+special-heads : (h : Head) (n : ℕ) (rs : List (List Pat)) → rows_head_count (special h n rs) + some_head (first_head rs) ≤ rows_head_count rs
 special-heads h n [] = omega arith
 special-heads h n (r ∷ rs) = let a = keep-heads (special_row h n r) (special h n rs) in let b = special_row-heads h n r in let c = special-heads h n rs in
     let d = else-head (row_head r) (first_head rs) in omega (arith, a, b, c, d, rows-cons r rs)
 
-default_image-heads : (rest : List Pat) (l : Pat-F Pat) → image_heads (default_image rest l) ≤ heads_step (map-Pat Pat ℕ head_count l) + row_heads rest
-default_image-heads rest (P.Wild at) = omega arith
-default_image-heads rest (P.Var at x) = omega arith
-default_image-heads rest (P.Num at k) = omega arith
-default_image-heads rest (P.Con at c ps) = omega arith
+default_of_layer-heads : (rest : List Pat) (l : Pat-F Pat) → row_or_none_heads (default_of_layer rest l) ≤ heads_step (map-Pat Pat ℕ head_count l) + row_head_count rest
+default_of_layer-heads rest (P.Wild at) = omega arith
+default_of_layer-heads rest (P.Var at x) = omega arith
+default_of_layer-heads rest (P.Num at k) = omega arith
+default_of_layer-heads rest (P.Con at c ps) = omega arith
 
-default_row-heads : (r : List Pat) → image_heads (default_row r) ≤ row_heads r
+default_row-heads : (r : List Pat) → row_or_none_heads (default_row r) ≤ row_head_count r
 default_row-heads [] = omega arith
-default_row-heads (p ∷ ps) = let a = default_image-heads ps (out-Pat p) in let b = opened_heads p in omega (arith, a, b, row-cons p ps)
+default_row-heads (p ∷ ps) = let a = default_of_layer-heads ps (out-Pat p) in let b = opened_heads p in omega (arith, a, b, row-cons p ps)
 
-defaults-heads : (rs : List (List Pat)) → rows_heads (defaults rs) ≤ rows_heads rs
+defaults-heads : (rs : List (List Pat)) → rows_head_count (defaults rs) ≤ rows_head_count rs
 defaults-heads [] = omega arith
 defaults-heads (r ∷ rs) = let a = keep-heads (default_row r) (defaults rs) in let b = default_row-heads r in let c = defaults-heads rs in omega (arith, a, b, c, rows-cons r rs)
 
 -- the first head of a column is one of its rows' heads
-pub first_head-count : (rs : List (List Pat)) → some_head (first_head rs) ≤ rows_heads rs
+pub first_head-count : (rs : List (List Pat)) → some_head (first_head rs) ≤ rows_head_count rs
 first_head-count rs = let a = special-heads (H.Num 0) 0 rs in omega (arith, a)
 
 -- a row's own head is one of its heads
-pub row_head-count : (r : List Pat) → some_head (row_head r) ≤ row_heads r
+pub row_head-count : (r : List Pat) → some_head (row_head r) ≤ row_head_count r
 row_head-count r = let a = special_row-heads (H.Num 0) 0 r in omega (arith, a)
 
 -- the fields of one constructor ------------------------------------------------------------------
@@ -130,7 +131,7 @@ pub special-falls : (types : List DataDecl) (h : Head) (n : ℕ) (p c : Problem)
     → (heads_of c ≤ heads_of p) × (weight types c < weight types p)
 special-falls types h n p c rest w u some le tys =
     let a = special-heads h n p.wanted in let b = special-heads h n p.unwanted in
-    let a' = ap rows_heads w in let b' = ap rows_heads u in
+    let a' = ap rows_head_count w in let b' = ap rows_head_count u in
     let fewer : heads_of c + 1 ≤ heads_of p = omega (arith, a, b, a', b', some) in
     (omega (arith, fewer), product (heads_of c) (heads_of p) (fields_bound types) (length c.tys) (length p.tys) rest fewer le tys)
   where
@@ -142,7 +143,7 @@ pub defaults-fall : (types : List DataDecl) (p c : Problem)
     → (heads_of c ≤ heads_of p) × (weight types c < weight types p)
 defaults-fall types p c w u tys =
     let a = defaults-heads p.wanted in let b = defaults-heads p.unwanted in
-    let a' = ap rows_heads w in let b' = ap rows_heads u in
+    let a' = ap rows_head_count w in let b' = ap rows_head_count u in
     let fewer : heads_of c ≤ heads_of p = omega (arith, a, b, a', b') in
     (fewer, product (heads_of c) (heads_of p) (fields_bound types) (length c.tys) (length p.tys) fewer tys)
   where

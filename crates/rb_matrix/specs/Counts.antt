@@ -19,9 +19,9 @@ abbrev pub head_count : Pat → ℕ
 head_count = fold-Pat ℕ heads_step
 
 -- how many numbers and constructors stand in all patterns of a row; none in the empty row
-abbrev pub row_heads : List Pat → ℕ
-row_heads ps = sum (map head_count ps)
+abbrev pub row_head_count : List Pat → ℕ
+row_head_count ps = sum (map head_count ps)
 
 -- how many numbers and constructors stand in all patterns of some rows; none where there is no row
-abbrev pub rows_heads : List (List Pat) → ℕ
-rows_heads rs = sum (map row_heads rs)
+abbrev pub rows_head_count : List (List Pat) → ℕ
+rows_head_count rs = sum (map row_head_count rs)

@@ -36,9 +36,9 @@ any_begins (h ∷ hs) v = layer_begins h v || any_begins hs v
 
 -- a vector with the subvalues of its first value in that value's place; a number has none, and the empty vector
 -- stays
-abbrev pub unfolded : List Value → List Value
-unfolded [] = []
-unfolded (v ∷ vs) = subs v ++ vs
+abbrev pub unfolded_vector : List Value → List Value
+unfolded_vector [] = []
+unfolded_vector (v ∷ vs) = subs v ++ vs
 
 -- the head of a pattern, given by its layer; None for a wildcard or a variable
 abbrev pub layer_head : Pat-F Pat → Option Head

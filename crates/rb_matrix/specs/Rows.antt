@@ -25,9 +25,9 @@ all_rows (r ∷ rs) vs = row_matches r vs && all_rows rs vs
 
 -- whether what a row becomes in a specialised or a default matrix matches a vector; None stands for a row that is
 -- left out there, and matches nothing
-abbrev pub image_matches : Option (List Pat) → List Value → Bool
-image_matches None vs = false
-image_matches (Some r) vs = row_matches r vs
+abbrev pub row_or_none_matches : Option (List Pat) → List Value → Bool
+row_or_none_matches None vs = false
+row_or_none_matches (Some r) vs = row_matches r vs
 
 -- whether a vector has these types: as many values as types, each of the type in its place; without a type, the empty
 -- vector alone does

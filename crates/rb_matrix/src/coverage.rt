@@ -1,11 +1,14 @@
 //! Whether patterns match every value of a type, which of them are the first match of none, so that
 //! they are not useful behind those before them, and whether two patterns have a value in common.
-//! Each is a search in a pattern matrix of one column.
+//! Each is a search in a pattern matrix of one column. Which patterns are the first match of none
+//! takes a search for each; those that are told by a pattern's probe are short (`probe`), and the
+//! pattern itself is searched only where its probe finds nothing.
 
-ghost use Rattle.std.specs.Prelude.{◌≡◌, ◌<◌, ◌∷◌, [], IfOk, length, take};
+ghost use Rattle.std.specs.Prelude.{◌≡◌, ◌<◌, ◌≤◌, ◌∷◌, [], IfOk, length, take};
+ghost use Rattle.std.specs.Bool.{OnTrue};
 ghost use Rattle.rb_matrix.specs.declared.coverage.MatrixFault.TheVariants as MatrixFaults;
 ghost use Rattle.rb_matrix.specs.Exhaust.{IsExhaustAnswer, AreUnreached, IsCommonAnswer};
-ghost use Rattle.rb_matrix.specs.inner.OneColumn.{IsReachAnswer, IsOneAnswer, one_each};
+ghost use Rattle.rb_matrix.specs.inner.OneColumn.{IsReachAnswer, IsOneAnswer, IsUseful, IsUseAnswer, IsEnd, one_each};
 ghost use Rattle.rb_matrix.specs.Search.{AreInhabited, IsTypeIn};
 ghost use Rattle.rb_matrix.specs.inner.Against.{AreRowsNear, StandFor};
 ghost use Rattle.rb_matrix.specs.inner.Indexes.{AreIndexes};
@@ -15,6 +18,7 @@ use crate::apart::are_apart;
 use crate::indexes::Indexes;
 use crate::passed::Passed;
 use crate::positions::best_paths;
+use crate::probe::{Gap, Outlook, narrowed};
 use crate::problem::Problem;
 use crate::row::{Row, row_of};
 use crate::search::find_in;
@@ -23,6 +27,9 @@ use rb_core::pattern::Pat;
 use rb_core::seq::Seq;
 use rb_core::types::{DataDecl, Ty};
 use std::alloc::{AllocError, Global};
+
+// So few patterns that each is searched without an outlook on them.
+const FEW: usize = 16;
 
 /// Why patterns are not found to match every value of a type: some value is not matched, or there
 /// was want of memory before that could be told.
@@ -167,9 +174,58 @@ pub fn exhaust(alloc: Global, types: &[DataDecl], ty: Ty, rows: &[Pat]) -> Resul
     }
 }
 
+// Whether some value of the type is matched by this pattern and by none of the patterns `before`,
+// those of the indexes.
+fn is_useful(
+    alloc: Global,
+    types: &[DataDecl],
+    ty: Ty,
+    before: &[Pat],
+    indexes: &Indexes,
+    pat: &Pat,
+) -> Result<bool, AllocError>
+    requires inhabited { AreInhabited types.now }
+    requires ty { IsTypeIn types.now ty }
+    requires indexes { AreIndexes before.now indexes.now }
+    ensures { IfOk result (λ b. IsUseAnswer types.now ty before.now pat.now b) }
+{
+    let wanted = one_row(alloc, pat)?;
+    let unwanted = rows_against(alloc, before, indexes, pat)?;
+    let found = find_one(alloc, types, ty, wanted, unwanted)?;
+    Ok(found.is_some())
+}
+
+// True only where some value of the type is matched by this pattern and by none of the patterns
+// `before`, since one is found that the pattern's probe matches. False tells nothing, and neither
+// where there is no gap, or one so large that its probe would cost much beside a search for the
+// pattern itself.
+fn has_probe(
+    alloc: Global,
+    types: &[DataDecl],
+    ty: Ty,
+    before: &[Pat],
+    indexes: &Indexes,
+    pat: &Pat,
+    gap: &Option<Gap>,
+) -> Result<bool, AllocError>
+    requires inhabited { AreInhabited types.now }
+    requires ty { IsTypeIn types.now ty }
+    requires indexes { AreIndexes before.now indexes.now }
+    ensures { IfOk result (λ b. OnTrue b (IsUseful types.now ty before.now pat.now)) }
+{
+    let Some(gap) = gap else {
+        return Ok(false);
+    };
+    if !gap.is_small(indexes.count_near(before.len(), pat)) {
+        return Ok(false);
+    }
+    let probe = narrowed(alloc, pat, &gap.pat)?;
+    is_useful(alloc, types, ty, before, indexes, &probe)
+}
+
 // Whether the pattern with number `i` is the first match of some value of the type, which is to say
-// useful behind those before it. Where an earlier one is found to cover it, it is not; else a
-// search tells. The indexes are those of the earlier ones.
+// useful behind those before it. Where an earlier one is found to cover it, it is not, and where
+// its probe is useful, it is; else a search tells. The indexes are those of the earlier ones.
 fn is_found(
     alloc: Global,
     types: &[DataDecl],
@@ -177,6 +233,7 @@ fn is_found(
     pats: &[Pat],
     i: usize,
     indexes: &Indexes,
+    gap: &Option<Gap>,
 ) -> Result<bool, AllocError>
     requires inhabited { AreInhabited types.now }
     requires ty { IsTypeIn types.now ty }
@@ -188,16 +245,16 @@ fn is_found(
     if indexes.has_covering(&pats[..i], pat) {
         return Ok(false);
     }
-    let wanted = one_row(alloc, pat)?;
-    let unwanted = rows_against(alloc, &pats[..i], indexes, pat)?;
-    let found = find_one(alloc, types, ty, wanted, unwanted)?;
-    Ok(found.is_some())
+    if has_probe(alloc, types, ty, &pats[..i], indexes, pat, gap)? {
+        return Ok(true);
+    }
+    is_useful(alloc, types, ty, &pats[..i], indexes, pat)
 }
 
 // Whether the pattern with number `i` is the first match of some value of the type; `passed` tells
-// of the patterns before it. A pattern behind a wildcard or a variable is not, and neither is a
-// number that the type does not hold. A number is compared with no pattern before it: it is looked
-// up in the set of their numbers.
+// of the patterns before it, and `outlook` was made of all. A pattern behind a wildcard or a
+// variable is not, nor is one from the outlook's end on, nor a number that the type does not hold.
+// A number is compared with no pattern before it: it is looked up in the set of their numbers.
 fn is_reached(
     alloc: Global,
     types: &[DataDecl],
@@ -205,23 +262,73 @@ fn is_reached(
     pats: &[Pat],
     i: usize,
     passed: &Passed,
+    outlook: &Outlook,
 ) -> Result<bool, AllocError>
     requires inhabited { AreInhabited types.now }
     requires ty { IsTypeIn types.now ty }
     requires within { i < length pats.now }
     requires passed { ArePassed (take i pats.now) passed.now }
+    requires end { IsEnd types.now ty pats.now outlook.now.end }
     ensures { IfOk result (λ b. IsReachAnswer types.now ty pats.now i b) }
 {
     let pat = &pats[i];
     if passed.all {
         return Ok(false);
     }
+    if outlook.end <= i {
+        return Ok(false);
+    }
+    let (indexes, gap) = (&passed.indexes, &outlook.gap);
     match pat {
         Pat::Num(_, number) => Ok(passed.is_new(types, ty, *number)),
-        Pat::Wild(_) => is_found(alloc, types, ty, pats, i, &passed.indexes),
-        Pat::Var(_, _) => is_found(alloc, types, ty, pats, i, &passed.indexes),
-        Pat::Con(_, _, _) => is_found(alloc, types, ty, pats, i, &passed.indexes),
+        Pat::Wild(_) => is_found(alloc, types, ty, pats, i, indexes, gap),
+        Pat::Var(_, _) => is_found(alloc, types, ty, pats, i, indexes, gap),
+        Pat::Con(_, _, _) => is_found(alloc, types, ty, pats, i, indexes, gap),
     }
+}
+
+// How many patterns stand before the first wildcard or variable; all where there is none.
+fn closed_count(pats: &[Pat]) -> usize
+    ensures { result ≤ length pats.now }
+{
+    for (i, pat) in pats.iter().enumerate() {
+        match pat {
+            Pat::Wild(_) | Pat::Var(_, _) => return i,
+            Pat::Num(_, _) | Pat::Con(_, _, _) => {}
+        }
+    }
+    pats.len()
+}
+
+// The outlook on patterns: some of the first ones are searched for what they miss, four times as
+// many each time, up to the first wildcard or variable, or until they miss nothing; the last
+// pattern that they miss is the gap. Where `pats` are few, it has none, since then no pattern costs
+// much.
+fn outlook_of(
+    alloc: Global,
+    types: &[DataDecl],
+    ty: Ty,
+    pats: &[Pat],
+) -> Result<Outlook, AllocError>
+    requires inhabited { AreInhabited types.now }
+    requires ty { IsTypeIn types.now ty }
+    ensures { IfOk result (λ outlook. IsEnd types.now ty pats.now outlook.end) }
+{
+    let most = closed_count(pats);
+    let mut gap = None;
+    let mut count: usize = FEW;
+    while count < most {
+        count = std::cmp::min(count.saturating_mul(4), most);
+        let unwanted = rows_of(alloc, &pats[..count])?;
+        match find_one(alloc, types, ty, Seq::new(alloc), unwanted)? {
+            None => return Ok(Outlook { end: count, gap }),
+            Some(pat) => gap = Some(Gap::new(pat)),
+        }
+    }
+    Ok(Outlook {
+        end: pats.len(),
+        gap,
+    })
 }
 
 /// The numbers, ascending, of the patterns that are the first match of no value of the type: none
@@ -242,9 +349,10 @@ pub fn unreached(
     ensures { IfOk result (λ v. AreUnreached types.now ty rows.now v.items) }
 {
     let mut numbers = Vec::new(alloc);
+    let outlook = outlook_of(alloc, types, ty, rows)?;
     let mut passed = Passed::new(alloc, best_paths(alloc, rows)?);
     for i in 0..rows.len() {
-        let reached = is_reached(alloc, types, ty, rows, i, &passed)?;
+        let reached = is_reached(alloc, types, ty, rows, i, &passed, &outlook)?;
         let pat = &rows[i];
         passed.add(alloc, i, pat)?;
         if reached {

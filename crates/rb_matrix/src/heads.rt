@@ -2,7 +2,7 @@
 //! constructor with which a pattern begins. Two heads are alike where they are the same number, or
 //! constructors with the same number in their types: the same values of a type begin with them.
 
-ghost use Rattle.std.specs.Prelude.{◌≡◌, ◌+◌, ◌≤◌, ◌||◌, ℕ, length, IfOk, OnOk, OnErr};
+ghost use Rattle.std.specs.Prelude.{◌≡◌, ◌+◌, ◌≤◌, ◌||◌, length, IfOk, OnOk, OnErr};
 ghost use Rattle.rb_core.specs.declared.value.Value as Values;
 ghost use Rattle.rb_core.specs.declared.value.Value.TheOpen as Layers;
 ghost use Rattle.rb_matrix.specs.Heads.{layer_begins, any_begins, option_begins, row_head, sample, some_head};

@@ -57,6 +57,12 @@ impl Indexes {
         }
     }
 
+    /// How many numbers [`near`](Indexes::near) gives for this pattern.
+    pub fn count_near(&self, count: usize, pat: &Pat) -> usize {
+        let first = self.first.count_near(count, pat);
+        first.min(self.second.count_near(count, pat))
+    }
+
     /// The numbers of those among the `count` patterns of the indexes that may have a value in
     /// common with this one, by the index that leaves fewer, and of two that leave as many by the
     /// first.

@@ -40,6 +40,13 @@
 //! patterns. Only patterns themselves are copied, compared, counted and dropped by recursion, to
 //! their own depth.
 //!
+//! Which patterns are the first match of no value is not told by a search for each of them. The
+//! patterns are searched whole for what they miss, a few times, with more of them each time: behind
+//! those that miss nothing no pattern is reached. What the others miss, put in the place of a
+//! pattern's wildcards, makes its probe, a pattern of few values, which most patterns before it do
+//! not match at all; where a search for the probe finds a value, the pattern is reached. Only where
+//! it finds none is the pattern itself searched.
+//!
 //! The answers of [`find`], [`exhaust`], [`unreached`] and [`common`] speak of all values of the
 //! types. These calls, and [`absent_pattern`], need the types of a well numbered program, each of
 //! which has a value; the patterns need not be typed. [`specialize`] and [`default_rows`] make the
@@ -61,6 +68,7 @@ mod open;
 mod part;
 mod passed;
 mod positions;
+mod probe;
 mod problem;
 mod row;
 mod rows;

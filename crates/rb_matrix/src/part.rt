@@ -18,7 +18,7 @@ use crate::heads::key_of_head;
 use crate::matrix::Head;
 use crate::problem::{Branches, Left, Problem, Step};
 use crate::rows::{
-    first_head_in, grouped, heads_in, into_default, into_specialized, special_copies,
+    first_head_in, groups_of, heads_in, into_default, into_specialized, special_copies,
     special_numbered,
 };
 use crate::signature::absent_pattern;
@@ -297,7 +297,7 @@ pub fn parts_of<'a>(
     let heads = heads_in(alloc, behind.unwanted.as_slice())?;
     match absent_pattern(alloc, types, ty, heads.as_slice())? {
         None => {
-            let groups = grouped(alloc, behind.unwanted.as_slice())?;
+            let groups = groups_of(alloc, behind.unwanted.as_slice())?;
             left.push(Left::ByHead(Branches {
                 ty,
                 behind,

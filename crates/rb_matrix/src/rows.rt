@@ -9,7 +9,7 @@ ghost use Rattle.rb_matrix.specs.Heads.{any_begins, column_begins};
 ghost use Rattle.rb_matrix.specs.FirstHead.{first_head};
 ghost use Rattle.rb_matrix.specs.inner.Groups.{merged, rows_at, AreGrouped};
 ghost use Rattle.rb_matrix.specs.inner.Open.{any_open};
-ghost use Rattle.rb_matrix.specs.Counts.{rows_heads};
+ghost use Rattle.rb_matrix.specs.Counts.{rows_head_count};
 ghost use Rattle.rb_matrix.specs.Specialize.{special_row, special, defaults};
 
 use crate::groups::{Groups, Merged};
@@ -43,7 +43,7 @@ pub fn first_head_in(rows: &[Row]) -> Option<Head>
 pub fn heads_in(alloc: Global, rows: &[Row]) -> Result<Seq<Head>, AllocError>
     ensures heads { IfOk result (λ heads. (l : Layers.Value-F Values.Value)
         → any_begins heads l ≡ column_begins rows.now l) }
-    ensures few { IfOk result (λ heads. length heads ≤ rows_heads rows.now) }
+    ensures few { IfOk result (λ heads. length heads ≤ rows_head_count rows.now) }
 {
     let mut heads = Vec::new(alloc);
     let mut known = HeadSet::new(alloc);
@@ -100,7 +100,7 @@ pub fn special_copies<'a>(
 /// # Errors
 ///
 /// Want of memory.
-pub fn grouped(alloc: Global, rows: &[Row]) -> Result<Groups, AllocError>
+pub fn groups_of(alloc: Global, rows: &[Row]) -> Result<Groups, AllocError>
     ensures { IfOk result (AreGrouped rows.now) }
 {
     let mut groups = Groups::new(alloc);

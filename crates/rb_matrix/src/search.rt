@@ -5,8 +5,8 @@
 //! wider or longer patterns. An unwanted row of wildcards and variables alone ends its branch, so
 //! rows that each look at one column take no exponential time. But for each column all rows that
 //! are left are gone through: where each column has a row that looks at it alone, a search takes a
-//! time that grows with the square of the rows, and a search for each row, as `unreached` makes it,
-//! takes together one that grows with their cube. Time grows as in Maranget's algorithm:
+//! time that grows with the square of the rows. `unreached` asks of each row, but it makes such a
+//! search only for one whose probe finds nothing (`probe`). Time grows as in Maranget's algorithm:
 //! exponentially in the number of columns at worst, where rows that look at several columns take
 //! turns. Unwanted rows are grouped by their heads, so a row that begins with a head is gone
 //! through for the part of that head, and one that begins with a wildcard for the part of each; for

@@ -3,11 +3,9 @@
 //! column's type begins with one of them. From an incomplete one a pattern is absent, which matches
 //! only values that begin with none of the heads.
 
-ghost use Rattle.std.specs.Prelude.{◌≡◌, ◌+◌, ◌^◌, ◌<◌, ◌≤◌, ℕ, [], IfOk, IfSome, MatchOption, true, false};
-ghost use Rattle.rb_core.specs.declared.value.Value.TheOpen as Layers;
+ghost use Rattle.std.specs.Prelude.{◌≡◌, ◌+◌, ◌^◌, ◌<◌, ◌≤◌, IfOk, IfSome};
 ghost use Rattle.rb_core.specs.declared.types.Ty.TheVariants as Tys;
-ghost use Rattle.rb_matrix.specs.Signature.{IsFirstCon, IsFirstAbsent, IsAbsentAnswer};
-ghost use Rattle.rb_matrix.specs.Heads.{any_begins};
+ghost use Rattle.rb_matrix.specs.Signature.{IsNumberAnswer, IsConAnswer, IsFirstCon, IsFirstAbsent, IsAbsentAnswer};
 ghost use Rattle.rb_matrix.specs.Search.{AreInhabited, IsTypeIn};
 ghost use Rattle.rb_matrix.specs.Specialize.{wilds};
 
@@ -32,10 +30,7 @@ pub fn greatest(bits: u8) -> u64
 
 // The least number up to `most` that is not among the heads; None where all of them are.
 fn least_missing(alloc: Global, heads: &[Head], most: u64) -> Result<Option<u64>, AllocError>
-    ensures { IfOk result (λ r. MatchOption r
-        ((m : ℕ) → m ≤ most → any_begins heads.now (Layers.Num m) ≡ true)
-        (λ m. (m ≤ most) × (any_begins heads.now (Layers.Num m) ≡ false)
-        × ((j : ℕ) → j < m → any_begins heads.now (Layers.Num j) ≡ true))) }
+    ensures { IfOk result (IsNumberAnswer heads.now most) }
 {
     let known = set_of(alloc, heads)?;
     let mut number = 0;
@@ -60,10 +55,7 @@ fn missing_con(
     count: usize,
 ) -> Result<Option<u32>, AllocError>
     requires { count < 2 ^ 32 }
-    ensures { IfOk result (λ r. MatchOption r
-        ((k : ℕ) → k < count → any_begins heads.now (Layers.Con k []) ≡ true)
-        (λ k. (k < count) × (any_begins heads.now (Layers.Con k []) ≡ false)
-        × ((j : ℕ) → j < k → any_begins heads.now (Layers.Con j []) ≡ true))) }
+    ensures { IfOk result (IsConAnswer heads.now count) }
 {
     let known = set_of(alloc, heads)?;
     for k in 0..count {

@@ -3,16 +3,16 @@
 //! its first value. Of the vectors of the columns' types that begin with the head, a pattern matrix
 //! matches those that S matches once the first value is replaced by its subvalues; of the vectors
 //! that begin with no head of the first column, it matches those that D matches without the first
-//! value. What becomes of a row in S is its specialised row, and in D its default row; in names
-//! either is an image. A row that has none is left out. Rows need not be typed.
+//! value. What becomes of a row in S is its specialised row, and in D its default row. A row
+//! that has none is left out. Rows need not be typed.
 
 ghost use Rattle.std.specs.Prelude.{◌≡◌, ◌∷◌, ◌++◌, List, length, drop, true, false, IfOk, OnOk, IsSome, slice_get, nat_lt, ◌^◌};
 ghost use Rattle.std.specs.Option.{option_copied};
 ghost use Rattle.rb_core.specs.declared.value.Value as Values;
 ghost use Rattle.rb_core.specs.Values.{subs, fields_in};
-ghost use Rattle.rb_matrix.specs.Heads.{begins, unfolded, row_head, option_begins, column_fields, fields_at};
-ghost use Rattle.rb_matrix.specs.Rows.{row_matches, image_matches};
-ghost use Rattle.rb_matrix.specs.Specialize.{wilds, special_row, special, default_row, defaults, specialized, defaulted, UnfoldsAlike, RestsAlike};
+ghost use Rattle.rb_matrix.specs.Heads.{begins, unfolded_vector, row_head, option_begins, column_fields, fields_at};
+ghost use Rattle.rb_matrix.specs.Rows.{row_matches, row_or_none_matches};
+ghost use Rattle.rb_matrix.specs.Specialize.{wilds, special_row, special, default_row, defaults, specialized_matrix, default_matrix, UnfoldsAlike, RestsAlike};
 
 use crate::matrix::{Head, Matrix};
 use rb_core::constructors::con_of;
@@ -129,16 +129,16 @@ pub fn specialize_row(
     fields: usize,
     row: &[Pat],
 ) -> Result<Option<Seq<Pat>>, AllocError>
-    ensures image { IfOk result (λ r. r ≡ special_row head fields row.now) }
+    ensures row { IfOk result (λ r. r ≡ special_row head fields row.now) }
 
     // The law of S: the row matches a vector whose first value begins with the head, and has as
     // many subvalues as fields, exactly where its specialised row matches that vector unfolded:
     // with the subvalues in place of that value.
     ensures same { IfOk result (λ r. (v : Values.Value) (vs : List Values.Value) → begins head v ≡ true
-        → length (subs v) ≡ fields → row_matches row.now (v ∷ vs) ≡ image_matches r (unfolded (v ∷ vs))) }
+        → length (subs v) ≡ fields → row_matches row.now (v ∷ vs) ≡ row_or_none_matches r (unfolded_vector (v ∷ vs))) }
 {
-    let image = special_of_row(alloc, head, fields, row)?;
-    Ok(image)
+    let special = special_of_row(alloc, head, fields, row)?;
+    Ok(special)
 }
 
 /// What becomes of a row in the default matrix: a copy of it without its first pattern, where that
@@ -149,16 +149,16 @@ pub fn specialize_row(
 ///
 /// Want of memory.
 pub fn default_of_row(alloc: Global, row: &[Pat]) -> Result<Option<Seq<Pat>>, AllocError>
-    ensures image { IfOk result (λ r. r ≡ default_row row.now) }
+    ensures row { IfOk result (λ r. r ≡ default_row row.now) }
 
     // The law of D: the row matches a vector that does not begin with the head of the row, as none
     // does where the row has no head, exactly where its default row matches the rest.
     ensures same { IfOk result (λ r. (v : Values.Value) (vs : List Values.Value)
         → option_begins (row_head row.now) (Values.out-Value v) ≡ false
-        → row_matches row.now (v ∷ vs) ≡ image_matches r vs) }
+        → row_matches row.now (v ∷ vs) ≡ row_or_none_matches r vs) }
 {
-    let image = rest_of_row(alloc, row)?;
-    Ok(image)
+    let rest = rest_of_row(alloc, row)?;
+    Ok(rest)
 }
 
 /// The specialised rows of rows for a head with so many fields, in the order of the rows; a row that
@@ -177,8 +177,8 @@ pub fn special_rows(
 {
     let mut kept = Seq::new(alloc);
     for row in rows {
-        if let Some(image) = specialize_row(alloc, head, fields, row.as_slice())? {
-            kept.push(image)?;
+        if let Some(special) = specialize_row(alloc, head, fields, row.as_slice())? {
+            kept.push(special)?;
         }
     }
     Ok(kept)
@@ -195,8 +195,8 @@ pub fn rows_by_default(alloc: Global, rows: &[Seq<Pat>]) -> Result<Seq<Seq<Pat>>
 {
     let mut kept = Seq::new(alloc);
     for row in rows {
-        if let Some(image) = default_of_row(alloc, row.as_slice())? {
-            kept.push(image)?;
+        if let Some(rest) = default_of_row(alloc, row.as_slice())? {
+            kept.push(rest)?;
         }
     }
     Ok(kept)
@@ -288,7 +288,7 @@ pub fn specialize(
     head: &Head,
 ) -> Result<Matrix, AllocError>
     requires { IsSome (column_fields types.now matrix.now.tys head.now) }
-    ensures specialized { IfOk result (λ m. m ≡ specialized types.now head.now matrix.now) }
+    ensures specialized { IfOk result (λ m. m ≡ specialized_matrix types.now head.now matrix.now) }
 
     // A vector of the columns' types that begins with the head is matched exactly where it is
     // matched unfolded, and it is then a vector of the new columns' types.
@@ -310,7 +310,7 @@ pub fn specialize(
 ///
 /// Want of memory.
 pub fn default_rows(alloc: Global, matrix: &Matrix) -> Result<Matrix, AllocError>
-    ensures defaulted { IfOk result (λ m. m ≡ defaulted matrix.now) }
+    ensures defaulted { IfOk result (λ m. m ≡ default_matrix matrix.now) }
 
     // A vector whose first value has a head that stands nowhere in the first column is matched
     // exactly where its rest is.

@@ -15,7 +15,7 @@ use Rattle.rb_core.specs.WellNumbered.{IsWellNumbered, is_distinct, layout_is_nu
 use Rattle.rb_layout.specs.Flattening.{decl_of}
 use Rattle.rb_syntax.specs.declared.tree.FileTree.{FileTree}
 use Rattle.rb_auto.specs.Answers.{Derives, IsDerivedAnswer}
-use Rattle.rb_auto.specs.Completed.{Completes, completed}
+use Rattle.rb_auto.specs.Completed.{Completes, completed_program}
 use Rattle.rb_auto.specs.Rooms.{kind_in, kind_of}
 use Rattle.rb_auto.proofs.Tagging.{answer-form}
 use Rattle.rb_names.specs.declared.complete.Completed.{Completed}
@@ -23,7 +23,7 @@ use Rattle.rb_names.specs.declared.derivation.Derived.{Derived}
 use Rattle.rb_names.specs.declared.items.Items.{Items}
 use Rattle.rb_names.specs.declared.tables.Tables.{Tables}
 use Rattle.rb_names.specs.Tables.{Name, Table, meaning}
-use Rattle.rb_names.specs.Definitions.{defined_twice, numbered_from, tables_of, type_names}
+use Rattle.rb_names.specs.Definitions.{defined_twice, numbered_names, tables_of, type_names}
 use Rattle.rb_names.specs.Programs.{main_number, no_twice, program_of, numbered_items}
 use Rattle.rb_names.specs.Completing.{AreDerived, IsCompleted, IsCompletion, first_refusal, kinds_of, layouts_in, left_in, left_types, type_numbers, with_number}
 use Rattle.rb_names.specs.inner.Deriving.{IsAllDerived, IsWith}
@@ -141,7 +141,7 @@ other-name [] t x y e h = absurd cc
 other-name (n ∷ names) zero x y e h = bytes-symm x y ∙ ap (bytes_eq y) (sym (same_Some n x e)) ∙ (or_parts (bytes_eq y n) (list_any (bytes_eq y) names) h).0
 other-name (n ∷ names) (suc t) x y e h = other-name names t x y e (or_parts (bytes_eq y n) (list_any (bytes_eq y) names) h).1
 
-number-at : (k : ℕ) (names : List Name) (t : ℕ) (x : Name) → is_distinct bytes_eq names ≡ true → slice_get names t ≡ Some x → meaning (numbered_from k names) x ≡ Some (k + t)
+number-at : (k : ℕ) (names : List Name) (t : ℕ) (x : Name) → is_distinct bytes_eq names ≡ true → slice_get names t ≡ Some x → meaning (numbered_names k names) x ≡ Some (k + t)
 number-at k [] t x d e = absurd cc
 number-at k (y ∷ names) zero x d e =
     let same : bytes_eq x y ≡ true = (bytes_decides x y).1 (sym (same_Some y x e)) in rw same (ap (λ n. Some n) (none_more k))
@@ -231,7 +231,7 @@ module _ (file : FileTree) (p : Program) (named : program_of file ≡ Ok p) wher
     is-whole : c.refused ≡ None → IsCompletion file p c
     is-whole none = record { derived = added; completes = all-completes none; program = done.program }
 
-    completed-well : IsWellNumbered p → IsWellNumbered (completed p added)
+    completed-well : IsWellNumbered p → IsWellNumbered (completed_program p added)
     completed-well well = record {
       main = well.main;
       types = well.types;
@@ -262,7 +262,7 @@ module _ {E : Type 0} (file : FileTree) (p : Program) (r : Result Completed E) w
         answers = all.answers;
         are_derived =
             subst (λ ks. AreDerived p ks (left_types file) all.answers) is_kinds (subst (λ us. AreDerived p kinds us all.answers) is_types all.are_derived);
-        program = w.program ∙ ap (completed p) all.layouts;
+        program = w.program ∙ ap (completed_program p) all.layouts;
         refused = w.refused ∙ all.refused;
       })
 

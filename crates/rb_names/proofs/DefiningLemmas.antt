@@ -12,7 +12,7 @@ use Rattle.rb_names.specs.Tables.{Name, Table, meaning}
 use Rattle.rb_names.specs.Definitions.{TableKind, OfType, OfConstructor, OfFunction, OfLayout, Definition, same_kind, first_again}
 use Rattle.rb_names.specs.Programs.{no_twice}
 use Rattle.rb_names.specs.Answers.{AnswersNumbering}
-use Rattle.rb_names.specs.inner.Defining.{is_defined, Knows, AreKnown, AreAdded, IsAgain, made_again}
+use Rattle.rb_names.specs.inner.Defining.{is_defined, Knows, AreKnown, AreAdded, IsAgain, repeated_name}
 
 pub any-append : {A : Type 0} (p : A → Bool) (xs ys : List A) → list_any p (xs ++ ys) ≡ (list_any p xs || list_any p ys)
 any-append p [] ys = refl
@@ -124,10 +124,10 @@ not-refused NoMain gives h = cc
 
 -- a definition that is made again
 module _ {A : Type 0} (k : TableKind) (before : List Definition) (table : Table A) (a : Knows k before table) (name : NameTree) (fault : NameFault) where
-  pub made-again : AnswersNumbering {A = Unit {0}} (Err fault) (no_twice (made_again (is_some (meaning table name.text)) name)) → IsAgain before (record { kind = k; name = name } ∷ []) fault
+  pub made-again : AnswersNumbering {A = Unit {0}} (Err fault) (no_twice (repeated_name (is_some (meaning table name.text)) name)) → IsAgain before (record { kind = k; name = name } ∷ []) fault
   made-again h rest = by (is_some (meaning table name.text)) refl h
     where
-      by : (b : Bool) → is_some (meaning table name.text) ≡ b → AnswersNumbering {A = Unit {0}} (Err fault) (no_twice (made_again b name))
+      by : (b : Bool) → is_some (meaning table name.text) ≡ b → AnswersNumbering {A = Unit {0}} (Err fault) (no_twice (repeated_name b name))
           → AnswersNumbering {A = Unit {0}} (Err fault) (no_twice (first_again before (record { kind = k; name = name } ∷ rest)))
       by true e h = subst (λ (o : Option NameTree). AnswersNumbering {A = Unit {0}} (Err fault) (no_twice o)) (sym (again-first before (record { kind = k; name = name }) rest (sym (a name.text) ∙ e))) h
       by false e h = not-refused fault _ h

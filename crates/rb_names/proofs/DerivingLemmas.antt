@@ -1,12 +1,13 @@
 -- What is derived, one type after another.
 use Rattle.std.proofs.Common.{◌≡◌, ℕ, ◌+◌, ◌<◌, List, [], ◌∷◌, ◌++◌, length, take, get_or, Option, Ok, Err, refl, sym, ap, ◌∙◌, subst, add-one}
+use Rattle.std.specs.Option.{option_or}
 use Rattle.std.proofs.Math.Seq.{take-suc}
 use Rattle.rb_core.specs.declared.types.Auto.{Auto}
 use Rattle.rb_core.specs.declared.program.Program.{Program}
 use Rattle.rb_auto.specs.Answers.{Derives}
 use Rattle.rb_names.specs.declared.derivation.Derived.{Derived}
 use Rattle.rb_names.specs.Completing.{AreDerived, IsDerived, first_refusal, layouts_in}
-use Rattle.rb_names.specs.inner.Deriving.{IsAllDerived, IsNext, earlier_refusal}
+use Rattle.rb_names.specs.inner.Deriving.{IsAllDerived, IsNext}
 
 are-more : (p : Program) (kinds : List (Option Auto)) (ts : List ℕ) (rs : List Derives) (t : ℕ) (r : Derives) → AreDerived p kinds ts rs → IsDerived p kinds t r
     → AreDerived p kinds (ts ++ t ∷ []) (rs ++ r ∷ [])
@@ -20,7 +21,7 @@ layouts-more [] ss = refl
 layouts-more (Ok d ∷ rs) ss = ap (λ ds. d ∷ ds) (layouts-more rs ss)
 layouts-more (Err e ∷ rs) ss = layouts-more rs ss
 
-refusal-more : (rs ss : List Derives) → first_refusal (rs ++ ss) ≡ earlier_refusal (first_refusal rs) (first_refusal ss)
+refusal-more : (rs ss : List Derives) → first_refusal (rs ++ ss) ≡ option_or (first_refusal rs) (first_refusal ss)
 refusal-more [] ss = refl
 refusal-more (Ok d ∷ rs) ss = refusal-more rs ss
 refusal-more (Err e ∷ rs) ss = refl
@@ -31,7 +32,7 @@ module _ (p : Program) (kinds : List (Option Auto)) where
     answers = all.answers ++ next.answer ∷ [];
     are_derived = are-more p kinds ts all.answers t next.answer all.are_derived next.is_derived;
     layouts = next.layouts ∙ ap (λ ds. ds ++ layouts_in (next.answer ∷ [])) all.layouts ∙ sym (layouts-more all.answers (next.answer ∷ []));
-    refused = next.refused ∙ ap (λ o. earlier_refusal o (first_refusal (next.answer ∷ []))) all.refused ∙ sym (refusal-more all.answers (next.answer ∷ []));
+    refused = next.refused ∙ ap (λ o. option_or o (first_refusal (next.answer ∷ []))) all.refused ∙ sym (refusal-more all.answers (next.answer ∷ []));
   }
 
   pub derived-next : (ts : List ℕ) (i : ℕ) (before after : Derived) → i < length ts → IsAllDerived p kinds (take i ts) before → IsNext p kinds (get_or ts i 0) before after

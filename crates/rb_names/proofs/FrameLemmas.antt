@@ -1,5 +1,6 @@
 -- Frames: the names that they bind, and the scope that they open.
 use Rattle.std.proofs.Common.{◌≡◌, ℕ, zero, suc, ◌+◌, ◌-◌, ◌<◌, ◌≤◌, Bool, true, false, cond, ◌||◌, Option, Some, None, is_some, List, [], ◌∷◌, ◌++◌, map, take, drop, length, get_or, reverse, refl, sym, ap, ◌∙◌, arith, add-one}
+use Rattle.std.specs.Option.{option_or}
 use Rattle.std.specs.List.{list_any, flat_map, AllByRecursion, IsDistinct}
 use Rattle.std.specs.Map.{keys_of}
 use Rattle.std.specs.Str.{bytes_eq}
@@ -11,12 +12,12 @@ use Rattle.rb_syntax.specs.declared.tree.PatTree.{PatTree}
 use Rattle.rb_syntax.specs.declared.tree.PatTree as P
 use Rattle.rb_names.specs.declared.frame.Frame.{Frame}
 use Rattle.rb_names.specs.Tables.{Name, Table, meaning}
-use Rattle.rb_names.specs.Definitions.{numbered_from}
+use Rattle.rb_names.specs.Definitions.{numbered_names}
 use Rattle.rb_names.specs.Scopes.{Scope, inside, names_in, with_name, with_names}
 use Rattle.rb_names.specs.inner.Frames.{scope_of, bound, with_binder, with_binders}
 use Rattle.rb_names.proofs.ListLemmas.{drop-here}
 use Rattle.rb_names.proofs.PatternEquations.{names-Con}
-use Rattle.rb_names.proofs.ScopeLemmas.{or_else, or_else-none, lookup-append}
+use Rattle.rb_names.proofs.ScopeLemmas.{option_or-none, lookup-append}
 
 -- Tables from either end -------------------------------------------------------------------
 
@@ -37,12 +38,12 @@ module _ {K A : Type 0} (name_of : K → Name) (eq : K → K → Bool) (same : (
       by (bytes_eq q (name_of e.0)) refl
       ∙ sym (ap (λ t. meaning t q) (reverse-append ((name_of e.0, e.1) ∷ []) (map (λ e. (name_of e.0, e.1)) es))
       ∙ lookup-append (bytes_eq q) (reverse (map (λ e. (name_of e.0, e.1)) es)) ((name_of e.0, e.1) ∷ [])
-      ∙ ap (λ o. or_else o (meaning ((name_of e.0, e.1) ∷ []) q)) (sym (meaning-last es q d.1)))
+      ∙ ap (λ o. option_or o (meaning ((name_of e.0, e.1) ∷ []) q)) (sym (meaning-last es q d.1)))
     where
       by : (b : Bool) → bytes_eq q (name_of e.0) ≡ b
-          → cond b (Some e.1) (meaning (map (λ e. (name_of e.0, e.1)) es) q) ≡ or_else (meaning (map (λ e. (name_of e.0, e.1)) es) q) (cond b (Some e.1) None)
-      by true h = ap (λ o. or_else o (Some e.1)) (sym (none-later e.0 q ((bytes_decides q (name_of e.0)).0 h) es d.0))
-      by false h = sym (or_else-none (meaning (map (λ e. (name_of e.0, e.1)) es) q))
+          → cond b (Some e.1) (meaning (map (λ e. (name_of e.0, e.1)) es) q) ≡ option_or (meaning (map (λ e. (name_of e.0, e.1)) es) q) (cond b (Some e.1) None)
+      by true h = ap (λ o. option_or o (Some e.1)) (sym (none-later e.0 q ((bytes_decides q (name_of e.0)).0 h) es d.0))
+      by false h = sym (option_or-none (meaning (map (λ e. (name_of e.0, e.1)) es) q))
 
 pub meaning-none : {A : Type 0} (t : Table A) (q : Name) → length t ≡ 0 → None ≡ meaning (reverse t) q
 meaning-none [] q e = refl
@@ -56,7 +57,7 @@ take-here (y ∷ xs) zero x lt is = rw is refl
 take-here (y ∷ xs) (suc i) x lt is = ap (λ ys. y ∷ ys) (take-here xs i x (omega arith) is)
 
 frame-first : (frames : List (Table ℕ)) (i : ℕ) (frame : Table ℕ) (q : Name) → i < length frames → frame ≡ get_or frames i frame
-    → meaning (scope_of (reverse (take (suc i) frames))) q ≡ or_else (meaning (reverse frame) q) (meaning (scope_of (reverse (take i frames))) q)
+    → meaning (scope_of (reverse (take (suc i) frames))) q ≡ option_or (meaning (reverse frame) q) (meaning (scope_of (reverse (take i frames))) q)
 frame-first frames i frame q lt is =
     ap (λ fs. meaning (scope_of (reverse fs)) q) (take-here frames i frame lt is)
     ∙ ap (λ fs. meaning (scope_of fs) q) (reverse-append (take i frames) (frame ∷ []))
@@ -64,16 +65,16 @@ frame-first frames i frame q lt is =
 
 -- the innermost of the first i frames, and those round it
 module _ (frames : List (Table ℕ)) (i : ℕ) (frame : Table ℕ) (q : Name) (some : 0 < i) (within : i ≤ length frames) (is : frame ≡ get_or frames (i - 1) frame) where
-  frame-here : meaning (scope_of (reverse (take i frames))) q ≡ or_else (meaning (reverse frame) q) (meaning (scope_of (reverse (take (i - 1) frames))) q)
+  frame-here : meaning (scope_of (reverse (take i frames))) q ≡ option_or (meaning (reverse frame) q) (meaning (scope_of (reverse (take (i - 1) frames))) q)
   frame-here =
       let e : i ≡ suc (i - 1) = omega (arith, some) in
       ap (λ k. meaning (scope_of (reverse (take k frames))) q) e ∙ frame-first frames (i - 1) frame q (omega (arith, some, within)) is
 
   pub found-here : (n : ℕ) → meaning (reverse frame) q ≡ Some n → meaning (scope_of (reverse (take i frames))) q ≡ Some n
-  found-here n h = frame-here ∙ ap (λ o. or_else o (meaning (scope_of (reverse (take (i - 1) frames))) q)) h
+  found-here n h = frame-here ∙ ap (λ o. option_or o (meaning (scope_of (reverse (take (i - 1) frames))) q)) h
 
   pub not-here : meaning (reverse frame) q ≡ None → meaning (scope_of (reverse (take (i - 1) frames))) q ≡ meaning (scope_of (reverse (take i frames))) q
-  not-here h = sym (frame-here ∙ ap (λ o. or_else o (meaning (scope_of (reverse (take (i - 1) frames))) q)) h)
+  not-here h = sym (frame-here ∙ ap (λ o. option_or o (meaning (scope_of (reverse (take (i - 1) frames))) q)) h)
 
 -- The names of one pattern or list -------------------------------------------------------------
 
@@ -82,43 +83,43 @@ abbrev frame_with : Table ℕ → ℕ → Frame
 frame_with t n = record { binders = t; next = n }
 
 abbrev frame_of : ℕ → List Name → Frame
-frame_of n names = frame_with (numbered_from n names) (n + length names)
+frame_of n names = frame_with (numbered_names n names) (n + length names)
 
-knows-names : (n : ℕ) (names : List Name) (x : Name) → is_some (meaning (numbered_from n names) x) ≡ list_any (λ m. bytes_eq m x) names
+knows-names : (n : ℕ) (names : List Name) (x : Name) → is_some (meaning (numbered_names n names) x) ≡ list_any (λ m. bytes_eq m x) names
 knows-names n [] x = refl
 knows-names n (m ∷ names) x =
-    ap (λ b. is_some (cond b (Some n) (meaning (numbered_from (suc n) names) x))) (nat_list_eq_equiv.symm x m) ∙ by (bytes_eq m x) (knows-names (suc n) names x)
+    ap (λ b. is_some (cond b (Some n) (meaning (numbered_names (suc n) names) x))) (nat_list_eq_equiv.symm x m) ∙ by (bytes_eq m x) (knows-names (suc n) names x)
   where
-    by : (b : Bool) → is_some (meaning (numbered_from (suc n) names) x) ≡ list_any (λ m. bytes_eq m x) names
-        → is_some (cond b (Some n) (meaning (numbered_from (suc n) names) x)) ≡ (b || list_any (λ m. bytes_eq m x) names)
+    by : (b : Bool) → is_some (meaning (numbered_names (suc n) names) x) ≡ list_any (λ m. bytes_eq m x) names
+        → is_some (cond b (Some n) (meaning (numbered_names (suc n) names) x)) ≡ (b || list_any (λ m. bytes_eq m x) names)
     by true h = refl
     by false h = h
 
-numbered-append : (n : ℕ) (names : List Name) (x : Name) → numbered_from n (names ++ x ∷ []) ≡ numbered_from n names ++ (x, n + length names) ∷ []
+numbered-append : (n : ℕ) (names : List Name) (x : Name) → numbered_names n (names ++ x ∷ []) ≡ numbered_names n names ++ (x, n + length names) ∷ []
 numbered-append n [] x = ap (λ k. (x, k) ∷ []) (let e : n ≡ n + 0 = omega arith in e)
 numbered-append n (m ∷ names) x =
     let e : suc n + length names ≡ n + suc (length names) = omega arith in
-    ap (λ t. (m, n) ∷ t) (numbered-append (suc n) names x ∙ ap (λ k. numbered_from (suc n) names ++ (x, k) ∷ []) e)
+    ap (λ t. (m, n) ∷ t) (numbered-append (suc n) names x ∙ ap (λ k. numbered_names (suc n) names ++ (x, k) ∷ []) e)
 
 next-number : (n : ℕ) (names : List Name) (x : Name) → suc (n + length names) ≡ n + length (names ++ x ∷ [])
 next-number n names x = omega (arith, length-append names (x ∷ []))
 
 with_binder-is : (n : ℕ) (names : List Name) (x : Name) → with_binder (frame_of n names) x ≡ frame_of n (with_name names x)
-with_binder-is n names x = by (meaning (numbered_from n names) x) (knows-names n names x)
+with_binder-is n names x = by (meaning (numbered_names n names) x) (knows-names n names x)
   where
     by : (o : Option ℕ) → is_some o ≡ list_any (λ m. bytes_eq m x) names → bound (frame_of n names) x o ≡ frame_of n (with_name names x)
     by (Some k) h = rw (← h) refl
     by None h = rw (← h) (ap (λ t. frame_with t (suc (n + length names))) (sym (numbered-append n names x))
-        ∙ ap (frame_with (numbered_from n (names ++ x ∷ []))) (next-number n names x))
+        ∙ ap (frame_with (numbered_names n (names ++ x ∷ []))) (next-number n names x))
 
 with_binders-is : (n : ℕ) (xs names : List Name) → with_binders (frame_of n names) xs ≡ frame_of n (with_names names xs)
 with_binders-is n [] names = refl
 with_binders-is n (x ∷ xs) names = ap (λ f. with_binders f xs) (with_binder-is n names x) ∙ with_binders-is n xs (with_name names x)
 
-inside-is : (names : List Name) (n : ℕ) (scope : Scope) → reverse (numbered_from n names) ++ scope ≡ inside names n scope
+inside-is : (names : List Name) (n : ℕ) (scope : Scope) → reverse (numbered_names n names) ++ scope ≡ inside names n scope
 inside-is [] n scope = refl
 inside-is (x ∷ xs) n scope =
-    ap (λ t. t ++ scope) (reverse-append ((x, n) ∷ []) (numbered_from (suc n) xs)) ∙ append_assoc (reverse (numbered_from (suc n) xs)) ((x, n) ∷ []) scope
+    ap (λ t. t ++ scope) (reverse-append ((x, n) ∷ []) (numbered_names (suc n) xs)) ∙ append_assoc (reverse (numbered_names (suc n) xs)) ((x, n) ∷ []) scope
     ∙ inside-is xs (suc n) ((x, n) ∷ scope)
 
 all-bound : (xs : List Name) (n : ℕ) (start : Frame) → start ≡ frame_with [] n → with_binders start xs ≡ frame_of n (with_names [] xs)

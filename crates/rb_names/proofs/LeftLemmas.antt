@@ -8,7 +8,7 @@ use Rattle.rb_syntax.specs.declared.tree.ItemTree.{ItemTree}
 use Rattle.rb_syntax.specs.declared.tree.FileTree.{FileTree}
 use Rattle.rb_names.specs.declared.tables.Tables.{Tables}
 use Rattle.rb_names.specs.Tables.{Name, Table, meaning}
-use Rattle.rb_names.specs.inner.Defining.{defined}
+use Rattle.rb_names.specs.inner.Defining.{with_definition}
 use Rattle.rb_names.specs.Definitions.{defined_twice, tables_of, type_names}
 use Rattle.rb_names.specs.Numbering.{and_then}
 use Rattle.rb_names.specs.Programs.{no_twice}
@@ -32,7 +32,7 @@ skip-other : {A : Type 0} (t rest : Table A) (n q : Name) (x : A) → bytes_eq q
 skip-other [] rest n q x e = rw e refl
 skip-other (d ∷ t) rest n q x e = ap (λ o. cond (bytes_eq q d.0) (Some d.1) o) (skip-other t rest n q x e)
 
-defined-same : {A : Type 0} (t rest : Table A) (n : Name) (x : A) → MeanTheSame (defined t n x (meaning t n) ++ rest) (t ++ (n, x) ∷ rest)
+defined-same : {A : Type 0} (t rest : Table A) (n : Name) (x : A) → MeanTheSame (with_definition t n x (meaning t n) ++ rest) (t ++ (n, x) ∷ rest)
 defined-same {A} t rest n x q = by (meaning t n) refl
   where
     there : (y : A) → meaning t n ≡ Some y → (b : Bool) → bytes_eq q n ≡ b → meaning (t ++ rest) q ≡ meaning (t ++ (n, x) ∷ rest) q
@@ -41,11 +41,11 @@ defined-same {A} t rest n x q = by (meaning t n) refl
         found-first t rest q y known ∙ sym (found-first t ((n, x) ∷ rest) q y known)
     there y e false other = sym (skip-other t rest n q x other)
 
-    by : (o : Option A) → meaning t n ≡ o → meaning (defined t n x o ++ rest) q ≡ meaning (t ++ (n, x) ∷ rest) q
+    by : (o : Option A) → meaning t n ≡ o → meaning (with_definition t n x o ++ rest) q ≡ meaning (t ++ (n, x) ∷ rest) q
     by None e = ap (λ u. meaning u q) (append_assoc t ((n, x) ∷ []) rest)
     by (Some y) e = there y e (bytes_eq q n) refl
 
-pub left-added : (old new : Table Auto) (n : Name) (kind : Auto) (rest : Table Auto) → new ≡ defined old n kind (meaning old n) → MeanTheSame (new ++ rest) (old ++ (n, kind) ∷ rest)
+pub left-added : (old new : Table Auto) (n : Name) (kind : Auto) (rest : Table Auto) → new ≡ with_definition old n kind (meaning old n) → MeanTheSame (new ++ rest) (old ++ (n, kind) ∷ rest)
 left-added old new n kind rest is q = ap (λ t. meaning (t ++ rest) q) is ∙ defined-same old rest n kind q
 
 -- Items, one after another -----------------------------------------------------------------------

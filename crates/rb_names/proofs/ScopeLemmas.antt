@@ -1,5 +1,6 @@
 -- Scopes kept with the innermost binders last, and lookups in one list behind another.
 use Rattle.std.proofs.Common.{◌≡◌, Bool, true, false, cond, Option, Some, None, MatchOption, List, [], ◌∷◌, ◌++◌, drop, reverse, refl, sym, ap, ◌∙◌}
+use Rattle.std.specs.Option.{option_or}
 use Rattle.std.specs.Map.{lookup}
 use Rattle.std.proofs.lemmas.List.{reverse-append}
 
@@ -10,20 +11,16 @@ left-view items new now (Some x) is seen = sym (ap (drop 1) (sym seen ∙ ap rev
 left-view items new now None is seen = ap reverse is.1 ∙ ap (drop 1) (sym (ap reverse is.0) ∙ seen)
 
 -- the first, or else the second
-abbrev pub or_else : {A : Type 0} → Option A → Option A → Option A
-or_else None b = b
-or_else (Some a) b = Some a
-
 module _ {K A : Type 0} (test : K → Bool) where
-  pub lookup-append : (xs ys : List (K × A)) → lookup test (xs ++ ys) ≡ or_else (lookup test xs) (lookup test ys)
+  pub lookup-append : (xs ys : List (K × A)) → lookup test (xs ++ ys) ≡ option_or (lookup test xs) (lookup test ys)
   lookup-append [] ys = refl
   lookup-append (x ∷ xs) ys = by (test x.0) (lookup-append xs ys)
     where
-      by : (b : Bool) → lookup test (xs ++ ys) ≡ or_else (lookup test xs) (lookup test ys)
-          → cond b (Some x.1) (lookup test (xs ++ ys)) ≡ or_else (cond b (Some x.1) (lookup test xs)) (lookup test ys)
+      by : (b : Bool) → lookup test (xs ++ ys) ≡ option_or (lookup test xs) (lookup test ys)
+          → cond b (Some x.1) (lookup test (xs ++ ys)) ≡ option_or (cond b (Some x.1) (lookup test xs)) (lookup test ys)
       by true rest = refl
       by false rest = rest
 
-pub or_else-none : {A : Type 0} (o : Option A) → or_else o None ≡ o
-or_else-none None = refl
-or_else-none (Some a) = refl
+pub option_or-none : {A : Type 0} (o : Option A) → option_or o None ≡ o
+option_or-none None = refl
+option_or-none (Some a) = refl

@@ -4,7 +4,7 @@ use Rattle.std.proofs.lemmas.List.{map-append}
 use Rattle.std.specs.Map.{lookup}
 use Rattle.std.specs.Str.{bytes_eq}
 use Rattle.rb_names.specs.Tables.{Name, Table, meaning}
-use Rattle.rb_names.specs.inner.Defining.{defined}
+use Rattle.rb_names.specs.inner.Defining.{with_definition}
 
 -- a lookup by the names of the keys
 pub meaning-entries : {K A : Type 0} (name_of : K → Name) (q : Name) (test : K → Bool) → ((k : K) → test k ≡ bytes_eq q (name_of k))
@@ -13,11 +13,11 @@ meaning-entries name_of q test same [] = refl
 meaning-entries name_of q test same (e ∷ es) = rw (same e.0, meaning-entries name_of q test same es) refl
 
 -- a name that is defined leaves the table as it is
-pub defined-before : {A : Type 0} (t : Table A) (q : Name) (x : A) (before : Option A) → is_some before ≡ true → t ≡ defined t q x before
+pub defined-before : {A : Type 0} (t : Table A) (q : Name) (x : A) (before : Option A) → is_some before ≡ true → t ≡ with_definition t q x before
 defined-before t q x (Some a) h = refl
 defined-before t q x None h = cc
 
-pub defined-new : {A : Type 0} (t : Table A) (q : Name) (x : A) (before : Option A) → is_some before ≡ false → defined t q x before ≡ t ++ (q, x) ∷ []
+pub defined-new : {A : Type 0} (t : Table A) (q : Name) (x : A) (before : Option A) → is_some before ≡ false → with_definition t q x before ≡ t ++ (q, x) ∷ []
 defined-new t q x (Some a) h = cc
 defined-new t q x None h = refl
 

@@ -15,8 +15,8 @@ use Rattle.rb_names.specs.declared.fault.NameFault.{NameFault}
 use Rattle.rb_names.specs.declared.tables.Tables.{Tables}
 use Rattle.rb_names.specs.declared.tables.Defining.{Defining}
 use Rattle.rb_names.specs.Tables.{Name, Table, meaning}
-use Rattle.rb_names.specs.inner.Defining.{defined, AreKnown, AreAdded, IsAgain, made_again, with_rest}
-use Rattle.rb_names.specs.Definitions.{Definition, OfConstructor, first_again, constructor_definition, definitions, constructors_from, constructors_of, numbered_from, type_names, types_in, function_names, tables_of}
+use Rattle.rb_names.specs.inner.Defining.{with_definition, AreKnown, AreAdded, IsAgain, repeated_name, with_rest}
+use Rattle.rb_names.specs.Definitions.{Definition, OfConstructor, first_again, constructor_definition, definitions, constructors_from, constructors_of, numbered_names, type_names, types_in, function_names, tables_of}
 use Rattle.rb_names.proofs.DefiningLemmas.{any-append, is_some-append, or-false, constructor-added, made-again}
 use Rattle.rb_names.proofs.ListLemmas.{drop-here}
 use Rattle.rb_names.specs.Numbering.{Resolved, and_then}
@@ -26,10 +26,10 @@ use Rattle.rb_names.specs.Answers.{AnswersNumbering}
 pub with_rest-end : (t : Tables) → with_rest t [] ≡ t
 with_rest-end t = rw (append-nil t.types, append-nil t.constructors, append-nil t.functions) refl
 
-table-rest : (t : Table ℕ) (n : Name) (names : List Name) → (t ++ (n, length t) ∷ []) ++ numbered_from (length (t ++ (n, length t) ∷ [])) names ≡ t ++ numbered_from (length t) (n ∷ names)
+table-rest : (t : Table ℕ) (n : Name) (names : List Name) → (t ++ (n, length t) ∷ []) ++ numbered_names (length (t ++ (n, length t) ∷ [])) names ≡ t ++ numbered_names (length t) (n ∷ names)
 table-rest t n names =
     let long : length (t ++ (n, length t) ∷ []) ≡ suc (length t) = length-append t ((n, length t) ∷ []) ∙ add-one (length t) in
-    ap (λ k. (t ++ (n, length t) ∷ []) ++ numbered_from k names) long ∙ append_assoc t ((n, length t) ∷ []) (numbered_from (suc (length t)) names)
+    ap (λ k. (t ++ (n, length t) ∷ []) ++ numbered_names k names) long ∙ append_assoc t ((n, length t) ∷ []) (numbered_names (suc (length t)) names)
 
 module _ (t after : Tables) where
   pub type-rest : (tree : TypeTree) (ty : ℕ) → ty ≡ length t.types → after.types ≡ t.types ++ (tree.name.text, ty) ∷ []
@@ -56,7 +56,7 @@ or-true true = refl
 or-true false = refl
 
 -- the names of a table with one more definition
-pub defined-names : {A : Type 0} (t : Table A) (q n : Name) (x : A) → is_some (meaning (defined t n x (meaning t n)) q) ≡ (is_some (meaning t q) || bytes_eq q n)
+pub defined-names : {A : Type 0} (t : Table A) (q n : Name) (x : A) → is_some (meaning (with_definition t n x (meaning t n)) q) ≡ (is_some (meaning t q) || bytes_eq q n)
 defined-names {A} t q n x = by (meaning t n) refl
   where
     alone : (b : Bool) → is_some (cond b (Some x) None) ≡ b
@@ -69,7 +69,7 @@ defined-names {A} t q n x = by (meaning t n) refl
         known ∙ sym (or-true (is_some (meaning t q)))
     there y e false same = sym (or-false (is_some (meaning t q)))
 
-    by : (o : Option A) → meaning t n ≡ o → is_some (meaning (defined t n x o) q) ≡ (is_some (meaning t q) || bytes_eq q n)
+    by : (o : Option A) → meaning t n ≡ o → is_some (meaning (with_definition t n x o) q) ≡ (is_some (meaning t q) || bytes_eq q n)
     by None e = is_some-append q t ((n, x) ∷ []) ∙ ap (λ b. is_some (meaning t q) || b) (alone (bytes_eq q n))
     by (Some y) e = there y e (bytes_eq q n) refl
 
@@ -122,7 +122,7 @@ module _ (cons : List ConTree) (i : ℕ) (con : ConTree) (lt : i < length cons) 
       })
 
   pub constructor-again : (before all : List Definition) (known : Defining) (fault : NameFault)
-      → AnswersNumbering {A = Unit {0}} (Err fault) (no_twice (made_again (is_some (meaning known.tables.constructors con.name.text)) con.name))
+      → AnswersNumbering {A = Unit {0}} (Err fault) (no_twice (repeated_name (is_some (meaning known.tables.constructors con.name.text)) con.name))
       → Passed before all (map constructor_definition (drop i cons)) known → IsAgain before all fault
   constructor-again before all known fault h p rest =
       subst (λ (o : Option NameTree). AnswersNumbering {A = Unit {0}} (Err fault) (no_twice o))
@@ -155,7 +155,7 @@ names-next items i item name old new lt is h =
     ∙ any-append (bytes_eq name) (type_names (item ∷ [])) (type_names rest) in
     rw (add-one i) (ap (λ b. b || list_any (bytes_eq name) (type_names rest)) h ∙ or-assoc old _ _ ∙ ap (λ b. old || b) (sym here))
 
-pub name-added : {A : Type 0} (t new : Table A) (n q : Name) (x : A) → new ≡ defined t n x (meaning t n) → is_some (meaning new q) ≡ (is_some (meaning t q) || (bytes_eq q n || false))
+pub name-added : {A : Type 0} (t new : Table A) (n q : Name) (x : A) → new ≡ with_definition t n x (meaning t n) → is_some (meaning new q) ≡ (is_some (meaning t q) || (bytes_eq q n || false))
 name-added t new n q x is = ap (λ u. is_some (meaning u q)) is ∙ defined-names t q n x ∙ ap (λ b. is_some (meaning t q) || b) (sym (or-false (bytes_eq q n)))
 
 module _ (items : List ItemTree) (i : ℕ) (item : ItemTree) (lt : i < length items) (is : item ≡ get_or items i item) where

@@ -1,5 +1,5 @@
 -- Expressions of a file that was read are well numbered, and the numbers of their matches rise.
-use Rattle.std.proofs.Common.{◌≡◌, ℕ, suc, ◌+◌, ◌^◌, ◌<◌, ◌≤◌, List, [], ◌∷◌, ◌++◌, map, length, Bool, true, false, ◌&&◌, ◌||◌, nat_lt, nat_eq, if◌then◌else◌, cond, Option, Some, Ok, refl, sym, ◌∙◌, ap, subst, arith}
+use Rattle.std.proofs.Common.{◌≡◌, ℕ, suc, ◌+◌, ◌^◌, ◌<◌, ◌≤◌, List, [], ◌∷◌, ◌++◌, map, length, Bool, true, false, ◌||◌, nat_lt, nat_eq, if◌then◌else◌, cond, Option, Some, Ok, refl, sym, ◌∙◌, ap, subst, arith}
 use Rattle.std.proofs.lemmas.Bool.{and_from, or_right}
 use Rattle.std.proofs.lemmas.Grind.{common_steps}
 use Rattle.std.proofs.lemmas.List.Folds.{list_any-append}
@@ -19,8 +19,8 @@ use Rattle.rb_core.specs.declared.expression.Expr.TheOpen as E
 use Rattle.rb_core.specs.declared.expression.Expr.TheOpen.{Expr-F}
 use Rattle.rb_core.specs.declared.expression.Expr.TheFolds.{fold-Clause, fold-roll-Expr, fold_out-Clause}
 use Rattle.rb_core.specs.Layouts.{is_short}
-use Rattle.rb_core.specs.WellNumbered as well
-use Rattle.rb_core.specs.WellNumbered.{Within, is_constructor, all_within, all_tokens, expression_step, expression_is_numbered, tokens_step, body_tokens, match_tokens, pattern_is_numbered, vars_of}
+use Rattle.rb_core.specs.WellNumbered.{is_constructor, all_within, all_tokens, expression_is_numbered, tokens_step, body_tokens, match_tokens, vars_of}
+use Rattle.rb_core.proofs.NumberedForms.{clause_numbered, clause_numbered-is, numbered-is}
 use Rattle.rb_syntax.specs.declared.token.Token.{Token}
 use Rattle.rb_syntax.specs.declared.token.Token.TheVariants as tok
 use Rattle.rb_syntax.specs.declared.token.ReservedWord.TheVariants as word
@@ -115,23 +115,11 @@ binders-only p name e = by_test (named_so name (binders_of p)) refl where
   by_test false h = h
 
 module _ (types : List DataDecl) (funs : List Fun) where
-  abbrev fine : Expr → Within
-  fine = expression_is_numbered types funs
-
-  abbrev clause_fine : Clause → Within
-  clause_fine = fold-Clause Within Within (expression_step types funs) (well.numbered_clause_step types)
-
   abbrev clause_tokens : Clause → List ℕ
   clause_tokens = fold-Clause (List ℕ) (List ℕ) tokens_step body_tokens
 
-  fine-is : (e : Expr-F Expr Clause) (xs : List ℕ) → fine (C.roll-Expr e) xs ≡ expression_step types funs (C.map-Expr Expr Clause Within Within fine clause_fine e) xs
-  fine-is e xs = ap (λ (w : Within). w xs) (fold-roll-Expr Within Within (expression_step types funs) (well.numbered_clause_step types) e)
-
   tokens-are : (e : Expr-F Expr Clause) → match_tokens (C.roll-Expr e) ≡ tokens_step (C.map-Expr Expr Clause (List ℕ) (List ℕ) match_tokens clause_tokens e)
   tokens-are e = fold-roll-Expr (List ℕ) (List ℕ) tokens_step body_tokens e
-
-  clause-fine-is : (c : Clause) (xs : List ℕ) → clause_fine c xs ≡ (pattern_is_numbered types c.pat && fine c.body (vars_of c.pat ++ xs))
-  clause-fine-is c xs = ap (λ (w : Within). w xs) (fold_out-Clause Within Within (expression_step types funs) (well.numbered_clause_step types) c)
 
   clause-tokens-are : (c : Clause) → clause_tokens c ≡ match_tokens c.body
   clause-tokens-are c = fold_out-Clause (List ℕ) (List ℕ) tokens_step body_tokens c
@@ -162,7 +150,7 @@ module _ (total : ℕ) (small : total < 2 ^ 32) (types : List DataDecl) (funs : 
     right : Right total rest
     count : length es + length (tokens_in rest) ≤ length (tokens_in ws)
     well : (scope : Scope) (next : ℕ) (rs : Numbered (List Expr)) (xs : List ℕ) → in_turn (map (numbered_expression t) es) scope next ≡ Ok rs → Covers scope xs
-        → (length rs.what ≡ length es) × (all_within (map (fine types funs) rs.what) xs ≡ true) × Rise (place total ws) (place total rest) (all_tokens (map match_tokens rs.what))
+        → (length rs.what ≡ length es) × (all_within (map (expression_is_numbered types funs) rs.what) xs ≡ true) × Rise (place total ws) (place total rest) (all_tokens (map match_tokens rs.what))
 
   two-found : {A : Type 0} (p : Numbering A) (ps : List (Numbering A)) (scope : Scope) (next : ℕ) (all : Numbered (List A)) → in_turn (p ∷ ps) scope next ≡ Ok all
       → (x : Numbered A) × (xs : Numbered (List A)) × (p scope next ≡ Ok x) × (in_turn ps scope x.next ≡ Ok xs) × (x.what ∷ xs.what ≡ all.what)
@@ -243,7 +231,7 @@ module _ (total : ℕ) (small : total < 2 ^ 32) (types : List DataDecl) (funs : 
         shorter = short;
         well = λ scope next q xs e c.
             let same : C.Num at n ≡ q.what = ap (λ p. p.what) (ok-is _ q (sym (numbering.expr-Num t at n scope next) ∙ e)) in
-            rw (← same) (record { numbered = fine-is types funs (E.Num at n) xs; rises = no-match (at_expr l (X.Num at n) rest) rest (C.Num at n) (omega (arith, short)) (tokens-are types funs (E.Num at n)) });
+            rw (← same) (record { numbered = numbered-is types funs (E.Num at n) xs; rises = no-match (at_expr l (X.Num at n) rest) rest (C.Num at n) (omega (arith, short)) (tokens-are types funs (E.Num at n)) });
       }
 
   var-well : (at : ℕ) (v : NameTree) → Well (X.Var at v)
@@ -257,7 +245,7 @@ module _ (total : ℕ) (small : total < 2 ^ 32) (types : List DataDecl) (funs : 
             let f = then-ok (name_found v (meaning scope v.text)) _ q (sym (numbering.expr-Var t at v scope next) ∙ e) in
             let same : C.Var at f.0 ≡ q.what = ap (λ p. p.what) (ok-is _ q f.2) in
             rw (← same) (record {
-              numbered = fine-is types funs (E.Var at f.0) xs ∙ c v.text f.0 (known-ok v (meaning scope v.text) f.0 f.1);
+              numbered = numbered-is types funs (E.Var at f.0) xs ∙ c v.text f.0 (known-ok v (meaning scope v.text) f.0 f.1);
               rises = no-match (at_expr l (X.Var at v) rest) rest (C.Var at f.0) (omega (arith, short)) (tokens-are types funs (E.Var at f.0));
             });
       }
@@ -275,9 +263,9 @@ module _ (total : ℕ) (small : total < 2 ^ 32) (types : List DataDecl) (funs : 
       ∙ ap (λ ws. node l ∷ number at ∷ number x.at ∷ token (tok.Upper x.text) ∷ fields_written ws rest) (at_level-map expr_written (suc l) es)
 
   short-args : (es : List ExprTree) (ws rest : List Written) (xs : List Expr) → length xs ≡ length es → length es + length (tokens_in rest) ≤ length (tokens_in ws) → length (tokens_in ws) ≤ total
-      → is_short (map (fine types funs) xs) ≡ true
-  short-args es ws rest xs e h k = short-list total small types t known_con (map (fine types funs) xs) (length es)
-      (length-map total small types t known_con (fine types funs) xs ∙ e) (omega (arith, h, k))
+      → is_short (map (expression_is_numbered types funs) xs) ≡ true
+  short-args es ws rest xs e h k = short-list total small types t known_con (map (expression_is_numbered types funs) xs) (length es)
+      (length-map total small types t known_con (expression_is_numbered types funs) xs ∙ e) (omega (arith, h, k))
 
   call-well : (at : ℕ) (x : NameTree) (es : List ExprTree) → Each Well es → Well (X.Call at x es)
   unfolding C.roll-Expr denote.Hole.Carrier.roll
@@ -295,7 +283,7 @@ module _ (total : ℕ) (small : total < 2 ^ 32) (types : List DataDecl) (funs : 
             let v = a.well scope next g.0 xs g.1 c in
             let same : C.Call at f.0 g.0.what ≡ q.what = ap (λ p. p.what) (ok-is _ q g.2) in
             rw (← same) (record {
-              numbered = fine-is types funs (E.Call at f.0 g.0.what) xs ∙ and_from _ _ (known_fun x.text f.0 (known-ok x (meaning t.functions x.text) f.0 f.1))
+              numbered = numbered-is types funs (E.Call at f.0 g.0.what) xs ∙ and_from _ _ (known_fun x.text f.0 (known-ok x (meaning t.functions x.text) f.0 f.1))
                   (and_from _ _ (short-args es vs close g.0.what v.0 a.count (omega (arith, s.fits))) v.1);
               rises = rw (call-written at x es l rest, tokens-are types funs (E.Call at f.0 g.0.what))
                   (rise-wider _ _ _ _ (all_tokens (map match_tokens g.0.what)) (omega arith) (omega arith) v.2);
@@ -317,7 +305,7 @@ module _ (total : ℕ) (small : total < 2 ^ 32) (types : List DataDecl) (funs : 
             let v = a.well scope next g.0 xs g.1 c in
             let same : C.Build at f.0 g.0.what ≡ q.what = ap (λ p. p.what) (ok-is _ q g.2) in
             rw (← same) (record {
-              numbered = fine-is types funs (E.Build at f.0 g.0.what) xs ∙ and_from _ _ (known_con x.text f.0 (known-ok x (meaning t.constructors x.text) f.0 f.1))
+              numbered = numbered-is types funs (E.Build at f.0 g.0.what) xs ∙ and_from _ _ (known_con x.text f.0 (known-ok x (meaning t.constructors x.text) f.0 f.1))
                   (and_from _ _ (short-args es vs rest g.0.what v.0 a.count (omega (arith, s.fits))) v.1);
               rises = rw (build-written at x es l rest, tokens-are types funs (E.Build at f.0 g.0.what))
                   (rise-wider _ _ _ _ (all_tokens (map match_tokens g.0.what)) (omega arith) (omega arith) v.2);
@@ -342,7 +330,7 @@ module _ (total : ℕ) (small : total < 2 ^ 32) (types : List DataDecl) (funs : 
             let w = g.well scope i.0.next j.0 xs j.1 c in
             let same : C.Binary at o i.0.what j.0.what ≡ q.what = ap (λ p. p.what) (ok-is _ q j.2) in
             rw (← same) (record {
-              numbered = fine-is types funs (E.Binary at o i.0.what j.0.what) xs ∙ and_from _ _ v.numbered w.numbered;
+              numbered = numbered-is types funs (E.Binary at o i.0.what j.0.what) xs ∙ and_from _ _ v.numbered w.numbered;
               rises = rw (spelled.expr-Binary at o a b l rest, tokens-are types funs (E.Binary at o i.0.what j.0.what))
                   (rise-append _ (place total ws) _ (match_tokens i.0.what) (match_tokens j.0.what)
                   (rise-wider _ _ _ _ (match_tokens i.0.what) (omega arith) (omega arith) v.rises)
@@ -366,7 +354,7 @@ module _ (total : ℕ) (small : total < 2 ^ 32) (types : List DataDecl) (funs : 
             let v = f.well scope next i.0 xs i.1 c in
             let same : C.To at bits i.0.what ≡ q.what = ap (λ p. p.what) (ok-is _ q i.2) in
             rw (← same) (record {
-              numbered = fine-is types funs (E.To at bits i.0.what) xs ∙ and_from _ _ (k.well (core_ty.Int bits) refl) v.numbered;
+              numbered = numbered-is types funs (E.To at bits i.0.what) xs ∙ and_from _ _ (k.well (core_ty.Int bits) refl) v.numbered;
               rises = rw (spelled.expr-To at bits a l rest, tokens-are types funs (E.To at bits i.0.what))
                   (rise-wider _ _ _ _ (match_tokens i.0.what) (omega (arith, k.shorter)) (omega arith) v.rises);
             });
@@ -400,7 +388,7 @@ module _ (total : ℕ) (small : total < 2 ^ 32) (types : List DataDecl) (funs : 
             let w = g.well ((x.text, next) ∷ scope) i.0.next j.0 (next ∷ xs) j.1 (covers-one scope xs x.text next c) in
             let same : C.Let at next h.0 i.0.what j.0.what ≡ q.what = ap (λ p. p.what) (ok-is _ q j.2) in
             rw (← same) (record {
-              numbered = fine-is types funs (E.Let at next h.0 i.0.what j.0.what) xs ∙ and_from _ _ (k.well h.0 h.1) (and_from _ _ v.numbered w.numbered);
+              numbered = numbered-is types funs (E.Let at next h.0 i.0.what j.0.what) xs ∙ and_from _ _ (k.well h.0 h.1) (and_from _ _ v.numbered w.numbered);
               rises = rw (spelled.expr-Let at x u a b l rest, tokens-are types funs (E.Let at next h.0 i.0.what j.0.what))
                   (rise-append _ (place total ws) _ (match_tokens i.0.what) (match_tokens j.0.what)
                   (rise-wider _ _ _ _ (match_tokens i.0.what) (omega (arith, k.shorter)) (omega arith) v.rises) w.rises);
@@ -411,7 +399,7 @@ module _ (total : ℕ) (small : total < 2 ^ 32) (types : List DataDecl) (funs : 
     right : Right total rest
     shorter : length (tokens_in rest) < length (tokens_in (clause_written c l rest))
     well : (scope : Scope) (next : ℕ) (d : Numbered Clause) (xs : List ℕ) → numbered_clause t c scope next ≡ Ok d → Covers scope xs
-        → (clause_fine types funs d.what xs ≡ true) × Rise (place total (clause_written c l rest)) (place total rest) (clause_tokens types funs d.what)
+        → (clause_numbered types funs d.what xs ≡ true) × Rise (place total (clause_written c l rest)) (place total rest) (clause_tokens types funs d.what)
 
   covers-inside : (p : PatTree) (q : Pat) (next : ℕ) (scope : Scope) (xs : List ℕ)
       → ((name : Name) (x : ℕ) → named_so name (names_in p) ≡ true → meaning (inside (binders_of p) next scope) name ≡ Some x → list_any (nat_eq x) (vars_of q) ≡ true)
@@ -439,7 +427,7 @@ module _ (total : ℕ) (small : total < 2 ^ 32) (types : List DataDecl) (funs : 
             let made : Clause = record { pat = i.0; body = j.0.what } in
             let same : made ≡ d.what = ap (λ q. q.what) (ok-is _ d j.2) in
             rw (← same) (
-              clause-fine-is types funs made xs ∙ and_from _ _ w.numbered v.numbered,
+              clause_numbered-is types funs made xs ∙ and_from _ _ w.numbered v.numbered,
               rw (spelled.clause-is c l rest, clause-tokens-are types funs made) (rise-wider _ _ _ _ (match_tokens j.0.what) (omega (arith, p.shorter)) (omega arith) v.rises),
             );
       }
@@ -448,7 +436,7 @@ module _ (total : ℕ) (small : total < 2 ^ 32) (types : List DataDecl) (funs : 
     right : Right total rest
     count : length cs + length (tokens_in rest) ≤ length (tokens_in ws)
     well : (scope : Scope) (next : ℕ) (ds : Numbered (List Clause)) (xs : List ℕ) → in_turn (map (numbered_clause t) cs) scope next ≡ Ok ds → Covers scope xs
-        → (length ds.what ≡ length cs) × (all_within (map (clause_fine types funs) ds.what) xs ≡ true) × Rise (place total ws) (place total rest) (all_tokens (map (clause_tokens types funs) ds.what))
+        → (length ds.what ≡ length cs) × (all_within (map (clause_numbered types funs) ds.what) xs ≡ true) × Rise (place total ws) (place total rest) (all_tokens (map (clause_tokens types funs) ds.what))
 
   abbrev at_clause : ℕ → ClauseTree → Writing
   at_clause l c rest = clause_written c l rest
@@ -523,11 +511,11 @@ module _ (total : ℕ) (small : total < 2 ^ 32) (types : List DataDecl) (funs : 
             let v = f.well scope next i.0 xs i.1 c in
             let w = g.well scope i.0.next j.0 xs j.1 c in
             let same : C.Match at i.0.what j.0.what ≡ q.what = ap (λ p. p.what) (ok-is _ q j.2) in
-            let many : length (map (clause_fine types funs) j.0.what) ≡ length cs = length-map total small types t known_con (clause_fine types funs) j.0.what ∙ w.0 in
-            let some_there : nat_lt 0 (length (map (clause_fine types funs) j.0.what)) ≡ true = let k : 0 < length (map (clause_fine types funs) j.0.what) = omega (arith, many, some.0) in grind (arith, common_steps, k) in
+            let many : length (map (clause_numbered types funs) j.0.what) ≡ length cs = length-map total small types t known_con (clause_numbered types funs) j.0.what ∙ w.0 in
+            let some_there : nat_lt 0 (length (map (clause_numbered types funs) j.0.what)) ≡ true = let k : 0 < length (map (clause_numbered types funs) j.0.what) = omega (arith, many, some.0) in grind (arith, common_steps, k) in
             rw (← same) (record {
-              numbered = fine-is types funs (E.Match at i.0.what j.0.what) xs ∙ and_from _ _ v.numbered (and_from _ _ some_there
-                  (and_from _ _ (short-list total small types t known_con (map (clause_fine types funs) j.0.what) (length cs) many (omega (arith, g.count, f.shorter, s.fits))) w.1));
+              numbered = numbered-is types funs (E.Match at i.0.what j.0.what) xs ∙ and_from _ _ v.numbered (and_from _ _ some_there
+                  (and_from _ _ (short-list total small types t known_con (map (clause_numbered types funs) j.0.what) (length cs) many (omega (arith, g.count, f.shorter, s.fits))) w.1));
               rises = rw (match-written at a cs l rest, tokens-are types funs (E.Match at i.0.what j.0.what)) (
                 omega (arith, s.numbers.0),
                 rise-append _ (place total ws) _ (match_tokens i.0.what) (all_tokens (map (clause_tokens types funs) j.0.what))

@@ -24,7 +24,7 @@ use Rattle.rb_names.specs.declared.tables.Tables.{Tables}
 use Rattle.rb_names.specs.declared.items.Items.{Items}
 use Rattle.rb_names.specs.Tables.{Name, Table, meaning}
 use Rattle.rb_names.specs.Scopes.{param_binders, inside}
-use Rattle.rb_names.specs.Definitions.{TableKind, OfType, OfConstructor, OfFunction, OfLayout, Definition, same_kind, same_definition, constructor_definition, layout_definition, definitions, first_again, defined_twice, types_in, functions_in, numbered_from, constructors_from, constructors_of, type_names, function_names, tables_of}
+use Rattle.rb_names.specs.Definitions.{TableKind, OfType, OfConstructor, OfFunction, OfLayout, Definition, same_kind, same_definition, constructor_definition, layout_definition, definitions, first_again, defined_twice, types_in, functions_in, numbered_names, constructors_from, constructors_of, type_names, function_names, tables_of}
 use Rattle.rb_names.specs.Numbering.{Resolved, and_then, all_of, name_found, numbered_type, numbered_constructor, numbered_data, numbered_split, numbered_layout, numbered_function, numbered_param, numbered_expression}
 use Rattle.rb_names.specs.Programs.{items_with_type, with_layout, with_function, numbered_items, main_number}
 use Rattle.rb_names.specs.Completing.{left_in, type_numbers}
@@ -121,12 +121,12 @@ module _ (t : Tables) where
       rw (← ok-is _ x c.2) refl
 
 -- What is found in tables.
-number-below : (k : ℕ) (names : List Name) (name : Name) (n : ℕ) → meaning (numbered_from k names) name ≡ Some n → n < k + length names
+number-below : (k : ℕ) (names : List Name) (name : Name) (n : ℕ) → meaning (numbered_names k names) name ≡ Some n → n < k + length names
 number-below k [] name n e = absurd cc
 number-below k (x ∷ xs) name n e = by (bytes_eq name x) e (number-below (suc k) xs name n)
   where
-    by : (b : Bool) → cond b (Some k) (meaning (numbered_from (suc k) xs) name) ≡ Some n
-        → (meaning (numbered_from (suc k) xs) name ≡ Some n → n < suc k + length xs) → n < k + length (x ∷ xs)
+    by : (b : Bool) → cond b (Some k) (meaning (numbered_names (suc k) xs) name) ≡ Some n
+        → (meaning (numbered_names (suc k) xs) name ≡ Some n → n < suc k + length xs) → n < k + length (x ∷ xs)
     by true e later = let same : k ≡ n = cc in omega (arith, same)
     by false e later = omega (arith, later e)
 
@@ -362,22 +362,22 @@ module _ (t : Tables) (types : List Name)
       rw (layout-named types name (defs types items) (named name.text a.0 is), is)
       (apart-inside _ (map (λ l. l.ty) all.layouts) (type_numbers t.types (left_in items)) name.text a.0 is (apart items all a.2))
 
-number-named : (k : ℕ) (names : List Name) (name : Name) (n : ℕ) → meaning (numbered_from k names) name ≡ Some n → (k ≤ n) × (list_any (bytes_eq name) names ≡ true)
+number-named : (k : ℕ) (names : List Name) (name : Name) (n : ℕ) → meaning (numbered_names k names) name ≡ Some n → (k ≤ n) × (list_any (bytes_eq name) names ≡ true)
 number-named k [] name n e = absurd cc
 number-named k (x ∷ xs) name n e = by (bytes_eq name x) e (number-named (suc k) xs name n)
   where
-    by : (b : Bool) → cond b (Some k) (meaning (numbered_from (suc k) xs) name) ≡ Some n
-        → (meaning (numbered_from (suc k) xs) name ≡ Some n → (suc k ≤ n) × (list_any (bytes_eq name) xs ≡ true)) → (k ≤ n) × ((b || list_any (bytes_eq name) xs) ≡ true)
+    by : (b : Bool) → cond b (Some k) (meaning (numbered_names (suc k) xs) name) ≡ Some n
+        → (meaning (numbered_names (suc k) xs) name ≡ Some n → (suc k ≤ n) × (list_any (bytes_eq name) xs ≡ true)) → (k ≤ n) × ((b || list_any (bytes_eq name) xs) ≡ true)
     by true e later = let same : k ≡ n = cc in (omega (arith, same), refl)
     by false e later = let f = later e in (omega (arith, f.0), f.1)
 
-number-one : (k : ℕ) (names : List Name) (a b : Name) (n : ℕ) → meaning (numbered_from k names) a ≡ Some n → meaning (numbered_from k names) b ≡ Some n → bytes_eq a b ≡ true
+number-one : (k : ℕ) (names : List Name) (a b : Name) (n : ℕ) → meaning (numbered_names k names) a ≡ Some n → meaning (numbered_names k names) b ≡ Some n → bytes_eq a b ≡ true
 number-one k [] a b n e f = absurd cc
 number-one k (x ∷ xs) a b n e f = by (bytes_eq a x) (bytes_eq b x) refl refl e f (number-one (suc k) xs a b n)
   where
     by : (p q : Bool) → bytes_eq a x ≡ p → bytes_eq b x ≡ q
-        → cond p (Some k) (meaning (numbered_from (suc k) xs) a) ≡ Some n → cond q (Some k) (meaning (numbered_from (suc k) xs) b) ≡ Some n
-        → (meaning (numbered_from (suc k) xs) a ≡ Some n → meaning (numbered_from (suc k) xs) b ≡ Some n → bytes_eq a b ≡ true) → bytes_eq a b ≡ true
+        → cond p (Some k) (meaning (numbered_names (suc k) xs) a) ≡ Some n → cond q (Some k) (meaning (numbered_names (suc k) xs) b) ≡ Some n
+        → (meaning (numbered_names (suc k) xs) a ≡ Some n → meaning (numbered_names (suc k) xs) b ≡ Some n → bytes_eq a b ≡ true) → bytes_eq a b ≡ true
     by true true p q e f later = (bytes_decides a b).1 ((bytes_decides a x).0 p ∙ sym ((bytes_decides b x).0 q))
     by true false p q e f later = let same : k ≡ n = cc in absurd (omega (arith, same, (number-named (suc k) xs b n f).0))
     by false true p q e f later = let same : k ≡ n = cc in absurd (omega (arith, same, (number-named (suc k) xs a n e).0))

@@ -11,7 +11,7 @@ use Rattle.rb_syntax.specs.declared.tree.FileTree.{FileTree}
 use Rattle.rb_auto.specs.declared.fault.AutoFault.{AutoFault}
 use Rattle.rb_auto.specs.declared.fault.AutoFault.TheVariants.{Memory}
 use Rattle.rb_auto.specs.Answers.{Derives, IsDerivedAnswer}
-use Rattle.rb_auto.specs.Completed.{Completes, completed}
+use Rattle.rb_auto.specs.Completed.{Completes, completed_program}
 use Rattle.rb_names.specs.declared.complete.Completed.{Completed}
 use Rattle.rb_names.specs.Tables.{Table, meaning}
 use Rattle.rb_names.specs.Definitions.{tables_of, type_names}
@@ -72,7 +72,7 @@ first_refusal (Err e ∷ rs) = Some e
 pub record IsCompleted (file : FileTree) (p : Program) (c : Completed) : Type 0 where
   pub answers : List Derives
   pub are_derived : AreDerived p (kinds_of file) (left_types file) answers
-  pub program : c.program ≡ completed p (layouts_in answers)
+  pub program : c.program ≡ completed_program p (layouts_in answers)
   pub refused : c.refused ≡ first_refusal answers
 
 -- c is program p with a derived layout for each type whose layout the file leaves to the compiler, none of which has
@@ -80,4 +80,4 @@ pub record IsCompleted (file : FileTree) (p : Program) (c : Completed) : Type 0 
 pub record IsCompletion (file : FileTree) (p : Program) (c : Completed) : Type 0 where
   pub derived : List LayoutDecl
   pub completes : Completes p (kinds_of file) derived
-  pub program : c.program ≡ completed p derived
+  pub program : c.program ≡ completed_program p derived

@@ -32,9 +32,9 @@ functions_in (top.Funs f ∷ items) = f ∷ functions_in items
 functions_in (top.Derived name a ∷ items) = functions_in items
 
 -- names, each with its number: n for the first, and one more for each next
-abbrev pub numbered_from : ℕ → List Name → Table ℕ
-numbered_from n [] = []
-numbered_from n (x ∷ xs) = (x, n) ∷ numbered_from (suc n) xs
+abbrev pub numbered_names : ℕ → List Name → Table ℕ
+numbered_names n [] = []
+numbered_names n (x ∷ xs) = (x, n) ∷ numbered_names (suc n) xs
 
 -- the constructors of the type with number ty by their names: each stands for that type and its number in it, where
 -- the first has the number con
@@ -59,9 +59,9 @@ function_names items = map (λ f. f.name.text) (functions_in items)
 -- that of their type.
 abbrev pub tables_of : List ItemTree → Tables
 tables_of items = record {
-  types = numbered_from 0 (type_names items);
+  types = numbered_names 0 (type_names items);
   constructors = constructors_of 0 (types_in items);
-  functions = numbered_from 0 (function_names items);
+  functions = numbered_names 0 (function_names items);
 }
 
 -- Twice -------------------------------------------------------------------------------------

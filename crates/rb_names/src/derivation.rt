@@ -4,8 +4,9 @@
 //! why a type gets no layout.
 
 ghost use Rattle.std.specs.Prelude.{◌≡◌, Some, IfOk, OnOk};
+ghost use Rattle.std.specs.Option.{option_or};
 ghost use Rattle.rb_auto.specs.Rooms.{AreTheRooms};
-ghost use Rattle.rb_names.specs.inner.Deriving.{IsAllDerived, IsNext, earlier_refusal};
+ghost use Rattle.rb_names.specs.inner.Deriving.{IsAllDerived, IsNext};
 
 use rb_auto::room::Room;
 use rb_auto::rooms::find_rooms;
@@ -27,7 +28,7 @@ impl Derived {
     // Keeps the refusal, if it is the first: a later one is dropped.
     fn refuse(&mut self, refusal: AutoFault)
         ensures layouts { self.new.layouts ≡ self.old.layouts }
-        ensures refused { self.new.refused ≡ earlier_refusal self.old.refused (Some refusal) }
+        ensures refused { self.new.refused ≡ option_or self.old.refused (Some refusal) }
     {
         if self.refused.is_none() {
             self.refused = Some(refusal);

@@ -5,11 +5,12 @@
 //! be want of memory.
 
 ghost use Rattle.std.specs.Prelude.{◌≡◌, ◌∷◌, map, OnOk};
+ghost use Rattle.rb_syntax.specs.declared.tree.ExprTree.TheOpen as expr;
 ghost use Rattle.rb_names.specs.inner.Parts.{AnswersFrom, numbered_clause};
-ghost use Rattle.rb_names.specs.Numbering.{in_turn, numbered_expression};
+ghost use Rattle.rb_names.specs.Numbering.{expr_step, in_turn, numbered_expression};
 ghost use Rattle.rb_names.specs.inner.Frames.{scope_of};
 
-use crate::fault::{NameFault, known};
+use crate::fault::{NameFault, known_or_fault};
 use crate::frame::fresh;
 use crate::pattern::{enter_pattern, number_pattern};
 use crate::scope::Scope;
@@ -18,7 +19,7 @@ use crate::types::number_type;
 use rb_core::boxed::Boxed;
 use rb_core::expression::{Clause, Expr};
 use rb_core::seq::Seq;
-use rb_syntax::tree::{ClauseTree, ExprTree};
+use rb_syntax::tree::{ClauseTree, ExprTree, NameTree, Op, TyTree};
 use std::alloc::Global;
 
 /// The expression of a tree within a scope, with numbers for its names. `next` is the number of the
@@ -42,42 +43,141 @@ pub fn number_expression<'a>(
     match tree {
         ExprTree::Num(at, n) => Ok(Expr::Num(*at, *n)),
         ExprTree::Var(at, name) => {
-            let var = known(alloc, name, scope.get(name.text.as_slice()))?;
+            let var = known_or_fault(alloc, name, scope.get(name.text.as_slice()))?;
             Ok(Expr::Var(*at, var))
         }
         ExprTree::Call(at, name, args) => {
-            let fun = known(alloc, name, tables.functions.get(name.text.as_slice()))?;
-            let args = number_expressions(alloc, tables, args.as_slice(), scope, next)?;
-            Ok(Expr::Call(*at, fun, args))
+            number_call(alloc, tables, *at, name, args.as_slice(), scope, next)
         }
         ExprTree::Build(at, name, fields) => {
-            let con = known(alloc, name, tables.constructors.get(name.text.as_slice()))?;
-            let fields = number_expressions(alloc, tables, fields.as_slice(), scope, next)?;
-            Ok(Expr::Build(*at, con, fields))
+            number_build(alloc, tables, *at, name, fields.as_slice(), scope, next)
         }
         ExprTree::Binary(at, op, a, b) => {
-            let first = number_boxed(alloc, tables, a.get(), scope, next)?;
-            let second = number_boxed(alloc, tables, b.get(), scope, next)?;
-            Ok(Expr::Binary(*at, *op, first, second))
+            number_binary(alloc, tables, *at, *op, a.get(), b.get(), scope, next)
         }
         ExprTree::To(at, bits, a) => {
             let inner = number_boxed(alloc, tables, a.get(), scope, next)?;
             Ok(Expr::To(*at, *bits, inner))
         }
         ExprTree::Let(at, name, ty, a, b) => {
-            let ty = number_type(alloc, tables, ty)?;
-            let var = fresh(next)?;
-            let bound = number_boxed(alloc, tables, a.get(), scope, next)?;
-            let name = name.text.as_slice();
-            let body = number_inside(alloc, tables, name, var, b.get(), scope, next)?;
-            Ok(Expr::Let(*at, var, ty, bound, body))
+            number_let(alloc, tables, *at, name, ty, a.get(), b.get(), scope, next)
         }
         ExprTree::Match(at, a, clauses) => {
-            let scrutinee = number_boxed(alloc, tables, a.get(), scope, next)?;
-            let clauses = number_clauses(alloc, tables, clauses.as_slice(), scope, next)?;
-            Ok(Expr::Match(*at, scrutinee, clauses))
+            number_match(alloc, tables, *at, a.get(), clauses.as_slice(), scope, next)
         }
     }
+}
+
+// A call of a function by its name, with its arguments.
+#[cycle(expression)]
+fn number_call<'a>(
+    alloc: Global,
+    tables: &Tables,
+    at: u32,
+    name: &NameTree,
+    args: &'a [ExprTree],
+    scope: &mut Scope<'a>,
+    next: &mut u32,
+) -> Result<Expr, NameFault>
+    ensures answers { AnswersFrom result next.new
+        (expr_step tables.now (expr.Call at name.now (map (numbered_expression tables.now) args.now))
+        (scope_of scope.old) next.old) }
+    ensures scope { OnOk result (scope.new ≡ scope.old) }
+{
+    let fun = known_or_fault(alloc, name, tables.functions.get(name.text.as_slice()))?;
+    let args = number_expressions(alloc, tables, args, scope, next)?;
+    Ok(Expr::Call(at, fun, args))
+}
+
+// A constructor by its name, with its fields.
+#[cycle(expression)]
+fn number_build<'a>(
+    alloc: Global,
+    tables: &Tables,
+    at: u32,
+    name: &NameTree,
+    fields: &'a [ExprTree],
+    scope: &mut Scope<'a>,
+    next: &mut u32,
+) -> Result<Expr, NameFault>
+    ensures answers { AnswersFrom result next.new
+        (expr_step tables.now (expr.Build at name.now (map (numbered_expression tables.now) fields.now))
+        (scope_of scope.old) next.old) }
+    ensures scope { OnOk result (scope.new ≡ scope.old) }
+{
+    let con = known_or_fault(alloc, name, tables.constructors.get(name.text.as_slice()))?;
+    let fields = number_expressions(alloc, tables, fields, scope, next)?;
+    Ok(Expr::Build(at, con, fields))
+}
+
+// An operator with its two operands.
+#[cycle(expression)]
+fn number_binary<'a>(
+    alloc: Global,
+    tables: &Tables,
+    at: u32,
+    op: Op,
+    a: &'a ExprTree,
+    b: &'a ExprTree,
+    scope: &mut Scope<'a>,
+    next: &mut u32,
+) -> Result<Expr, NameFault>
+    ensures answers { AnswersFrom result next.new
+        (expr_step tables.now (expr.Binary at op (numbered_expression tables.now a.now)
+        (numbered_expression tables.now b.now)) (scope_of scope.old) next.old) }
+    ensures scope { OnOk result (scope.new ≡ scope.old) }
+{
+    let first = number_boxed(alloc, tables, a, scope, next)?;
+    let second = number_boxed(alloc, tables, b, scope, next)?;
+    Ok(Expr::Binary(at, op, first, second))
+}
+
+// A `let` of this name and type, with the bound expression `a` and the body `b`.
+#[cycle(expression)]
+fn number_let<'a>(
+    alloc: Global,
+    tables: &Tables,
+    at: u32,
+    name: &'a NameTree,
+    ty: &TyTree,
+    a: &'a ExprTree,
+    b: &'a ExprTree,
+    scope: &mut Scope<'a>,
+    next: &mut u32,
+) -> Result<Expr, NameFault>
+    ensures answers { AnswersFrom result next.new
+        (expr_step tables.now (expr.Let at name.now ty.now (numbered_expression tables.now a.now)
+        (numbered_expression tables.now b.now))
+        (scope_of scope.old) next.old) }
+    ensures scope { OnOk result (scope.new ≡ scope.old) }
+{
+    let ty = number_type(alloc, tables, ty)?;
+    let var = fresh(next)?;
+    let bound = number_boxed(alloc, tables, a, scope, next)?;
+    let body = number_inside(alloc, tables, name.text.as_slice(), var, b, scope, next)?;
+    Ok(Expr::Let(at, var, ty, bound, body))
+}
+
+// A match of the expression `a`, with its clauses.
+#[cycle(expression)]
+fn number_match<'a>(
+    alloc: Global,
+    tables: &Tables,
+    at: u32,
+    a: &'a ExprTree,
+    clauses: &'a [ClauseTree],
+    scope: &mut Scope<'a>,
+    next: &mut u32,
+) -> Result<Expr, NameFault>
+    ensures answers { AnswersFrom result next.new
+        (expr_step tables.now (expr.Match at (numbered_expression tables.now a.now)
+        (map (numbered_clause tables.now) clauses.now))
+        (scope_of scope.old) next.old) }
+    ensures scope { OnOk result (scope.new ≡ scope.old) }
+{
+    let scrutinee = number_boxed(alloc, tables, a, scope, next)?;
+    let clauses = number_clauses(alloc, tables, clauses, scope, next)?;
+    Ok(Expr::Match(at, scrutinee, clauses))
 }
 
 // The expression of a tree, in a box.

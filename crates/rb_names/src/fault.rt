@@ -46,7 +46,7 @@ impl<T: Drop> From<AllocFailed<T>> for NameFault {
 
 /// What the name stands for, if that was found; else, where `found` is None, the fault that the
 /// name is unknown at its place, or want of memory.
-pub(crate) fn known<T: Copy>(
+pub(crate) fn known_or_fault<T: Copy>(
     alloc: Global,
     name: &NameTree,
     found: Option<T>,

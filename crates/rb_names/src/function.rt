@@ -10,7 +10,7 @@ ghost use Rattle.rb_names.specs.Scopes.{inside, param_binders};
 ghost use Rattle.rb_names.specs.inner.Frames.{scope_of, with_binders};
 
 use crate::expression::number_expression;
-use crate::fault::{NameFault, known};
+use crate::fault::{NameFault, known_or_fault};
 use crate::frame::Frame;
 use crate::scope::Scope;
 use crate::tables::Tables;
@@ -85,7 +85,7 @@ fn number_param(
     ensures { AnswersNumbering result (numbered_param tables.now (scope_of scope.now) tree.now) }
 {
     let ty = number_type(alloc, tables, &tree.ty)?;
-    let var = known(alloc, &tree.var, scope.get(tree.var.text.as_slice()))?;
+    let var = known_or_fault(alloc, &tree.var, scope.get(tree.var.text.as_slice()))?;
     Ok(Param {
         at: tree.at,
         var,

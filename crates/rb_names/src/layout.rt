@@ -3,12 +3,12 @@
 //! of types and constructors, by `tables`; all else stays. The first name that stands for nothing
 //! is the fault `Unknown`; an `Err` may also be want of memory.
 
-ghost use Rattle.std.specs.Prelude.{[], map};
+ghost use Rattle.std.specs.Prelude.{map};
 ghost use Rattle.rb_names.specs.Answers.{AnswersNumbering};
 ghost use Rattle.rb_names.specs.Numbering.{all_of, numbered_layout, numbered_split};
 ghost use Rattle.rb_names.specs.inner.Parts.{numbered_arm};
 
-use crate::fault::{NameFault, known};
+use crate::fault::{NameFault, known_or_fault};
 use crate::pattern::number_pattern;
 use crate::scope::Scope;
 use crate::tables::Tables;
@@ -31,7 +31,7 @@ pub fn number_layout(
 ) -> Result<LayoutDecl, NameFault>
     ensures { AnswersNumbering result (numbered_layout tables.now tree.now) }
 {
-    let ty = known(alloc, &tree.ty, tables.types.get(tree.ty.text.as_slice()))?;
+    let ty = known_or_fault(alloc, &tree.ty, tables.types.get(tree.ty.text.as_slice()))?;
     let under = number_split(alloc, tables, &tree.tree)?;
     let shape = tree.shape.copy(alloc)?;
     Ok(LayoutDecl {

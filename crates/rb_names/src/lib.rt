@@ -2,7 +2,14 @@
 //! variable: in a pattern, in a parameter list, or a `let`.
 //!
 //! Types, constructors and functions have a table each. A variable is that of the innermost binder
-//! of its name round it. No call recurses deeper than the tree is nested.
+//! of its name round it. No call recurses deeper than the tree is nested. Take
+//!
+//! ```text
+//! fun f(x: u8): u8 = let x: u8 = add(x, 1) in x;
+//! ```
+//!
+//! The parameter is binder 0, and that of the `let` binder 1. The `x` in the sum is the parameter's, so it becomes 0.
+//! The last one, inside the `let`, becomes 1.
 //!
 //! A file may leave layouts to the compiler, and [`complete::complete`] adds them. Take
 //!

@@ -2,7 +2,7 @@
 
 ghost use Rattle.std.specs.Prelude.{◌≡◌, [], ◌∷◌, is_some, length, not, reverse, IfOk, OnOk};
 ghost use Rattle.rb_names.specs.Tables.{meaning};
-ghost use Rattle.rb_names.specs.inner.Defining.{defined};
+ghost use Rattle.rb_names.specs.inner.Defining.{with_definition};
 
 use indexmap::IndexMap;
 use std::alloc::{AllocError, Global};
@@ -82,7 +82,8 @@ impl<'a, T: Copy> Table<'a, T> {
     /// Want of memory.
     pub fn define(&mut self, name: &'a [u8], stands_for: T) -> Result<bool, AllocError>
         ensures new { IfOk result (λ is_new. is_new ≡ not (is_some (meaning self.old name.now))) }
-        ensures table { OnOk result (self.new ≡ defined self.old name.now stands_for (meaning self.old name.now)) }
+        ensures table { OnOk result
+            (self.new ≡ with_definition self.old name.now stands_for (meaning self.old name.now)) }
     {
         if self.by_name.contains_key(name) {
             return Ok(false);

@@ -10,7 +10,7 @@ ghost use Rattle.rb_syntax.specs.declared.tree.ItemTree.{ItemTree as Tree};
 ghost use Rattle.rb_syntax.specs.declared.tree.ItemTree.TheVariants.{Types};
 ghost use Rattle.rb_names.specs.declared.fault.NameFault.TheVariants.{Memory};
 ghost use Rattle.rb_names.specs.Answers.{AnswersNumbering};
-ghost use Rattle.rb_names.specs.inner.Defining.{AreAdded, AreKnown, HasNames, IsAgain, made_again, with_rest};
+ghost use Rattle.rb_names.specs.inner.Defining.{AreAdded, AreKnown, HasNames, IsAgain, repeated_name, with_rest};
 ghost use Rattle.rb_names.specs.Definitions as spec;
 ghost use Rattle.rb_names.specs.Definitions.{Definition, OfFunction, constructor_definition, constructors_from, defined_twice, definitions, layout_definition, tables_of};
 ghost use Rattle.rb_names.specs.Numbering.{and_then};
@@ -218,7 +218,7 @@ fn define<'a, T: Copy>(
     ensures table { OnOk result (table.new ≡ table.old ++ (name.now.text, stands_for) ∷ []) }
     ensures new { OnOk result (is_some (meaning table.old name.now.text) ≡ false) }
     ensures again { IfErr result (λ e. AnswersNumbering {A = Unit {0}} (Err e)
-        (no_twice (made_again (is_some (meaning table.old name.now.text)) name.now))) }
+        (no_twice (repeated_name (is_some (meaning table.old name.now.text)) name.now))) }
 {
     if table.define(name.text.as_slice(), stands_for)? {
         return Ok(());

@@ -1,6 +1,6 @@
 //! The memory over raw bytes, and the marks that say where its blocks are.
 
-ghost use Rattle.std.specs.Prelude.{◌≡◌, ℕ, ◌≤◌, IfOk, false, replicate};
+ghost use Rattle.std.specs.Prelude.{◌≡◌, ◌≤◌, IfOk, false, replicate};
 ghost use Rattle.rb_bytes.specs.Memory.{IsGood, empty_memory, least_region, most_region};
 
 use crate::bytes::RawBytes;

@@ -10,7 +10,7 @@ use Rattle.rb_syntax.specs.Spelling.{item_written, file_written, IsTreeOf}
 use Rattle.rb_read.specs.inner.Combining.{Fault, stuck, deep, ReadOutcome, Reader}
 use Rattle.rb_read.proofs.Open.{Open, step, is_done, End, whole, stopped, too_deep, end_of_tokens, go_on, run, start}
 use Rattle.rb_read.specs.Exact.{IsSpelled, StopsAt, IsTooDeepAt, IsNowhereTooDeep, IsFirstTooDeep}
-use Rattle.rb_read.specs.inner.Ending.{IsPrefix, ended, whole_file}
+use Rattle.rb_read.specs.inner.Ending.{IsPrefix, finished_file, whole_file}
 use Rattle.rb_read.proofs.Forms.{goes, Spells, Took, over, Again, fits, exceeds, IsForm}
 use Rattle.rb_read.proofs.Steps.{goes_to, steps, steps-append, SomeWhole, some-whole, not_whole, Stops, stops, Deepens, deepens}
 use Rattle.rb_read.proofs.Completing.{start-fits, completion, Ends, completes, steps-fits}
@@ -94,8 +94,8 @@ end_of (Ok file) = whole
 end_of (Err (stuck m)) = stopped m
 end_of (Err (deep m)) = too_deep m
 
-ended-goes : (limit : ℕ) (items : List ItemTree) (rest : List Token) → run limit [] rest ≡ end_of (ended items rest)
-unfolding run step go_on ended is_done end_of_tokens end_of
+ended-goes : (limit : ℕ) (items : List ItemTree) (rest : List Token) → run limit [] rest ≡ end_of (finished_file items rest)
+unfolding run step go_on finished_file is_done end_of_tokens end_of
 ended-goes limit items [] = refl
 ended-goes limit items (u ∷ us) = refl
 
@@ -107,9 +107,9 @@ whole_file-goes limit (Err (deep m)) = refl
 
 taken : (total limit : ℕ) (ts : List Token) (r : ReadOutcome (List ItemTree)) (file : FileTree)
     → IfOk r (λ x. Took total limit ts (each (map item_written x.0)) x.1) → whole_file r ≡ Ok file → Spells total limit ts (file_written file)
-unfolding whole_file ended
+unfolding whole_file finished_file
 taken total limit ts (Ok x) file h e = at_rest x.0 x.1 h e where
-  at_rest : (items : List ItemTree) (rest : List Token) → Took total limit ts (each (map item_written items)) rest → ended items rest ≡ Ok file
+  at_rest : (items : List ItemTree) (rest : List Token) → Took total limit ts (each (map item_written items)) rest → finished_file items rest ≡ Ok file
       → Spells total limit ts (file_written file)
   at_rest items [] t q =
       let f : record { items = items } ≡ file = cc in
@@ -135,7 +135,7 @@ module _ (bars : Token → Bool) (reader : (total limit : ℕ) → Reader (List 
   again limit ts file h = (form (length ts) limit).again file.items [] (h.formed, h.numbered) tt
 
   pub file-again : (limit : ℕ) (ts : List Token) (file : FileTree) → IsTreeOf ts file → AreWithin limit (file_written file) → file_of (length ts) limit ts ≡ Ok file
-  unfolding whole_file ended
+  unfolding whole_file finished_file
   file-again limit ts file h w = by_again (again limit ts file h) where
     by_again : Again (length ts) limit (reader (length ts) limit) file.items (file_written file) [] → file_of (length ts) limit ts ≡ Ok file
     by_again (fits o r q) = let e : reader (length ts) limit ts ≡ Ok (file.items, []) = subst (λ us. reader (length ts) limit us ≡ Ok (file.items, [])) h.spells r in rw e refl

@@ -25,7 +25,7 @@ use Rattle.rb_read.specs.inner.Combining.{Reader, into, nothing, pair, expect, e
 use Rattle.rb_read.proofs.Open as open_at
 use Rattle.rb_read.proofs.Open.{one, maybe, next, the, the_word, a_lower, a_width, a_type, fields, begins, as_expr, ahead_of, if_so}
 use Rattle.rb_read.specs.inner.Tokens.{lower_name, width}
-use Rattle.rb_read.specs.inner.Reading.{name_tree, name_or_call, type_tree, pattern, begins_expression, is_form, expression_one, expression, binding_of, clause_of, conversion_of, matching_of, operation_of}
+use Rattle.rb_read.specs.inner.Reading.{name_tree, name_or_call, type_tree, begins_expression, is_form, expression_one, expression, binding_of, clause_of, conversion_of, matching_of, operation_of}
 use Rattle.rb_read.specs.inner.Reading as reading
 use Rattle.rb_read.proofs.Forms.{IsRight, Again, Clear, IsForm}
 use Rattle.rb_read.proofs.FormLaws.{nothing-form, pair-form, first-strict, iso-form, into-strict, alias-form}

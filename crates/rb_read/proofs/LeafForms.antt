@@ -20,7 +20,7 @@ use Rattle.rb_read.specs.inner.Combining.{Reader, ReadOutcome, ◌>>=◌, pair, 
 use Rattle.rb_read.proofs.Open.{one, maybe, many, first, the, a_number, a_field, into_field, begins, if_so, ahead_of}
 use Rattle.rb_read.proofs.Open as open_at
 use Rattle.rb_read.specs.inner.Tokens.{number, field}
-use Rattle.rb_read.specs.inner.Reading.{PathEnd, sliced, numbered, ends_path, range_rest, range, field_in, more_fields, path, path_end_from, field_part, part_kind_from, part_kind, part, item_from, item_one, no_pointer, pointer, lay_item_tree, field_part_of, pointer_of, word_item_of}
+use Rattle.rb_read.specs.inner.Reading.{PathEnd, sliced, numbered, ends_path, field_in, more_fields, path, path_end_from, field_part, part_kind_from, part_kind, part, item_from, item_one, no_pointer, pointer, lay_item_tree, field_part_of, pointer_of, word_item_of}
 use Rattle.rb_read.specs.inner.Reading as reading
 use Rattle.rb_read.proofs.Forms.{IsRight, Again, Clear, IsForm}
 use Rattle.rb_read.proofs.FormLaws.{nat_lt-zero, all-clear, pair-form, first-strict, iso-form, bars-form, into-strict, alias-form}

@@ -7,7 +7,7 @@ use Rattle.rb_syntax.specs.declared.token.Token.TheVariants as tok
 use Rattle.rb_syntax.specs.Written.{Written, token, tokens_in, Writing, each, each_behind, some_with, any_with}
 use Rattle.rb_syntax.specs.Spelling.{comma, fields_written}
 use Rattle.rb_read.specs.inner.Starting.{is_symbol}
-use Rattle.rb_read.specs.inner.Combining.{stuck, deep, ReadOutcome, Reader, ◌>>=◌, into, passing, expect, at_front, begins_with, with_all, behind, some_of, some_closed, any_closed, in_parens, optional, many_of, each_of}
+use Rattle.rb_read.specs.inner.Combining.{stuck, deep, ReadOutcome, Reader, ◌>>=◌, into, passing_token, expect, at_front, begins_with, with_all, behind, some_of, some_closed, any_closed, in_parens, optional, many_of, each_of}
 use Rattle.rb_read.proofs.Open.{Kind, fields, Open, one, maybe, many, first, next, Step, ahead_of, if_so, or_else, begins, step, is_done, stopped, end_of_tokens, go_on, run}
 use Rattle.rb_read.proofs.Forms.{goes, Spells, Took, IsRight, Again, fits, exceeds, Clear, IsForm}
 use Rattle.rb_read.proofs.FormLaws.{ok-bind, ok-same, ok-if, goes-bind, goes-bind-ok, nat_lt-zero, IsStrict, into-again, clear-more, all-clear}
@@ -114,7 +114,7 @@ module _ {A : Type 0} {total limit : ℕ} {bars : Token → Bool} {a : Kind} {w 
   next-follows : (k : List Open) (n : ℕ) (x : A) (ts : List Token) → length ts ≤ suc n
       → ((us : List Token) → length us ≤ n → run limit (one a ∷ next a s c ∷ k) us ≡ goes limit k (some_of r s c n us))
       → run limit (next a s c ∷ k) ts ≡ goes limit k (behind s c (λ us. some_of r s c n us) x ts)
-  unfolding behind run step passing is_done end_of_tokens go_on
+  unfolding behind run step passing_token is_done end_of_tokens go_on
   next-follows k n x [] l h = refl
   next-follows k n x (u ∷ us) l h = by_test (is_symbol s u) (is_symbol c u) where
     by_test : (b d : Bool) → go_on limit (suc (length us)) (if b then Some (0, one a ∷ next a s c ∷ k) else if d then Some (0, k) else None) (λ k'. run limit k' us)
@@ -133,7 +133,7 @@ module _ {A : Type 0} {total limit : ℕ} {bars : Token → Bool} {a : Kind} {w 
 
   some-again : (x : A) (xs : List A) (n : ℕ) (rest : List Written) → bars (tok.Symbol s) ≡ false → bars (tok.Symbol c) ≡ false → is_symbol s (tok.Symbol c) ≡ false
       → IsRight total (closed (x ∷ xs) rest) → length (tokens_in (closed (x ∷ xs) rest)) ≤ n → Again total limit (λ us. some_of r s c n us) (x ∷ xs) (closed (x ∷ xs) rest) rest
-  unfolding some_of behind passing into
+  unfolding some_of behind passing_token into
   some-again x [] zero rest bs bc d i l =
       absurd (omega (arith, again-longer p x (closed (x ∷ []) rest) (token (tok.Symbol c) ∷ rest) (p.form.again x _ i bc)))
   some-again x [] (suc n) rest bs bc d i l =

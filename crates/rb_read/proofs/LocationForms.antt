@@ -11,7 +11,7 @@ use Rattle.rb_read.specs.inner.Combining.{pair, expect, each_of}
 use Rattle.rb_read.proofs.Open.{Open, one, many, the, a_number, a_field, a_range, into_field, begins, if_so, ahead_of}
 use Rattle.rb_read.proofs.Open as open_at
 use Rattle.rb_read.specs.inner.Tokens.{number}
-use Rattle.rb_read.specs.inner.Reading.{range_rest, range, field_in, more_fields, path, location, location_of, range_of, step_of}
+use Rattle.rb_read.specs.inner.Reading.{range_rest, range, field_in, more_fields, location, location_of, range_of, step_of}
 use Rattle.rb_read.specs.inner.Reading as reading
 use Rattle.rb_read.proofs.Forms.{IsForm}
 use Rattle.rb_read.proofs.FormLaws.{first-strict, iso-form, into-strict, alias-form}

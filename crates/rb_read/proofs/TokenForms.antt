@@ -11,7 +11,7 @@ use Rattle.rb_syntax.specs.declared.token.Token.TheVariants as tok
 use Rattle.rb_syntax.specs.Written.{Written, token, number, Writing, flaw_unless}
 use Rattle.rb_syntax.specs.Spelling.{is_uint_width, num, uint_written, lower_written, upper_written}
 use Rattle.rb_read.specs.inner.Starting.{symbol_number, word_number, is_symbol, is_word}
-use Rattle.rb_read.specs.inner.Combining.{into, nothing, passing, expect, expect_word}
+use Rattle.rb_read.specs.inner.Combining.{into, nothing, passing_token, expect, expect_word}
 use Rattle.rb_read.proofs.Open.{Kind, the, the_word, a_lower, an_upper, a_number, a_width, a_field, if_so, begins}
 use Rattle.rb_read.specs.inner.Tokens as tokens
 use Rattle.rb_read.proofs.Forms.{IsRight}
@@ -108,8 +108,8 @@ is_word-is w (tok.Uint b) e = cc
 
 -- one token that passes a test, which is this one
 passing-part : {total limit : ℕ} {a : Kind} (test : Token → Bool) (u : Token) → ((t : Token) → begins a t ≡ if_so (test t) []) → test u ≡ true
-    → ((t : Token) → test t ≡ true → t ≡ u) → IsPart total limit (λ _. false) a (λ _ rest. token u ∷ rest) (passing test)
-unfolding passing into nothing
+    → ((t : Token) → test t ≡ true → t ≡ u) → IsPart total limit (λ _. false) a (λ _ rest. token u ∷ rest) (passing_token test)
+unfolding passing_token into nothing
 passing-part {total = total} {limit = limit} {a = a} test u begun passes only = part-form refl
     (λ t. if-at (test t)
     (λ e. node-at (nothing-form total limit) 0 (begun t ∙ ap (λ b. if_so b []) e) (nat_lt-zero limit) (λ at x. x) (λ ts. rw e refl) (λ at. []) (λ at. tt) (λ at. tt) (λ at. refl)

@@ -25,7 +25,7 @@ ghost use Rattle.rb_read.specs.inner.Reading as reading;
 ghost use Rattle.rb_read.specs.inner.Reading.{pointer_tree};
 
 use crate::list::{read_any_closed, read_some_closed};
-use crate::location::{joined, read_more_fields, read_path, read_range, read_range_rest};
+use crate::location::{joined_path, read_more_fields, read_path, read_range, read_range_rest};
 use crate::stop::Stop;
 use crate::tokens::{expect, read_field, read_number};
 use rb_core::seq::Seq;
@@ -84,7 +84,7 @@ fn read_field_part(alloc: Global, placed: &[Placed]) -> Result<(PartKind, &[Plac
     let (first, rest) = read_field(placed)?;
     let (others, rest) = read_more_fields(alloc, rest)?;
     let (end, rest) = read_path_end(rest)?;
-    let path = joined(first, others)?;
+    let path = joined_path(first, others)?;
     let kind = field_part(path, end);
     Ok((kind, rest))
 }

@@ -4,7 +4,7 @@
 //! behind it. One part is taken by `read`, which answers as a reader of parts would: the clauses
 //! hold for each reader that `read` follows.
 
-ghost use Rattle.std.specs.Prelude.{◌≡◌, ◌<◌, ◌^◌};
+ghost use Rattle.std.specs.Prelude.{◌<◌};
 ghost use Rattle.rb_syntax.specs.Tokens.{tokens};
 ghost use Rattle.rb_read.specs.inner.Combining as combining;
 ghost use Rattle.rb_read.specs.inner.Combining.{Reader};

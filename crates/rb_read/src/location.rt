@@ -86,7 +86,7 @@ pub fn read_more_fields(alloc: Global, placed: &[Placed]) -> Result<(Seq<u32>, &
 /// # Errors
 ///
 /// Want of memory.
-pub(crate) fn joined(first: u32, others: Seq<u32>) -> Result<Seq<u32>, AllocError>
+pub(crate) fn joined_path(first: u32, others: Seq<u32>) -> Result<Seq<u32>, AllocError>
     ensures { IfOk result (λ fields. fields ≡ first ∷ others) }
 {
     let mut fields = others.into_vec();
@@ -105,7 +105,7 @@ pub fn read_path(alloc: Global, placed: &[Placed]) -> Result<(Seq<u32>, &[Placed
 {
     let (first, rest) = read_field_in(placed)?;
     let (others, rest) = read_more_fields(alloc, rest)?;
-    let path = joined(first, others)?;
+    let path = joined_path(first, others)?;
     Ok((path, rest))
 }
 

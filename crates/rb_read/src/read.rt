@@ -27,9 +27,9 @@ use rb_syntax::tree::{FileTree, ItemTree};
 use std::alloc::Global;
 
 // The file of the items that were read; it is stuck where tokens, `placed`, are left behind them.
-#[tactic(auto, unfolding(crate::specs::inner::Ending::ended))]
-fn ended(items: Seq<ItemTree>, placed: &[Placed]) -> Result<FileTree, Stop>
-    ensures { Gives (λ file. file) result (ending.ended items (tokens placed.now)) }
+#[tactic(auto, unfolding(crate::specs::inner::Ending::finished_file))]
+fn file_at_end(items: Seq<ItemTree>, placed: &[Placed]) -> Result<FileTree, Stop>
+    ensures { Gives (λ file. file) result (ending.finished_file items (tokens placed.now)) }
 {
     if placed.is_empty() {
         Ok(FileTree { items })
@@ -46,7 +46,7 @@ fn read_tree(alloc: Global, placed: &[Placed]) -> Result<FileTree, Stop>
         (ending.whole_file (reading.file_items (length placed.now) most_levels (tokens placed.now))) }
 {
     let (items, rest) = read_items(alloc, placed.len(), placed)?;
-    let file = ended(items, rest)?;
+    let file = file_at_end(items, rest)?;
     Ok(file)
 }
 
@@ -59,7 +59,7 @@ fn place(total: usize, left: usize) -> u32
 }
 
 // The file, unless a count of it is over its limit.
-fn checked(file: FileTree) -> Result<FileTree, ReadFault>
+fn limited_file(file: FileTree) -> Result<FileTree, ReadFault>
     ensures { (ts : List Token) → IsFile ts file → AnswersFile ts result }
 {
     if let Some(count) = first_over(&file) {
@@ -74,7 +74,7 @@ fn read_limited(alloc: Global, placed: &[Placed]) -> Result<FileTree, ReadFault>
     ensures { AnswersFile (tokens placed.now) result }
 {
     match read_tree(alloc, placed) {
-        Ok(file) => checked(file),
+        Ok(file) => limited_file(file),
         Err(Stop::Deep(left)) => Err(ReadFault::TooDeep(place(placed.len(), left))),
         Err(Stop::Stuck(left)) => Err(ReadFault::Syntax(place(placed.len(), left))),
         Err(Stop::Memory) => Err(ReadFault::Memory),
@@ -86,7 +86,7 @@ fn read_limited(alloc: Global, placed: &[Placed]) -> Result<FileTree, ReadFault>
 ///
 /// # Errors
 ///
-/// `TooDeep` at the first token that begins a node deeper than 128 levels; else `Syntax` at the
+/// `TooDeep` at the first token that begins a node deeper than `MOST_LEVELS` levels; else `Syntax` at the
 /// first at which no file goes on; else `Limit` for the first count over its limit. `Memory` where
 /// there is want of memory, which says nothing of the tokens.
 pub fn read_file(alloc: Global, placed: &[Placed]) -> Result<FileTree, ReadFault>

@@ -40,7 +40,7 @@ pub fn begins_with(symbol: Symbol, placed: &[Placed]) -> bool
 /// # Errors
 ///
 /// `Stuck` where another token stands there, or none.
-#[tactic(auto, unfolding(crate::specs::inner::Combining::passing))]
+#[tactic(auto, unfolding(crate::specs::inner::Combining::passing_token))]
 pub fn expect(symbol: Symbol, placed: &[Placed]) -> Result<&[Placed], Stop>
     ensures { Gives (λ r. (tt, tokens r.now)) result (combining.expect symbol (tokens placed.now)) }
 {
@@ -58,7 +58,7 @@ pub fn expect(symbol: Symbol, placed: &[Placed]) -> Result<&[Placed], Stop>
 /// # Errors
 ///
 /// `Stuck` where another token stands there, or none.
-#[tactic(auto, unfolding(crate::specs::inner::Combining::passing))]
+#[tactic(auto, unfolding(crate::specs::inner::Combining::passing_token))]
 pub fn expect_word(word: ReservedWord, placed: &[Placed]) -> Result<&[Placed], Stop>
     ensures { Gives (λ r. (tt, tokens r.now)) result (combining.expect_word word (tokens placed.now)) }
 {

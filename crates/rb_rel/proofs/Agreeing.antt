@@ -11,8 +11,10 @@ use Rattle.rb_core.specs.Layouts.{WrittenLeaf, leaves, provenances, is_short_lay
 use Rattle.rb_core.specs.TypedPrograms.{IsTyped, layout_fault, provenance_fault, function_fault}
 use Rattle.rb_core.specs.WellNumbered.{layout_is_numbered, provenance_is_numbered, pattern_is_numbered, is_provenance, is_between}
 use Rattle.rb_core.specs.Layouts.{is_short_layout}
+use Rattle.rb_core.proofs.MatchingLemmas.{all_at}
 use Rattle.std.specs.Prelude.{nat_lt}
 use Rattle.std.specs.List.{list_all}
+use Rattle.std.proofs.lemmas.Bool.{and_parts}
 use Rattle.rb_layout.specs.declared.layout.Leaf.{Leaf}
 use Rattle.rb_layout.specs.declared.layout.Layout.{Layout}
 use Rattle.rb_layout.specs.Agreement.{Agrees}
@@ -26,8 +28,8 @@ use Rattle.rb_rel.specs.Provenances.{fits_type}
 use Rattle.rb_rel.proofs.Declared.{Declared, declared, decl_at}
 use Rattle.rb_layout.proofs.FlatLaws.{leaves_are_flat}
 use Rattle.rb_rel.proofs.Holding.{is_held}
-use Rattle.rb_rel.proofs.Lists.{both, get-map, get-mapped}
-use Rattle.rb_rel.proofs.Provenances.{typed_fits, rooted, faultless, none_before, none_at, all_at}
+use Rattle.rb_rel.proofs.Lists.{get-map, get-mapped}
+use Rattle.rb_rel.proofs.Provenances.{typed_fits, rooted, faultless, none_before, none_at}
 use Rattle.rb_rel.proofs.Reaching.{all_reached}
 
 module _ (p : Program) (agrees : Agrees p) where
@@ -62,10 +64,10 @@ module _ (p : Program) (agrees : Agrees p) where
     numbered : (t : ℕ) (d : LayoutDecl) (k n : ℕ) (w : WrittenLeaf) → is_written_provenance t d k n w → (is_provenance w.provenance ≡ true) × (pattern_is_numbered p.types w.provenance ≡ true)
     numbered t d k n w at =
         let a = all_at (layout_is_numbered p.types) p.layouts k d typed.numbered.layouts at.0 in
-        let b = both (nat_lt d.ty (length p.types)) (is_between 1 8 (length d.shape) && (list_all (provenance_is_numbered p.types) (provenances d.tree) && is_short_layout d.tree)) a in
-        let c = both (is_between 1 8 (length d.shape)) (list_all (provenance_is_numbered p.types) (provenances d.tree) && is_short_layout d.tree) b.1 in
-        let e = both (list_all (provenance_is_numbered p.types) (provenances d.tree)) (is_short_layout d.tree) c.1 in
-        both (is_provenance w.provenance) (pattern_is_numbered p.types w.provenance)
+        let b = and_parts (nat_lt d.ty (length p.types)) (is_between 1 8 (length d.shape) && (list_all (provenance_is_numbered p.types) (provenances d.tree) && is_short_layout d.tree)) a in
+        let c = and_parts (is_between 1 8 (length d.shape)) (list_all (provenance_is_numbered p.types) (provenances d.tree) && is_short_layout d.tree) b.1 in
+        let e = and_parts (list_all (provenance_is_numbered p.types) (provenances d.tree)) (is_short_layout d.tree) c.1 in
+        and_parts (is_provenance w.provenance) (pattern_is_numbered p.types w.provenance)
         (all_at (provenance_is_numbered p.types) (provenances d.tree) n w.provenance e.0 (get-mapped (λ (l : WrittenLeaf). l.provenance) (leaves d.tree) n w at.2))
 
     fits : (t : ℕ) (d : LayoutDecl) (k n : ℕ) (w : WrittenLeaf) → is_written_provenance t d k n w → fits_type p.types w.provenance (Named t) ≡ true

@@ -28,6 +28,17 @@ use Rattle.rb_rel.proofs.Represented.{opened}
 use Rattle.rb_rel.proofs.Reading.{stands_at}
 use Rattle.rb_rel.proofs.Known.{constant_bit-is}
 
+-- the b bits of a word w from bit a on are the same in two numbers that hold bits of w: in v, which holds `many` from
+-- bit p on, and in c, which holds l from bit o on
+same_bits : (w o l p first many a b v c : ℕ) → p ≤ a → o ≤ a → a + b ≤ p + many → a + b ≤ o + l → first ≡ p
+    → take_of w first many ≡ v → take_of w o l ≡ c → take_of v (a - p) b ≡ take_of c (a - o) b
+same_bits w o l p first many a b v c from_p from_o to_p to_o begins here there =
+    let e1 : p + (a - p) ≡ a = omega arith in
+    let e2 : o + (a - o) ≡ a = omega arith in
+    ap (λ k. take_of k (a - p) b) (sym here) ∙ take_take w first many (a - p) b (omega arith)
+    ∙ ap (λ k. take_of w (k + (a - p)) b) begins ∙ ap (λ k. take_of w k b) (e1 ∙ sym e2)
+    ∙ sym (take_take w o l (a - o) b (omega arith)) ∙ ap (λ k. take_of k (a - o) b) there
+
 module _ (types : List DataDecl) (layouts : List Layout) (m : Memory) (clean : Bool) where
   abbrev Reps : Ty → Value → List ℕ → Type 0
   Reps = Represents types layouts m clean
@@ -70,17 +81,9 @@ module _ (types : List DataDecl) (layouts : List Layout) (m : Memory) (clean : B
           let g = exists d.number d.leaf leaf_is in
           let r : WordRef = record { block = None; word = j } in
           let st = stands_at d.leaf (subs x.place.path) m clean d.subs d.ats d.placed r g.0 g.1 in
-          let first : p ≤ a = omega (arith, x.first) in
-          let first' : o ≤ a = omega (arith, x.first) in
-          let last : a + b ≤ p + x.part.l = omega (arith, x.last) in
-          let last' : a + b ≤ o + l = omega (arith, x.last) in
           let here : take_of w x.part.o x.part.l ≡ st.0 =
-          subst (λ (k : Kind). HoldsKind subs ats (take_of w x.part.o x.part.l) x.part.l k) x.is_word (holds x.number x.part x.is_part)
-          ∙ get_or_from_slice_get (subs x.place.path) j st.0 0 st.1.is_found in
-          let e1 : p + (a - p) ≡ a = omega arith in
-          let e2 : o + (a - o) ≡ a = omega arith in
+          ◌∙◌ {c = st.0} (subst (λ (k : Kind). HoldsKind subs ats (take_of w x.part.o x.part.l) x.part.l k) x.is_word (holds x.number x.part x.is_part))
+          (get_or_from_slice_get (subs x.place.path) j st.0 0 st.1.is_found) in
           never (below d.number d.leaf g.0 leaf_is g.1) d.at d.subs d.ats st.0 st.1.holds.parts rep.below
           (no_null d.leaf (subs x.place.path) d.subs d.ats (flat s layout d.number d.leaf is leaf_is) d.placed r g.0 g.1)
-          (ap (λ k. take_of k (a - p) b) (sym here) ∙ take_take w x.part.o x.part.l (a - p) b (omega arith)
-          ∙ ap (λ k. take_of w (k + (a - p)) b) x.from ∙ ap (λ k. take_of w k b) (e1 ∙ sym e2)
-          ∙ sym (take_take w o l (a - o) b (omega arith)) ∙ ap (λ k. take_of k (a - o) b) e)
+          (same_bits w o l p x.part.o x.part.l a b st.0 c (omega (arith, x.first)) (omega (arith, x.first)) (omega (arith, x.last)) (omega (arith, x.last)) x.from here e)

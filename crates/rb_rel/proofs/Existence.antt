@@ -1,6 +1,7 @@
 -- Every value whose blocks fit has a clean representation.
 use Rattle.std.proofs.Common.{◌≡◌, ℕ, zero, suc, ◌+◌, ◌<◌, ◌≤◌, ◌==◌, inl, inr, length, map, List, [], ◌∷◌, ◌++◌, Bool, true, false, Option, Some, None, refl, sym, subst, ap, ◌∙◌, arith, append-nil}
 use Rattle.std.specs.Prelude.{slice_get, unwrap_or, nat_lt, ◌^◌, if◌then◌else◌}
+use Rattle.std.proofs.lemmas.Bool.{and_parts}
 use Rattle.std.proofs.lemmas.Option.{same_Some, slice_get_within}
 use Rattle.std.proofs.lemmas.Bool.Decides.{leb_tells}
 use Rattle.std.proofs.lemmas.Grind.{common_steps, flat_map-append}
@@ -45,7 +46,7 @@ use Rattle.rb_rel.specs.Answers.{Making, making_of, all_makings, in_turn}
 use Rattle.rb_rel.proofs.Makings.{making-Num, making-Con}
 use Rattle.rb_rel.proofs.Growth.{Represents-kept}
 use Rattle.rb_rel.specs.Provenances.{fits_type, is_named}
-use Rattle.rb_rel.proofs.Lists.{both, get-append, get-map}
+use Rattle.rb_rel.proofs.Lists.{get-append, get-map}
 use Rattle.rb_rel.proofs.Opens.{fits-Con, opens-Con, opens-Wild, opens-Var, fitting}
 use Rattle.rb_rel.proofs.Reading.{same_nat}
 use Rattle.rb_rel.proofs.Storing.{laid_more}
@@ -106,8 +107,8 @@ module _ (types : List DataDecl) where
   fields_are (q ∷ ps) each [] vs i f m k o e = absurd cc
   fields_are (q ∷ ps) each (t ∷ ts) [] i f m k o e = absurd cc
   fields_are (q ∷ ps) each (t ∷ ts) (x ∷ vs) i f m k o e =
-      let bf = both (fits_type types q t) (all_of_types (map (fits_type types) ps) ts) f in
-      let bm = both (matches_of q x) (all_pass (map matches_of ps) vs) m in
+      let bf = and_parts (fits_type types q t) (all_of_types (map (fits_type types) ps) ts) f in
+      let bm = and_parts (matches_of q x) (all_pass (map matches_of ps) vs) m in
       elim (get-append (map (below i) (opens_of types q t)) (opens_below (map (opens_of types) ps) ts (i + 1)) k o e) [
         | inl h ↦
             let g = get-map (below i) (opens_of types q t) k o h in
@@ -139,7 +140,7 @@ module _ (types : List DataDecl) where
   matched : (c : ConRef) (ps : List Pat) (v : Value) (l : Value-F Value) → out-Value v ≡ l → is_con c.con (map matches_of ps) l ≡ true → Matched c ps v
   matched c ps v (V.Num n) is e = absurd cc
   matched c ps v (V.Con k vs) is e =
-      let b = both (c.con == k) (all_pass (map matches_of ps) vs) e in
+      let b = and_parts (c.con == k) (all_pass (map matches_of ps) vs) e in
       let s = same_nat c.con k b.0 in
       record { vs = vs; is_layer = is ∙ ap (λ i. V.Con i vs) (sym s); pass = b.1 }
 
@@ -147,7 +148,7 @@ module _ (types : List DataDecl) where
   con_opens : (at : ℕ) (c : ConRef) (ps : List Pat) → PL.Each OpensAre ps → (ty : Ty) (v : Value) → fits_type types (ConPat at c ps) ty ≡ true → matches_of (ConPat at c ps) v ≡ true
       → (k : ℕ) (o : Open) → slice_get (opens_of types (ConPat at c ps) ty) k ≡ Some o → Below (subs v) (sub_types ty (out-Value v)) 0 o
   con_opens at c ps each ty v f m k o e =
-      let bf = both (is_named c.ty ty) (are_of (map (fits_type types) ps) (fields_of types c)) (sym (fits-Con types at c ps ty) ∙ f) in
+      let bf = and_parts (is_named c.ty ty) (are_of (map (fits_type types) ps) (fields_of types c)) (sym (fits-Con types at c ps ty) ∙ f) in
       let l = matched c ps v (out-Value v) refl (sym (matches-Con v at c ps) ∙ m) in
       let b = fields_are ps each (types_or_none (fields_of types c)) l.vs 0 (fitting types (map (fits_type types) ps) (fields_of types c) bf.1) l.pass k o (ap (λ (os : List Open). slice_get os k) (sym (opens-Con types at c ps ty)) ∙ e) in
       subst (λ xs. Below xs (sub_types ty (out-Value v)) 0 o) (sym (ap subs_in l.is_layer)) (subst (λ ts. Below l.vs ts 0 o) (sym (field_list ty bf.0 l)) b)
@@ -296,7 +297,7 @@ module _ (p : Program) (typed : IsTyped p) (agrees : Agrees p) where
   }
   fields_encode (v ∷ vs) each [] of_types m good bs next e = absurd cc
   fields_encode (v ∷ vs) each (t ∷ ts) of_types m good bs next e =
-      let b = both (is_of_type types v t) (all_of_types (map (is_of_type types) vs) ts) of_types in
+      let b = and_parts (is_of_type types v t) (all_of_types (map (is_of_type types) vs) ts) of_types in
       let split = flat_map-append (requests_at layouts) (making_of types v t) (in_turn (makings vs) ts) in
       let h = laid_parts m.limit m.next (requests_of layouts (making_of types v t)) (requests_of layouts (in_turn (makings vs) ts)) bs next (ap (lay m.limit m.next) (sym split) ∙ e) in
       let first = each.0 t m good b.0 h.0 h.1 h.3 in
@@ -452,7 +453,7 @@ module _ (p : Program) (typed : IsTyped p) (agrees : Agrees p) where
   all_shown [] (t ∷ ts) m fields of_types shown = absurd cc
   all_shown (v ∷ vs) [] m fields of_types shown = absurd cc
   all_shown (v ∷ vs) (t ∷ ts) m fields of_types shown =
-      let b = both (is_of_type types v t) (all_of_types (map (is_of_type types) vs) ts) of_types in
+      let b = and_parts (is_of_type types v t) (all_of_types (map (is_of_type types) vs) ts) of_types in
       let r = all_shown vs ts m (λ i path. fields (suc i) path) b.1 (λ i x y is_value is_type path s u h. shown (suc i) x y is_value is_type path s u h) in
       (fields 0 [] ++ r.0, (fields 0 [], r.0, refl, shown 0 v t refl refl [] t v (refl, refl), r.1))
 

@@ -12,6 +12,7 @@ use Rattle.rb_core.specs.declared.layout_decl.PartKind.{PartKind}
 use Rattle.rb_core.specs.declared.layout_decl.PartKind.TheVariants as K
 use Rattle.rb_core.specs.declared.layout_decl.PartDecl.{PartDecl}
 use Rattle.rb_core.specs.declared.layout_decl.LayoutDecl.{LayoutDecl}
+use Rattle.rb_core.proofs.LayoutInduction.{item-induction}
 use Rattle.rb_layout.specs.declared.layout.Block.{Block}
 use Rattle.rb_layout.specs.declared.layout.FlatWord.{FlatWord}
 use Rattle.rb_layout.specs.declared.layout.Part.{Part}
@@ -297,7 +298,7 @@ module _ (decls : List LayoutDecl) (opens : List Open) where
     H = Laying (List Part)
 
     item_well : (item : LayItem) → WellItem item
-    item_well = D.item-induction WellItem WellKind (record {
+    item_well = item-induction WellItem WellKind (record {
       word = λ bits parts each d n.
           let e = D.fold-Word (List Item) (Around Content) (Around WrittenPart) J.items_step J.content_step J.written_part_step bits parts in
           let lay = in_turn (map the_parts parts) n in

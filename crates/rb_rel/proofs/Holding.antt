@@ -1,6 +1,7 @@
 -- A unit that is held is held by a part.
 use Rattle.std.proofs.Common.{◌≡◌, ℕ, zero, suc, ◌+◌, ◌<◌, ◌≤◌, ◌==◌, ◌&&◌, ◌⊎◌, inl, inr, sum, map, List, [], ◌∷◌, Bool, true, false, Some, None, refl, subst, ap, ◌∙◌, arith}
 use Rattle.std.specs.Prelude.{slice_get, leb, ltb, if◌then◌else◌}
+use Rattle.std.proofs.lemmas.Bool.{and_parts}
 use Rattle.std.proofs.lemmas.Grind.{common_steps}
 use Rattle.rb_core.specs.declared.types.Ty.{Ty}
 use Rattle.rb_core.specs.declared.types.Ty.TheVariants.{Int, Named}
@@ -14,7 +15,6 @@ use Rattle.rb_layout.specs.Words.{flat_at, words_of_block}
 use Rattle.rb_layout.specs.Flattening.{same_path}
 use Rattle.rb_layout.specs.A6.{holds_unit, times_in_part, times_in_word, times_in_block, times_held}
 use Rattle.rb_rel.proofs.Lawful.{HoldsUnit, Holder}
-use Rattle.rb_rel.proofs.Lists.{both}
 use Rattle.rb_rel.proofs.Known.{ltb_is}
 use Rattle.rb_rel.proofs.Reading.{same_nat, leb_is}
 
@@ -35,7 +35,7 @@ pub path_is : (p q : List ℕ) → same_path p q ≡ true → p ≡ q
 path_is [] [] e = refl
 path_is [] (j ∷ q) e = absurd cc
 path_is (i ∷ p) [] e = absurd cc
-path_is (i ∷ p) (j ∷ q) e = let b = both (i == j) (same_path p q) e in let x = same_nat i j b.0 in let y = path_is p q b.1 in cc
+path_is (i ∷ p) (j ∷ q) e = let b = and_parts (i == j) (same_path p q) e in let x = same_nat i j b.0 in let y = path_is p q b.1 in cc
 
 -- the part that holds a unit
 abbrev IsHolder : Ty → List ℕ → ℕ → ℕ → Kind → Type 0
@@ -44,10 +44,10 @@ IsHolder (Named t) path i l k = k ≡ Word path i
 
 holder : (ty : Ty) (path : List ℕ) (i l : ℕ) (k : Kind) → holds_unit ty path i l k ≡ true → IsHolder ty path i l k
 holder (Int bits) path i l (Bits p a) e =
-    let b = both (same_path p path) (leb a i && ltb i (a + l)) e in let c = both (leb a i) (ltb i (a + l)) b.1 in
+    let b = and_parts (same_path p path) (leb a i && ltb i (a + l)) e in let c = and_parts (leb a i) (ltb i (a + l)) b.1 in
     (a, ap (λ q. Bits q a) (path_is p path b.0), leb_is a i c.0, ltb_is i (a + l) c.1)
 holder (Named t) path i l (Word p j) e =
-    let b = both (same_path p path) (j == i) e in ap (λ q. Word q j) (path_is p path b.0) ∙ ap (λ x. Word path x) (same_nat j i b.1)
+    let b = and_parts (same_path p path) (j == i) e in ap (λ q. Word q j) (path_is p path b.0) ∙ ap (λ x. Word path x) (same_nat j i b.1)
 holder (Int bits) path i l (Const c) e = absurd cc
 holder (Int bits) path i l (Word p j) e = absurd cc
 holder (Int bits) path i l (Pointer align b) e = absurd cc

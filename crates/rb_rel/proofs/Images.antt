@@ -1,6 +1,7 @@
 -- A clean placing of a leaf, checked by computation.
 use Rattle.std.proofs.Common.{◌≡◌, ℕ, zero, suc, ◌+◌, ◌*◌, ◌/◌, ◌^◌, ◌<◌, ◌≤◌, ◌&&◌, ◌⊎◌, inl, inr, length, List, [], ◌∷◌, Bool, true, false, Option, Some, None, Result, Ok, Err, refl, sym, subst, ap, ◌∙◌, arith}
 use Rattle.std.specs.Prelude.{slice_get, leb, ltb, nat_eq}
+use Rattle.std.proofs.lemmas.Bool.{and_parts}
 use Rattle.std.proofs.lemmas.Option.{same_Some}
 use Rattle.std.proofs.lemmas.Grind.{common_steps}
 use Rattle.rb_bits.specs.Words.{AreDisjoint}
@@ -15,7 +16,6 @@ use Rattle.rb_layout.specs.declared.layout.Kind.TheVariants.{Const, Bits, Word, 
 use Rattle.rb_layout.specs.declared.layout.WordRef.{WordRef}
 use Rattle.rb_layout.specs.Words.{words_in, words_of_block, flat_at, begins_at, size_of}
 use Rattle.rb_rel.specs.Relation.{IsFound, WordHolds, LeafStands}
-use Rattle.rb_rel.proofs.Lists.{both}
 use Rattle.rb_rel.proofs.Packing.{packed, packed_holds}
 use Rattle.rb_rel.specs.Storing.{number_of}
 use Rattle.rb_rel.proofs.Reading.{leb_is}
@@ -69,7 +69,7 @@ some_ok None n = false
 some_ok (Some w) n = nat_eq w n
 
 disjoint : (p q : Part) (qs : List Part) → apart_ok p (q ∷ qs) ≡ true → AreDisjoint p.o p.l q.o q.l
-disjoint p q qs e = elim (or_is (leb (p.o + p.l) q.o) (leb (q.o + q.l) p.o) (both (or_else (leb (p.o + p.l) q.o) (leb (q.o + q.l) p.o)) (apart_ok p qs) e).0) [
+disjoint p q qs e = elim (or_is (leb (p.o + p.l) q.o) (leb (q.o + q.l) p.o) (and_parts (or_else (leb (p.o + p.l) q.o) (leb (q.o + q.l) p.o)) (apart_ok p qs) e).0) [
   | inl h ↦ inl (leb_is (p.o + p.l) q.o h)
   | inr h ↦ inr (leb_is (q.o + q.l) p.o h)
 ]
@@ -77,20 +77,20 @@ disjoint p q qs e = elim (or_is (leb (p.o + p.l) q.o) (leb (q.o + q.l) p.o) (bot
 all_apart : (p : Part) (ps : List Part) (k : ℕ) (q : Part) → apart_ok p ps ≡ true → slice_get ps k ≡ Some q → AreDisjoint p.o p.l q.o q.l
 all_apart p [] k q e is = absurd cc
 all_apart p (x ∷ ps) zero q e is = subst (λ (y : Part). AreDisjoint p.o p.l y.o y.l) (same_Some x q is) (disjoint p x ps e)
-all_apart p (x ∷ ps) (suc k) q e is = all_apart p ps k q (both (or_else (leb (p.o + p.l) x.o) (leb (x.o + x.l) p.o)) (apart_ok p ps) e).1 is
+all_apart p (x ∷ ps) (suc k) q e is = all_apart p ps k q (and_parts (or_else (leb (p.o + p.l) x.o) (leb (x.o + x.l) p.o)) (apart_ok p ps) e).1 is
 
 apart_is : (width : ℕ) (ps : List Part) → tidy_ok width ps ≡ true → (j k : ℕ) (p q : Part) → j < k → slice_get ps j ≡ Some p → slice_get ps k ≡ Some q → AreDisjoint p.o p.l q.o q.l
 apart_is width [] e j k p q lt a b = absurd cc
 apart_is width (x ∷ ps) e zero zero p q lt a b = absurd (omega (arith, lt))
-apart_is width (x ∷ ps) e zero (suc k) p q lt a b = subst (λ (y : Part). AreDisjoint y.o y.l q.o q.l) (same_Some x p a) (all_apart x ps k q (both (apart_ok x ps) (leb (x.o + x.l) width && tidy_ok width ps) e).0 b)
+apart_is width (x ∷ ps) e zero (suc k) p q lt a b = subst (λ (y : Part). AreDisjoint y.o y.l q.o q.l) (same_Some x p a) (all_apart x ps k q (and_parts (apart_ok x ps) (leb (x.o + x.l) width && tidy_ok width ps) e).0 b)
 apart_is width (x ∷ ps) e (suc j) zero p q lt a b = absurd (omega (arith, lt))
 apart_is width (x ∷ ps) e (suc j) (suc k) p q lt a b =
-    apart_is width ps (both (leb (x.o + x.l) width) (tidy_ok width ps) (both (apart_ok x ps) (leb (x.o + x.l) width && tidy_ok width ps) e).1).1 j k p q (omega (arith, lt)) a b
+    apart_is width ps (and_parts (leb (x.o + x.l) width) (tidy_ok width ps) (and_parts (apart_ok x ps) (leb (x.o + x.l) width && tidy_ok width ps) e).1).1 j k p q (omega (arith, lt)) a b
 
 inside_is : (width : ℕ) (ps : List Part) → tidy_ok width ps ≡ true → (k : ℕ) (p : Part) → slice_get ps k ≡ Some p → p.o + p.l ≤ width
 inside_is width [] e k p a = absurd cc
-inside_is width (x ∷ ps) e zero p a = subst (λ (y : Part). y.o + y.l ≤ width) (same_Some x p a) (leb_is (x.o + x.l) width (both (leb (x.o + x.l) width) (tidy_ok width ps) (both (apart_ok x ps) (leb (x.o + x.l) width && tidy_ok width ps) e).1).0)
-inside_is width (x ∷ ps) e (suc k) p a = inside_is width ps (both (leb (x.o + x.l) width) (tidy_ok width ps) (both (apart_ok x ps) (leb (x.o + x.l) width && tidy_ok width ps) e).1).1 k p a
+inside_is width (x ∷ ps) e zero p a = subst (λ (y : Part). y.o + y.l ≤ width) (same_Some x p a) (leb_is (x.o + x.l) width (and_parts (leb (x.o + x.l) width) (tidy_ok width ps) (and_parts (apart_ok x ps) (leb (x.o + x.l) width && tidy_ok width ps) e).1).0)
+inside_is width (x ∷ ps) e (suc k) p a = inside_is width ps (and_parts (leb (x.o + x.l) width) (tidy_ok width ps) (and_parts (apart_ok x ps) (leb (x.o + x.l) width && tidy_ok width ps) e).1).1 k p a
 
 module _ (subs : List ℕ → List ℕ) (ats : ℕ → ℕ) where
   abbrev N : Part → ℕ
@@ -98,8 +98,8 @@ module _ (subs : List ℕ → List ℕ) (ats : ℕ → ℕ) where
 
   parts_can : (p : Part) (ps : List Part) → can_ok subs ats (p ∷ ps) ≡ true → (N p < 2 ^ p.l) × (aligned_ok ats p.kind ≡ true) × (can_ok subs ats ps ≡ true)
   parts_can p ps e =
-      let a = both (ltb (N p) (2 ^ p.l)) (aligned_ok ats p.kind && can_ok subs ats ps) e in
-      let b = both (aligned_ok ats p.kind) (can_ok subs ats ps) a.1 in
+      let a = and_parts (ltb (N p) (2 ^ p.l)) (aligned_ok ats p.kind && can_ok subs ats ps) e in
+      let b = and_parts (aligned_ok ats p.kind) (can_ok subs ats ps) a.1 in
       (ltb_is (N p) (2 ^ p.l) a.0, b.0, b.1)
 
   fit_is : (ps : List Part) → can_ok subs ats ps ≡ true → (k : ℕ) (p : Part) → slice_get ps k ≡ Some p → N p < 2 ^ p.l
@@ -120,7 +120,7 @@ module _ (subs : List ℕ → List ℕ) (ats : ℕ → ℕ) where
 
   word_is : (f : FlatWord) → fit_ok f ≡ true → WordHolds subs ats true f (packed subs ats f.parts)
   word_is f e =
-      let b = both (tidy_ok f.width f.parts) (can_ok subs ats f.parts) e in
+      let b = and_parts (tidy_ok f.width f.parts) (can_ok subs ats f.parts) e in
       packed_holds subs ats f (record { apart = apart_is f.width f.parts b.0; inside = inside_is f.width f.parts b.0 })
       (record { fit = fit_is f.parts b.1; aligned = aligned_is f.parts b.1 }) true
 
@@ -154,13 +154,13 @@ module _ (subs : List ℕ → List ℕ) (ats : ℕ → ℕ) where
     root_is : (fs : List FlatWord) (j k : ℕ) (f : FlatWord) → root_ok fs j ≡ true → slice_get fs k ≡ Some f → (slice_get ws (j + k) ≡ Some (packed subs ats f.parts)) × WordHolds subs ats true f (packed subs ats f.parts)
     root_is [] j k f e is = absurd cc
     root_is (x ∷ fs) j zero f e is =
-        let a = both (some_ok (slice_get ws j) (packed subs ats x.parts) && fit_ok x) (root_ok fs (j + 1)) e in
-        let b = both (some_ok (slice_get ws j) (packed subs ats x.parts)) (fit_ok x) a.0 in
+        let a = and_parts (some_ok (slice_get ws j) (packed subs ats x.parts) && fit_ok x) (root_ok fs (j + 1)) e in
+        let b = and_parts (some_ok (slice_get ws j) (packed subs ats x.parts)) (fit_ok x) a.0 in
         let z : j + 0 ≡ j = omega arith in
         subst (λ (y : FlatWord). (slice_get ws (j + 0) ≡ Some (packed subs ats y.parts)) × WordHolds subs ats true y (packed subs ats y.parts)) (same_Some x f is)
         (ap (slice_get ws) z ∙ some_is (slice_get ws j) (packed subs ats x.parts) b.0, word_is x b.1)
     root_is (x ∷ fs) j (suc k) f e is =
-        let a = both (some_ok (slice_get ws j) (packed subs ats x.parts) && fit_ok x) (root_ok fs (j + 1)) e in
+        let a = and_parts (some_ok (slice_get ws j) (packed subs ats x.parts) && fit_ok x) (root_ok fs (j + 1)) e in
         let z : j + suc k ≡ j + 1 + k = omega arith in
         let r = root_is fs (j + 1) k f a.1 is in (ap (slice_get ws) z ∙ r.0, r.1)
 
@@ -168,13 +168,13 @@ module _ (subs : List ℕ → List ℕ) (ats : ℕ → ℕ) where
         → (load_of m (ats b) (begins_at all (j + k)) f.width ≡ Ok (packed subs ats f.parts)) × WordHolds subs ats true f (packed subs ats f.parts)
     block_is all b [] j k f e is = absurd cc
     block_is all b (x ∷ fs) j zero f e is =
-        let a = both (found_ok (load_of m (ats b) (begins_at all j) x.width) (packed subs ats x.parts) && fit_ok x) (block_ok all b fs (j + 1)) e in
-        let c = both (found_ok (load_of m (ats b) (begins_at all j) x.width) (packed subs ats x.parts)) (fit_ok x) a.0 in
+        let a = and_parts (found_ok (load_of m (ats b) (begins_at all j) x.width) (packed subs ats x.parts) && fit_ok x) (block_ok all b fs (j + 1)) e in
+        let c = and_parts (found_ok (load_of m (ats b) (begins_at all j) x.width) (packed subs ats x.parts)) (fit_ok x) a.0 in
         let z : j + 0 ≡ j = omega arith in
         subst (λ (y : FlatWord). (load_of m (ats b) (begins_at all (j + 0)) y.width ≡ Ok (packed subs ats y.parts)) × WordHolds subs ats true y (packed subs ats y.parts)) (same_Some x f is)
         (ap (λ i. load_of m (ats b) (begins_at all i) x.width) z ∙ found_is (load_of m (ats b) (begins_at all j) x.width) (packed subs ats x.parts) c.0, word_is x c.1)
     block_is all b (x ∷ fs) j (suc k) f e is =
-        let a = both (found_ok (load_of m (ats b) (begins_at all j) x.width) (packed subs ats x.parts) && fit_ok x) (block_ok all b fs (j + 1)) e in
+        let a = and_parts (found_ok (load_of m (ats b) (begins_at all j) x.width) (packed subs ats x.parts) && fit_ok x) (block_ok all b fs (j + 1)) e in
         let z : j + suc k ≡ j + 1 + k = omega arith in
         let r = block_is all b fs (j + 1) k f a.1 is in (ap (λ i. load_of m (ats b) (begins_at all i) f.width) z ∙ r.0, r.1)
 
@@ -184,12 +184,12 @@ module _ (subs : List ℕ → List ℕ) (ats : ℕ → ℕ) where
     blocks_is : (xs : List Block) (b k : ℕ) (x : Block) → blocks_ok xs b ≡ true → slice_get xs k ≡ Some x → BlockIs (b + k) x
     blocks_is [] b k x e is = absurd cc
     blocks_is (y ∷ xs) b zero x e is =
-        let a = both (some_ok (size_at m.blocks (ats b)) (size_of y) && block_ok y.words b y.words 0) (blocks_ok xs (b + 1)) e in
-        let c = both (some_ok (size_at m.blocks (ats b)) (size_of y)) (block_ok y.words b y.words 0) a.0 in
+        let a = and_parts (some_ok (size_at m.blocks (ats b)) (size_of y) && block_ok y.words b y.words 0) (blocks_ok xs (b + 1)) e in
+        let c = and_parts (some_ok (size_at m.blocks (ats b)) (size_of y)) (block_ok y.words b y.words 0) a.0 in
         let z : b ≡ b + 0 = omega arith in
         subst (λ i. BlockIs i x) z (subst (λ (q : Block). BlockIs b q) (same_Some y x is) (some_is (size_at m.blocks (ats b)) (size_of y) c.0, c.1))
     blocks_is (y ∷ xs) b (suc k) x e is =
-        let a = both (some_ok (size_at m.blocks (ats b)) (size_of y) && block_ok y.words b y.words 0) (blocks_ok xs (b + 1)) e in
+        let a = and_parts (some_ok (size_at m.blocks (ats b)) (size_of y) && block_ok y.words b y.words 0) (blocks_ok xs (b + 1)) e in
         let z : b + 1 + k ≡ b + suc k = omega arith in subst (λ i. BlockIs i x) z (blocks_is xs (b + 1) k x a.1 is)
 
     pub image_is : (leaf : Leaf) → image_ok leaf ≡ true → LeafStands leaf ws m true subs ats
@@ -200,10 +200,10 @@ module _ (subs : List ℕ → List ℕ) (ats : ℕ → ℕ) where
     }
       where
         b : (nat_eq (length ws) (length leaf.root) ≡ true) × ((root_ok leaf.root 0 && blocks_ok leaf.blocks 0) ≡ true)
-        b = both (nat_eq (length ws) (length leaf.root)) (root_ok leaf.root 0 && blocks_ok leaf.blocks 0) e
+        b = and_parts (nat_eq (length ws) (length leaf.root)) (root_ok leaf.root 0 && blocks_ok leaf.blocks 0) e
 
         c : (root_ok leaf.root 0 ≡ true) × (blocks_ok leaf.blocks 0 ≡ true)
-        c = both (root_ok leaf.root 0) (blocks_ok leaf.blocks 0) b.1
+        c = and_parts (root_ok leaf.root 0) (blocks_ok leaf.blocks 0) b.1
 
         in_block : (k : ℕ) (x : Option Block) (j : ℕ) (f : FlatWord) → slice_get leaf.blocks k ≡ x → slice_get (words_of_block x) j ≡ Some f
             → (w : ℕ) × (load_of m (ats k) (begins_at (words_of_block x) j) f.width ≡ Ok w) × WordHolds subs ats true f w

@@ -1,7 +1,9 @@
 -- What constant parts say of the bits of a word.
 use Rattle.std.proofs.Common.{◌≡◌, ℕ, zero, suc, ◌+◌, ◌-◌, ◌*◌, ◌<◌, ◌&&◌, List, [], ◌∷◌, Bool, true, false, Option, Some, None, refl, sym, ap, ◌∙◌, arith}
 use Rattle.std.specs.Prelude.{slice_get, leb, ltb, if◌then◌else◌}
+use Rattle.std.specs.Option.{option_or}
 use Rattle.std.specs.Int.{bit_at}
+use Rattle.std.proofs.lemmas.Bool.{and_parts}
 use Rattle.std.proofs.lemmas.Option.{same_Some}
 use Rattle.std.proofs.lemmas.Grind.{common_steps}
 use Rattle.rb_bits.specs.Words.{take_of}
@@ -9,10 +11,9 @@ use Rattle.rb_bits.proofs.WordLemmas.{bit_at_take}
 use Rattle.rb_layout.specs.declared.layout.Part.{Part}
 use Rattle.rb_layout.specs.declared.layout.Kind.{Kind}
 use Rattle.rb_layout.specs.declared.layout.Kind.TheVariants.{Const, Bits, Word, Pointer}
-use Rattle.rb_layout.specs.Locations.{or_else, bit_of_kind, bit_of_part, constant_bit, with_bit, constant_bits}
+use Rattle.rb_layout.specs.Locations.{bit_of_kind, bit_of_part, constant_bit, with_bit, constant_bits}
 use Rattle.rb_rel.specs.Relation.{HoldsKind, PartHolds}
 use Rattle.rb_rel.proofs.Bits.{take_suc, take_none}
-use Rattle.rb_rel.proofs.Lists.{both}
 use Rattle.rb_rel.proofs.Reading.{leb_is}
 
 -- the bits of constant parts are read as such
@@ -32,7 +33,7 @@ ltb_is a b e = grind (arith, common_steps)
 bit_of_part-is : (subs : List ℕ → List ℕ) (ats : ℕ → ℕ) (w i b : ℕ) (p : Part) → PartHolds subs ats w p → bit_of_part p i ≡ Some b → bit_at w i ≡ b
 bit_of_part-is subs ats w i b p h e =
     let c = chosen_of (leb p.o i && ltb i (p.o + p.l)) (bit_of_kind p.kind (i - p.o)) b e in
-    let t = both (leb p.o i) (ltb i (p.o + p.l)) c.0 in
+    let t = and_parts (leb p.o i) (ltb i (p.o + p.l)) c.0 in
     let lo = leb_is p.o i t.0 in
     let hi = ltb_is i (p.o + p.l) t.1 in
     let at : p.o + (i - p.o) ≡ i = omega arith in
@@ -45,7 +46,7 @@ module _ (subs : List ℕ → List ℕ) (ats : ℕ → ℕ) (w : ℕ) where
   pub constant_bit-is : (ps : List Part) (i b : ℕ) → AllHold ps → constant_bit ps i ≡ Some b → bit_at w i ≡ b
   constant_bit-is [] i b h = λ e. absurd cc
   constant_bit-is (p ∷ ps) i b h =
-      let P : Option ℕ → Type 0 = λ x. bit_of_part p i ≡ x → or_else x (constant_bit ps i) ≡ Some b → bit_at w i ≡ b in
+      let P : Option ℕ → Type 0 = λ x. bit_of_part p i ≡ x → option_or x (constant_bit ps i) ≡ Some b → bit_at w i ≡ b in
       (elim (bit_of_part p i) as P [
         | None ↦ λ is e. constant_bit-is ps i b (λ k q at. h (suc k) q at) e
         | Some x ↦ λ is e. bit_of_part-is subs ats w i b p (h 0 p refl) (is ∙ e)

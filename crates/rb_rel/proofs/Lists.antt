@@ -49,11 +49,6 @@ get-mapped f [] k x e = absurd cc
 get-mapped f (y ∷ xs) zero x e = let s = same_Some y x e in cc
 get-mapped f (y ∷ xs) (suc k) x e = get-mapped f xs k x e
 
-pub both : (a b : Bool) → (a && b) ≡ true → (a ≡ true) × (b ≡ true)
-both true true e = (refl, refl)
-both true false e = absurd cc
-both false b e = absurd cc
-
 pub and_true : (a b : Bool) → a ≡ true → b ≡ true → (a && b) ≡ true
 and_true true b x y = y
 and_true false b x y = absurd cc

@@ -1,6 +1,7 @@
 -- Two values that a pattern matches, and that agree at its open positions, are equal.
 use Rattle.std.proofs.Common.{◌≡◌, ℕ, suc, ◌+◌, ◌==◌, ◌&&◌, map, List, [], ◌∷◌, Bool, true, Option, Some, None, refl, sym, ap, ◌∙◌, arith}
 use Rattle.std.specs.Prelude.{slice_get}
+use Rattle.std.proofs.lemmas.Bool.{and_parts}
 use Rattle.std.proofs.lemmas.Option.{same_Some}
 use Rattle.rb_core.specs.declared.value.Value.{Value, out-Value, roll-Value, roll-out-Value}
 use Rattle.rb_core.specs.declared.value.Value.TheOpen as V
@@ -16,7 +17,7 @@ use Rattle.rb_core.proofs.PatternLaws.{Each, induction, fold-Wild, fold-Var, fol
 use Rattle.rb_core.proofs.MatchingForms.{matches-Num, matches-Con}
 use Rattle.rb_layout.specs.Positions.{Open, below, opens_below, opens_of, opens_step, types_or_none}
 use Rattle.rb_rel.specs.Provenances.{fits_type, fits_step, is_named}
-use Rattle.rb_rel.proofs.Lists.{both, get-left, get-right, get-mapped}
+use Rattle.rb_rel.proofs.Lists.{get-left, get-right, get-mapped}
 use Rattle.rb_rel.proofs.Reading.{same_nat}
 
 module _ (types : List DataDecl) where
@@ -61,9 +62,9 @@ module _ (types : List DataDecl) where
   fields_same (p ∷ ps) each (t ∷ ts) [] us i v u av au f pv pu s = absurd cc
   fields_same (p ∷ ps) each (t ∷ ts) (x ∷ vs) [] i v u av au f pv pu s = absurd cc
   fields_same (p ∷ ps) each (t ∷ ts) (x ∷ vs) (y ∷ us) i v u av au f pv pu s =
-      let bf = both (fits_type types p t) (all_of_types (map (fits_type types) ps) ts) f in
-      let bv = both (matches_of p x) (all_pass (map matches_of ps) vs) pv in
-      let bu = both (matches_of p y) (all_pass (map matches_of ps) us) pu in
+      let bf = and_parts (fits_type types p t) (all_of_types (map (fits_type types) ps) ts) f in
+      let bv = and_parts (matches_of p x) (all_pass (map matches_of ps) vs) pv in
+      let bu = and_parts (matches_of p y) (all_pass (map matches_of ps) us) pu in
       let z : i + 0 ≡ i = omega arith in
       let hv : sub_at (Some v) i ≡ Some x = ap (sub_at (Some v)) (sym z) ∙ av 0 in
       let hu : sub_at (Some u) i ≡ Some y = ap (sub_at (Some u)) (sym z) ∙ au 0 in
@@ -81,8 +82,8 @@ module _ (types : List DataDecl) where
   layers_same c ps each (V.Num n) lu v u ev eu f mv mu s = absurd cc
   layers_same c ps each (V.Con k vs) (V.Num n) v u ev eu f mv mu s = absurd cc
   layers_same c ps each (V.Con k vs) (V.Con j us) v u ev eu f mv mu s =
-      let bv = both (c.con == k) (all_pass (map matches_of ps) vs) mv in
-      let bu = both (c.con == j) (all_pass (map matches_of ps) us) mu in
+      let bv = and_parts (c.con == k) (all_pass (map matches_of ps) vs) mv in
+      let bu = and_parts (c.con == j) (all_pass (map matches_of ps) us) mu in
       let kv = same_nat c.con k bv.0 in
       let ku = same_nat c.con j bu.0 in
       let zs : (i : ℕ) → 0 + i ≡ i = λ i. omega arith in
@@ -93,7 +94,7 @@ module _ (types : List DataDecl) where
 
   con_fixes : (at : ℕ) (c : ConRef) (ps : List Pat) → Each Fixes ps → Fixes (Con at c ps)
   con_fixes at c ps each ty v u f mv mu s =
-      let bf = both (is_named c.ty ty) (are_of (map (fits_type types) ps) (fields_of types c)) (sym (fits-Con at c ps ty) ∙ f) in
+      let bf = and_parts (is_named c.ty ty) (are_of (map (fits_type types) ps) (fields_of types c)) (sym (fits-Con at c ps ty) ∙ f) in
       let l = layers_same c ps each (out-Value v) (out-Value u) v u refl refl bf.1 (sym (matches-Con v at c ps) ∙ mv) (sym (matches-Con u at c ps) ∙ mu)
       (λ k o e. s k o (ap (λ (os : List Open). slice_get os k) (opens-Con at c ps ty) ∙ e)) in
       sym (roll-out-Value v) ∙ ap roll-Value l ∙ roll-out-Value u

@@ -3,6 +3,7 @@ use Rattle.std.proofs.Common.{◌≡◌, ℕ, zero, suc, ◌==◌, ◌&&◌, map
 use Rattle.std.specs.Prelude.{slice_get, is_some, unwrap_or, if◌then◌else◌}
 use Rattle.std.specs.List.{list_all}
 use Rattle.std.specs.Result.{result_err}
+use Rattle.std.proofs.lemmas.Bool.{and_parts}
 use Rattle.std.proofs.lemmas.Option.{same_Some}
 use Rattle.rb_core.specs.declared.types.Ty.{Ty}
 use Rattle.rb_core.specs.declared.types.Ty.TheVariants.{Int, Named}
@@ -13,7 +14,7 @@ use Rattle.rb_core.specs.declared.pattern.Pat.{Pat, out-Pat, Wild, Var, Num, Con
 use Rattle.rb_core.specs.declared.pattern.Pat.TheVariants.{outs-Con}
 use Rattle.rb_core.specs.declared.typing.TypeFault.{TypeFault}
 use Rattle.rb_core.specs.declared.typing.TypeFault.TheVariants.{Mismatch, Arity}
-use Rattle.rb_core.specs.Typing.{Typing, and_then, same_type, type_holds, number_type, field_types, also_bound, subpatterns, fields_match, pattern_params, distinct_binders}
+use Rattle.rb_core.specs.Typing.{Typing, and_then, same_type, type_holds, number_type, field_types, also_bound, subpatterns, field_params, pattern_params, distinct_binders}
 use Rattle.rb_core.specs.TypedPrograms.{first_fault, provenance_fault}
 use Rattle.rb_core.specs.Values.{all_of_types, are_of, fields_of}
 use Rattle.rb_core.specs.WellNumbered.{pattern_is_numbered, is_constructor, Below, below_step, is_provenance}
@@ -24,7 +25,7 @@ use Rattle.rb_core.proofs.PatternLaws.{Each, induction, fold-Wild, fold-Var, fol
 use Rattle.rb_core.proofs.TypingLemmas.{pattern-Num, pattern-Con}
 use Rattle.rb_layout.specs.Positions.{root_type}
 use Rattle.rb_rel.specs.Provenances.{fits_type, fits_step, is_named}
-use Rattle.rb_rel.proofs.Lists.{both, and_true}
+use Rattle.rb_rel.proofs.Lists.{and_true}
 use Rattle.rb_rel.proofs.Opens.{fits-Con, fits-Num}
 use Rattle.rb_rel.proofs.Reading.{same_nat}
 
@@ -51,7 +52,7 @@ module _ (types : List DataDecl) where
       let rest = subpatterns (map (pattern_params types) ps) ts in
       let a = then-ok (pattern_params types p t) (λ bound. also_bound bound rest) bs e in
       let b = then-ok rest (λ qs. Ok (a.0 ++ qs)) bs a.2 in
-      let m = both (pattern_is_numbered types p) (list_all (λ b. b) (map (pattern_is_numbered types) ps)) n in
+      let m = and_parts (pattern_is_numbered types p) (list_all (λ b. b) (map (pattern_is_numbered types) ps)) n in
       and_true (fits_type types p t) (all_of_types (map (fits_type types) ps) ts) (each.0 t a.0 m.0 a.1) (subs_fit ps each.1 ts b.0 (omega (arith, l)) m.1 b.1)
 
   same_named : (ty : Ty) (t : ℕ) → same_type ty (Named t) ≡ true → is_named t ty ≡ true
@@ -60,7 +61,7 @@ module _ (types : List DataDecl) where
 
   fields_fit : (at : ℕ) (ps : List Pat) → Each Fits ps → (o : Option (List Ty)) (bs : List Param) → is_some o ≡ true
       → list_all (λ b. b) (map (pattern_is_numbered types) ps) ≡ true
-      → ◌≡◌ {A = Typing (List Param)} (fields_match at (map (pattern_params types) ps) (unwrap_or o [])) (Ok bs) → are_of (map (fits_type types) ps) o ≡ true
+      → ◌≡◌ {A = Typing (List Param)} (field_params at (map (pattern_params types) ps) (unwrap_or o [])) (Ok bs) → are_of (map (fits_type types) ps) o ≡ true
   fields_fit at ps each None bs some n e = absurd cc
   fields_fit at ps each (Some ts) bs some n e =
       let c = chosen-ok (length (map (pattern_params types) ps) == length ts) (subpatterns (map (pattern_params types) ps) ts) (Arity at (length ts) (length (map (pattern_params types) ps))) bs e in
@@ -68,9 +69,9 @@ module _ (types : List DataDecl) where
 
   con_fits : (at : ℕ) (c : ConRef) (ps : List Pat) → Each Fits ps → Fits (Con at c ps)
   con_fits at c ps each ty bs n e =
-      let a = both (is_constructor types c) (is_short (map (pattern_is_numbered types) ps) && list_all (λ b. b) (map (pattern_is_numbered types) ps)) (sym (fold-Con Bool (W.numbered_pattern_step types) at c ps) ∙ n) in
-      let b = both (is_short (map (pattern_is_numbered types) ps)) (list_all (λ b. b) (map (pattern_is_numbered types) ps)) a.1 in
-      let d = chosen-ok (same_type ty (Named c.ty)) (fields_match at (map (pattern_params types) ps) (field_types types c)) (Mismatch at ty (Named c.ty)) bs (sym (pattern-Con types at c ps ty) ∙ e) in
+      let a = and_parts (is_constructor types c) (is_short (map (pattern_is_numbered types) ps) && list_all (λ b. b) (map (pattern_is_numbered types) ps)) (sym (fold-Con Bool (W.numbered_pattern_step types) at c ps) ∙ n) in
+      let b = and_parts (is_short (map (pattern_is_numbered types) ps)) (list_all (λ b. b) (map (pattern_is_numbered types) ps)) a.1 in
+      let d = chosen-ok (same_type ty (Named c.ty)) (field_params at (map (pattern_params types) ps) (field_types types c)) (Mismatch at ty (Named c.ty)) bs (sym (pattern-Con types at c ps ty) ∙ e) in
       fits-Con types at c ps ty ∙ and_true (is_named c.ty ty) (are_of (map (fits_type types) ps) (fields_of types c)) (same_named ty c.ty d.0) (fields_fit at ps each (fields_of types c) bs a.0 b.1 d.1)
 
   pub typed_fits : (p : Pat) → Fits p
@@ -93,7 +94,7 @@ module _ (types : List DataDecl) where
     var = λ at x t is f. absurd (no_root (Var at x) (ap (λ (b : Below). b.provenance) (fold-Var Below below_step at x)) is);
     num = λ at k t is f. absurd (no_root (Num at k) (ap (λ (b : Below). b.provenance) (fold-Num Below below_step at k)) is);
     con = λ at c ps each t is f.
-        let b = both (is_named c.ty (Named t)) (are_of (map (fits_type types) ps) (fields_of types c)) (sym (fits-Con types at c ps (Named t)) ∙ f) in
+        let b = and_parts (is_named c.ty (Named t)) (are_of (map (fits_type types) ps) (fields_of types c)) (sym (fits-Con types at c ps (Named t)) ∙ f) in
         ap root_type (outs-Con at c ps) ∙ ap Named (sym (same_nat t c.ty b.0));
   })
 
@@ -116,8 +117,3 @@ none_at [] k x e h = absurd cc
 none_at (None ∷ xs) zero x e h = sym (same_Some _ _ h)
 none_at (None ∷ xs) (suc k) x e h = none_at xs k x e h
 none_at (Some f ∷ xs) k x e h = absurd cc
-
-pub all_at : {A : Type 0} (f : A → Bool) (xs : List A) (k : ℕ) (x : A) → list_all f xs ≡ true → slice_get xs k ≡ Some x → f x ≡ true
-all_at f [] k x e h = absurd cc
-all_at f (y ∷ xs) zero x e h = ap f (sym (same_Some y x h)) ∙ (both (f y) (list_all f xs) e).0
-all_at f (y ∷ xs) (suc k) x e h = all_at f xs k x (both (f y) (list_all f xs) e).1 h

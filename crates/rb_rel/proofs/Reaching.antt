@@ -13,6 +13,7 @@ use Rattle.rb_core.specs.declared.layout_decl.LayTree.{LayTree, Split, Leaf}
 use Rattle.rb_core.specs.declared.layout_decl.LayTree.TheFolds.{fold-Arm, fold-LayTree, fold-roll-Arm}
 use Rattle.rb_core.specs.declared.layout_decl.LayTree.TheOpen.{LayTree-F}
 use Rattle.rb_core.specs.Layouts.{WrittenLeaf, leaves_step, arm_leaves, leaves, leaves_under}
+use Rattle.rb_core.proofs.LayoutInduction.{tree-induction}
 use Rattle.rb_layout.specs.declared.layout.FlatTree.TheFolds.{fold-roll-FlatArm}
 use Rattle.rb_layout.specs.declared.layout.FlatArm.{FlatArm}
 use Rattle.rb_layout.specs.Splits.{Test, Is, IsNone, Route, under_test, Under, arm_routes, else_routes, literals_of, routes_step, routes_arm, routes_of, routes_under}
@@ -154,7 +155,7 @@ else_counts loc arms other each o =
     }
 
 counts : (tree : LayTree) → Counts tree
-counts = D.tree-induction Counts (record { split = split_counts; split_else = else_counts; leaf = leaf_counts })
+counts = tree-induction Counts (record { split = split_counts; split_else = else_counts; leaf = leaf_counts })
 
 -- each leaf is below the flat tree
 pub all_reached : (tree : LayTree) (n : ℕ) → n < length (leaves tree) → (k : ℕ) × (r : Route) × (slice_get (routes_of (flat_tree tree)) k ≡ Some r) × (r.leaf ≡ n)

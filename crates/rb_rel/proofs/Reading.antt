@@ -1,6 +1,8 @@
 -- What is read at a location of words that represent a value.
 use Rattle.std.proofs.Common.{◌≡◌, ℕ, suc, ◌+◌, ◌*◌, ◌/◌, ◌≤◌, ◌==◌, ◌&&◌, List, [], ◌∷◌, Bool, true, false, Option, Some, None, Ok, refl, sym, subst, ap, ◌∙◌, arith}
 use Rattle.std.specs.Prelude.{slice_get, leb, if◌then◌else◌}
+use Rattle.std.specs.Option.{option_or}
+use Rattle.std.proofs.lemmas.Bool.{and_parts}
 use Rattle.std.proofs.lemmas.Option.{same_Some}
 use Rattle.std.proofs.lemmas.Grind.{common_steps}
 use Rattle.rb_bits.specs.Words.{take_of}
@@ -15,9 +17,8 @@ use Rattle.rb_core.specs.declared.layout_decl.Loc.{Loc}
 use Rattle.rb_layout.specs.declared.layout.WordRef.{WordRef}
 use Rattle.rb_layout.specs.Words.{words_in, flat_at, begins_at}
 use Rattle.rb_rel.specs.Relation.{HoldsKind, LeafStands}
-use Rattle.rb_layout.specs.Locations.{Reached, or_else, pointed_by, pointed_in, block_in, pointer_block, word_beginning, ref_in, next_ref, range_in, resolve_from, reached_at}
+use Rattle.rb_layout.specs.Locations.{Reached, pointed_by, pointed_in, block_in, pointer_block, word_beginning, ref_in, next_ref, range_in, resolve_from, reached_at}
 use Rattle.rb_rel.specs.Reading.{WordStands, IsRead, on_loaded, read_from, read_first, read_loc}
-use Rattle.rb_rel.proofs.Lists.{both}
 
 -- a part that is such a pointer
 pub record IsAt (ps : List Part) (o l align b : ℕ) : Type 0 where
@@ -52,12 +53,12 @@ pointer_part : (p : Part) (o l align b : ℕ) → pointed_in p o l align ≡ Som
 pointer_part p o l align b =
     let P : Bool → Type 0 = λ t. (if t then pointed_by p.kind align else None) ≡ Some b → (t ≡ true) × (p.kind ≡ Pointer align b) in
     let h = (elim ((p.o == o) && (p.l == l)) as P [ true ↦ λ e. (refl, pointer_kind p.kind align b e) | false ↦ λ e. absurd cc ]) in
-    λ e. let x = h e in let y = both (p.o == o) (p.l == l) x.0 in (same_nat p.o o y.0, same_nat p.l l y.1, x.1)
+    λ e. let x = h e in let y = and_parts (p.o == o) (p.l == l) x.0 in (same_nat p.o o y.0, same_nat p.l l y.1, x.1)
 
 pub block_in-is : (ps : List Part) (o l align b : ℕ) → block_in ps o l align ≡ Some b → IsAt ps o l align b
 block_in-is [] o l align b = λ e. absurd cc
 block_in-is (p ∷ ps) o l align b =
-    let P : Option ℕ → Type 0 = λ x. (pointed_in p o l align ≡ x) → or_else x (block_in ps o l align) ≡ Some b → IsAt (p ∷ ps) o l align b in
+    let P : Option ℕ → Type 0 = λ x. (pointed_in p o l align ≡ x) → option_or x (block_in ps o l align) ≡ Some b → IsAt (p ∷ ps) o l align b in
     (elim (pointed_in p o l align) as P [
       | None ↦ λ is e. let r = block_in-is ps o l align b e in
           record { number = suc r.number; part = r.part; is_part = r.is_part; first = r.first; long = r.long; is_kind = r.is_kind }
@@ -80,7 +81,7 @@ word_beginning-is (f ∷ fs) start byte width from j =
     let P : Bool → Type 0 = λ t. ((start == byte) && (f.width == width)) ≡ t
     → (if t then Some from else word_beginning fs (start + f.width / 8) byte width (from + 1)) ≡ Some j → Begins (f ∷ fs) start byte width from j in
     (elim ((start == byte) && (f.width == width)) as P [
-      | true ↦ λ is e. let h = both (start == byte) (f.width == width) is in
+      | true ↦ λ is e. let h = and_parts (start == byte) (f.width == width) is in
           let s = same_nat start byte h.0 in
           record { number = 0; word = f; is_word = refl; is_number = omega (arith, same_Some from j e); is_byte = omega arith; is_width = same_nat f.width width h.1 }
       | false ↦ λ is e. let r = word_beginning-is fs (start + f.width / 8) byte width (from + 1) j e in
@@ -100,7 +101,7 @@ module _ (leaf : Leaf) (ws : List ℕ) (m : Memory) (clean : Bool) (subs : List 
   last_range : (r : WordRef) (f : FlatWord) (w o l : ℕ) (x : Reached) → At r f w → range_in (Some f) r o l ≡ Some x → Reads x (Some (take_of w o l))
   last_range r f w o l x s e =
       let h = chosen (leb 1 l && leb (o + l) f.width) (record { ref = r; word = f; o = o; l = l }) x e in
-      let b = both (leb 1 l) (leb (o + l) f.width) h.0 in
+      let b = and_parts (leb 1 l) (leb (o + l) f.width) h.0 in
       subst (λ (y : Reached). Reads y (Some (take_of w o l))) h.1 (record {
         found = w;
         stands = s;

@@ -1,6 +1,7 @@
 -- What words represent is of the type.
 use Rattle.std.proofs.Common.{◌≡◌, ℕ, suc, ◌+◌, ◌<◌, ◌^◌, ◌==◌, nat_lt, map, List, [], ◌∷◌, Bool, true, Option, Some, None, refl, sym, subst, ap, ◌∙◌, arith}
 use Rattle.std.specs.Prelude.{slice_get}
+use Rattle.std.proofs.lemmas.Bool.{and_parts}
 use Rattle.std.proofs.lemmas.Option.{same_Some}
 use Rattle.std.proofs.lemmas.Grind.{common_steps}
 use Rattle.rb_core.specs.declared.value.Value.{Value, map-Value, out-Value, fold_out-Value}
@@ -24,7 +25,7 @@ use Rattle.rb_rel.proofs.Lawful.{ProvenancesFit}
 use Rattle.rb_rel.specs.Provenances.{fits_type, is_named}
 use Rattle.rb_rel.specs.Relation.{Represents, number, built}
 use Rattle.rb_rel.proofs.Leaves.{leaf_matches}
-use Rattle.rb_rel.proofs.Lists.{both, and_true, get-left, get-right, get-mapped}
+use Rattle.rb_rel.proofs.Lists.{and_true, get-left, get-right, get-mapped}
 use Rattle.rb_rel.proofs.Opens.{fits-Con, fits-Num, opens-Con, opens-Wild, opens-Var, fitting}
 use Rattle.rb_rel.proofs.Reading.{same_nat}
 
@@ -45,8 +46,8 @@ module _ (types : List DataDecl) where
   fields_typed (p ∷ ps) each [] vs i v av f pv s = absurd cc
   fields_typed (p ∷ ps) each (t ∷ ts) [] i v av f pv s = absurd cc
   fields_typed (p ∷ ps) each (t ∷ ts) (x ∷ vs) i v av f pv s =
-      let bf = both (fits_type types p t) (all_of_types (map (fits_type types) ps) ts) f in
-      let bv = both (matches_of p x) (all_pass (map matches_of ps) vs) pv in
+      let bf = and_parts (fits_type types p t) (all_of_types (map (fits_type types) ps) ts) f in
+      let bv = and_parts (matches_of p x) (all_pass (map matches_of ps) vs) pv in
       let z : i + 0 ≡ i = omega arith in
       let hv : sub_at (Some v) i ≡ Some x = ap (sub_at (Some v)) (sym z) ∙ av 0 in
       let first : is_of_type types x t ≡ true = each.0 t x bf.0 bv.0 (λ k o e.
@@ -73,7 +74,7 @@ module _ (types : List DataDecl) where
   layer_typed c ps each (V.Num n) v ty e nm f mv s = absurd cc
   layer_typed c ps each (V.Con k vs) v (Int bits) e nm f mv s = absurd cc
   layer_typed c ps each (V.Con k vs) v (Named t) e nm f mv s =
-      let bv = both (c.con == k) (all_pass (map matches_of ps) vs) mv in
+      let bv = and_parts (c.con == k) (all_pass (map matches_of ps) vs) mv in
       let sk = same_nat c.con k bv.0 in
       let st = same_nat t c.ty nm in
       let zs : (i : ℕ) → 0 + i ≡ i = λ i. omega arith in
@@ -85,7 +86,7 @@ module _ (types : List DataDecl) where
 
   con_types : (at : ℕ) (c : ConRef) (ps : List Pat) → Each Types ps → Types (Con at c ps)
   con_types at c ps each ty v f mv s =
-      let b = both (is_named c.ty ty) (are_of (map (fits_type types) ps) (fields_of types c)) (sym (fits-Con types at c ps ty) ∙ f) in
+      let b = and_parts (is_named c.ty ty) (are_of (map (fits_type types) ps) (fields_of types c)) (sym (fits-Con types at c ps ty) ∙ f) in
       type-out v ty ∙ layer_typed c ps each (out-Value v) v ty refl b.0 b.1 (sym (matches-Con v at c ps) ∙ mv)
       (λ k o e. s k o (ap (λ (os : List Open). slice_get os k) (opens-Con types at c ps ty) ∙ e))
 

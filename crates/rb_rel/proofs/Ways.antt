@@ -1,6 +1,7 @@
 -- Each part of a leaf has a location: from a root word, through pointer after pointer.
 use Rattle.std.proofs.Common.{◌≡◌, ℕ, zero, suc, ◌+◌, ◌/◌, ◌≤◌, ◌==◌, ◌&&◌, List, [], ◌∷◌, ◌++◌, Bool, true, false, Option, Some, None, refl, sym, subst, ap, ◌∙◌, arith}
 use Rattle.std.specs.Prelude.{slice_get, leb, if◌then◌else◌}
+use Rattle.std.specs.Option.{option_or}
 use Rattle.std.proofs.lemmas.Option.{same_Some}
 use Rattle.std.proofs.lemmas.Grind.{common_steps}
 use Rattle.rb_core.specs.declared.layout_decl.Step.{Step}
@@ -12,7 +13,7 @@ use Rattle.rb_layout.specs.declared.layout.Kind.{Kind}
 use Rattle.rb_layout.specs.declared.layout.Kind.TheVariants.{Pointer}
 use Rattle.rb_layout.specs.declared.layout.WordRef.{WordRef}
 use Rattle.rb_layout.specs.Words.{words_in, flat_at, begins_at}
-use Rattle.rb_layout.specs.Locations.{Reached, or_else, pointed_by, pointed_in, block_in, pointer_block, word_beginning, ref_in, next_ref, range_in, resolve_from}
+use Rattle.rb_layout.specs.Locations.{Reached, pointed_by, pointed_in, block_in, pointer_block, word_beginning, ref_in, next_ref, range_in, resolve_from}
 use Rattle.rb_rel.specs.Reading.{LeadsTo}
 use Rattle.rb_rel.proofs.Parts.{IsTidyLeaf}
 use Rattle.rb_rel.proofs.Reading.{chosen, block_in-is, word_beginning-is}
@@ -34,17 +35,17 @@ pointed_yes p align b is =
     ∙ ap (λ k. pointed_by k align) is
     ∙ ap (λ t. if t then Some b else None) (same_is align)
 
-or_else-some : {A : Type 0} (x y : Option A) (b : A) → y ≡ Some b → (c : A) × (or_else x y ≡ Some c)
-or_else-some None y b e = (b, e)
-or_else-some (Some c) y b e = (c, refl)
+option_or-some : {A : Type 0} (x y : Option A) (b : A) → y ≡ Some b → (c : A) × (option_or x y ≡ Some c)
+option_or-some None y b e = (b, e)
+option_or-some (Some c) y b e = (c, refl)
 
 block_in-some : (ps : List Part) (k : ℕ) (p : Part) (o l align b : ℕ) → slice_get ps k ≡ Some p → pointed_in p o l align ≡ Some b → (c : ℕ) × (block_in ps o l align ≡ Some c)
 block_in-some [] k p o l align b at e = absurd cc
 block_in-some (q ∷ ps) zero p o l align b at e =
     let same : q ≡ p = same_Some q p at in
-    (b, ap (λ x. or_else (pointed_in x o l align) (block_in ps o l align)) same ∙ ap (λ x. or_else x (block_in ps o l align)) e)
+    (b, ap (λ x. option_or (pointed_in x o l align) (block_in ps o l align)) same ∙ ap (λ x. option_or x (block_in ps o l align)) e)
 block_in-some (q ∷ ps) (suc k) p o l align b at e =
-    let r = block_in-some ps k p o l align b at e in or_else-some (pointed_in q o l align) (block_in ps o l align) r.0 r.1
+    let r = block_in-some ps k p o l align b at e in option_or-some (pointed_in q o l align) (block_in ps o l align) r.0 r.1
 
 same_block : (k : Kind) (align b c : ℕ) → k ≡ Pointer align b → k ≡ Pointer align c → c ≡ b
 same_block k align b c e h = let s : Pointer align b ≡ Pointer align c = sym e ∙ h in cc

@@ -2,6 +2,7 @@
 use Rattle.std.proofs.Common.{◌≡◌, ℕ, ◌+◌, ◌<◌, ◌≤◌, ◌&&◌, inl, inr, zero, suc, length, map, List, [], ◌∷◌, true, Option, Some, None, nat_lt, nat_le, refl, sym, ap, ◌∙◌, arith}
 use Rattle.std.specs.Prelude.{slice_get}
 use Rattle.std.specs.List.{list_all}
+use Rattle.std.proofs.lemmas.Bool.{and_parts}
 use Rattle.std.proofs.lemmas.Grind.{common_steps}
 use Rattle.std.proofs.lemmas.Option.{same_Some}
 use Rattle.rb_core.specs.declared.types.Ty.{Ty}
@@ -17,14 +18,14 @@ use Rattle.rb_core.specs.Layouts.{provenances, is_short_layout}
 use Rattle.rb_core.specs.TypedPrograms.{IsTyped}
 use Rattle.rb_core.specs.Values.{fields_of, fields_in, fields_of_con}
 use Rattle.rb_core.specs.WellNumbered.{is_type, is_between, is_upper, con_is_numbered, type_is_numbered, layout_is_numbered, provenance_is_numbered}
+use Rattle.rb_core.proofs.MatchingLemmas.{all_at}
 use Rattle.rb_core.proofs.PatternLaws as PL
 use Rattle.rb_layout.specs.A1.{A1, HasShape}
 use Rattle.rb_layout.specs.Flattening.{decl_of, shape_in, shape_of}
 use Rattle.rb_layout.specs.Positions.{Open, below, opens_below, opens_of, opens_step, open_positions, root_type, types_or_none}
 use Rattle.rb_rel.proofs.Declared.{decl_at}
-use Rattle.rb_rel.proofs.Lists.{both, get-append, get-map}
+use Rattle.rb_rel.proofs.Lists.{get-append, get-map}
 use Rattle.rb_rel.proofs.Opens.{opens-Con, opens-Wild, opens-Var}
-use Rattle.rb_rel.proofs.Provenances.{all_at}
 
 le_is : (a b : ℕ) → nat_le a b ≡ true → a ≤ b
 le_is a b e = grind (arith, common_steps)
@@ -41,8 +42,8 @@ module _ (types : List DataDecl) (numbered : list_all (type_is_numbered types) t
       go None e h = absurd cc
       go (Some c) e h =
           let a = all_at (con_is_numbered types) ds k c all e in
-          let b = both (is_upper c.name) (nat_le (length c.fields) 32 && list_all (is_type types) c.fields) a in
-          let d = both (nat_le (length c.fields) 32) (list_all (is_type types) c.fields) b.1 in
+          let b = and_parts (is_upper c.name) (nat_le (length c.fields) 32 && list_all (is_type types) c.fields) a in
+          let d = and_parts (nat_le (length c.fields) 32) (list_all (is_type types) c.fields) b.1 in
           let x : c.fields ≡ ts = cc in ap (list_all (is_type types)) (sym x) ∙ d.1
 
   pub fields_typed : (c : ConRef) → list_all (is_type types) (types_or_none (fields_of types c)) ≡ true
@@ -56,8 +57,8 @@ module _ (types : List DataDecl) (numbered : list_all (type_is_numbered types) t
       go None e = refl
       go (Some d) e =
           let a = all_at (type_is_numbered types) types c.ty d numbered e in
-          let b = both (is_upper d.name) (is_between 1 256 (length d.cons) && list_all (con_is_numbered types) d.cons) a in
-          let f = both (is_between 1 256 (length d.cons)) (list_all (con_is_numbered types) d.cons) b.1 in
+          let b = and_parts (is_upper d.name) (is_between 1 256 (length d.cons) && list_all (con_is_numbered types) d.cons) a in
+          let f = and_parts (is_between 1 256 (length d.cons)) (list_all (con_is_numbered types) d.cons) b.1 in
           fields d (fields_of_con (slice_get d.cons c.con)) f.1 refl
 
   abbrev AreTypes : List Open → Type 0
@@ -70,7 +71,7 @@ module _ (types : List DataDecl) (numbered : list_all (type_is_numbered types) t
   below_typed [] each ts i all k o e = absurd cc
   below_typed (q ∷ ps) each [] i all k o e = absurd cc
   below_typed (q ∷ ps) each (t ∷ ts) i all k o e =
-      let b = both (is_type types t) (list_all (is_type types) ts) all in
+      let b = and_parts (is_type types t) (list_all (is_type types) ts) all in
       elim (get-append (map (below i) (opens_of types q t)) (opens_below (map (opens_of types) ps) ts (i + 1)) k o e) [
         | inl h ↦ let g = get-map (below i) (opens_of types q t) k o h in ap (λ (y : Open). is_type types y.ty) g.2 ∙ each.0 t b.0 k g.0 g.1
         | inr h ↦ below_typed ps each.1 ts (i + 1) b.1 h.0 o h.1
@@ -110,10 +111,10 @@ module _ (types : List DataDecl) (numbered : list_all (type_is_numbered types) t
 
   -- an integer at an open position has a bit, and at most 64
   pub int_wide : (bits : ℕ) → is_type types (Int bits) ≡ true → 1 ≤ bits
-  int_wide bits e = le_is 1 bits (both (nat_le 1 bits) (nat_le bits 64) e).0
+  int_wide bits e = le_is 1 bits (and_parts (nat_le 1 bits) (nat_le bits 64) e).0
 
   pub int_small : (bits : ℕ) → is_type types (Int bits) ≡ true → bits ≤ 64
-  int_small bits e = le_is bits 64 (both (nat_le 1 bits) (nat_le bits 64) e).1
+  int_small bits e = le_is bits 64 (and_parts (nat_le 1 bits) (nat_le bits 64) e).1
 
 -- a word of a shape has a bit
 pub shape_wide : (p : Program) → IsTyped p → A1 p → (s j w : ℕ) → slice_get (shape_of p.layouts s) j ≡ Some w → 1 ≤ w
@@ -128,7 +129,7 @@ shape_wide p typed a1 s j w e = go (decl_of p.layouts s) refl e
     go (Some d) is h =
         let at = decl_at p.layouts s d is in
         let a = all_at (layout_is_numbered p.types) p.layouts at.0 d typed.numbered.layouts at.1 in
-        let b = both (nat_lt d.ty (length p.types)) (is_between 1 8 (length d.shape) && (list_all (provenance_is_numbered p.types) (provenances d.tree) && is_short_layout d.tree)) a in
+        let b = and_parts (nat_lt d.ty (length p.types)) (is_between 1 8 (length d.shape) && (list_all (provenance_is_numbered p.types) (provenances d.tree) && is_short_layout d.tree)) a in
         let lt = lt_is d.ty (length p.types) b.0 in
         let same = at.2 in
         let here : s < length p.types = omega (arith, lt, same) in

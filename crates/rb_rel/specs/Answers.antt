@@ -1,6 +1,8 @@
 -- What a program's run answers, and what it asks for first: the blocks of its arguments. A construction is the event
 -- that a value of a data type was built; it asks for the blocks of the value's leaf. A making gives, for a type, all
--- constructions that a value takes, those of its subvalues before its own. Types are named by their numbers.
+-- constructions that a value takes, those of its subvalues before its own. Blocks are laid in a memory: placed one
+-- behind the other from its next address on, or one of them is the first that does not fit. Types are named by their
+-- numbers.
 use Rattle.std.specs.Prelude.{ℕ, nat_le, List, [], ◌∷◌, ◌++◌, map, if◌then◌else◌}
 use Rattle.rb_core.specs.declared.value.Value.{Value}
 use Rattle.rb_core.specs.declared.value.Value.TheOpen as V
@@ -19,7 +21,7 @@ use Rattle.rb_core.specs.Values.{node_count}
 use Rattle.rb_core.specs.Typing.{field_types, param_types}
 use Rattle.rb_core.specs.Meaning.{call_of}
 use Rattle.rb_bytes.specs.declared.fault.Full.{Full as Unplaced}
-use Rattle.rb_bytes.specs.Memory.{least_region}
+use Rattle.rb_bytes.specs.Memory.{Memory, empty_memory}
 use Rattle.rb_layout.specs.declared.layout.Layout.{Layout}
 use Rattle.rb_rel.specs.Placing.{Laid, Fits, Over, requests_of, lay}
 
@@ -54,6 +56,21 @@ making_of types = para-Value Making (making_step types)
 abbrev pub all_makings : List DataDecl → List Value → List Ty → List Event
 all_makings types vs ts = in_turn (map (making_of types) vs) ts
 
+-- the constructions that make values as arguments of `main`, one argument after the other
+abbrev pub making_arguments : Program → List Value → List Event
+making_arguments p args = all_makings p.types args (param_types p.funs p.main)
+
+-- the blocks that the arguments of `main` ask for, laid in a memory: where they end up, or the first that does not
+-- fit
+abbrev pub laid_arguments : Program → List Layout → List Value → Memory → Laid
+laid_arguments p layouts args m = lay m.limit m.next (requests_of layouts (making_arguments p args))
+
+-- what a call of `main` with so many calls asks for, laid in a memory: the blocks of its arguments, and then those of
+-- its log, which is what the source does in the call, in order
+abbrev pub laid_call : Program → List Layout → List Value → ℕ → Memory → Laid
+laid_call p layouts args calls m =
+    lay m.limit m.next (requests_of layouts (making_arguments p args ++ (call_of p p.main calls args).log))
+
 -- What a run answers: the block that did not fit; that the calls were spent; that the value has too many nodes to be
 -- shown; or the value.
 pub data Answer : Type 0 where
@@ -69,13 +86,8 @@ answer_at (Over full) end nodes = Full full
 answer_at (Fits blocks next) Stopped nodes = Spent
 answer_at (Fits blocks next) (Done v left) nodes = if nat_le (node_count v) nodes then Shown v else TooLarge
 
--- What a call of `main` with these arguments answers, with so many calls, memory up to the address `limit`, and
--- values of at most `nodes` nodes shown. The blocks of the arguments are placed first, argument by argument from
--- `least_region` on, and then those of the call. A block that does not fit is answered even where the call would be
--- spent.
+-- What a call of `main` with these arguments answers, with so many calls, an empty memory up to the address `limit`,
+-- and values of at most `nodes` nodes shown. A block that does not fit is answered even where the call would be spent.
 abbrev pub answer_of : Program → List Layout → List Value → ℕ → ℕ → ℕ → Answer
 answer_of p layouts args calls limit nodes =
-    let o = call_of p p.main calls args in
-    answer_at
-    (lay limit least_region (requests_of layouts (all_makings p.types args (param_types p.funs p.main) ++ o.log)))
-    o.end nodes
+    answer_at (laid_call p layouts args calls (empty_memory limit)) (call_of p p.main calls args).end nodes

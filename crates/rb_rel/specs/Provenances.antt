@@ -1,5 +1,5 @@
 -- Whether a pattern, as a provenance is one, is of a type: each constructor in it is one of the type at its place, with
--- a pattern for each field.
+-- a pattern for each field. The exported lemmas of `proofs/Provenances` cite this, and crates above.
 use Rattle.std.specs.Prelude.{◌==◌, ◌&&◌, Bool, true, false, ℕ, List}
 use Rattle.rb_core.specs.declared.types.Ty.{Ty}
 use Rattle.rb_core.specs.declared.types.Ty.TheVariants.{Int, Named}

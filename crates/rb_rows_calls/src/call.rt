@@ -213,7 +213,7 @@ pub fn expect_answer(
 /// # Errors
 ///
 /// Want of memory.
-pub fn repeated(
+pub fn repeated_text(
     alloc: Global,
     before: &str,
     part: &str,

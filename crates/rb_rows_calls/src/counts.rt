@@ -8,8 +8,9 @@ use std::alloc::Global;
 /// A file, words, lines, the most switches, and lines.
 pub type CountRow<'a> = (&'a str, &'a str, &'a str, u64, &'a str);
 
-/// Looks whether words answer so to a file, with status 0: lines, then that of the switches, of which there
-/// are at most so many, and then lines. In the lines that are given each `;` ends a line.
+/// Looks whether `ribbit`, called on these words with the file under the name `E`, ends with status 0 and
+/// prints just the lines `before`, the line of the switches, at most `most`, and the lines `behind`. In the
+/// lines that are given each `;` ends a line.
 ///
 /// # Errors
 ///

@@ -18,7 +18,7 @@ fn location(alloc: Global, word: u64, o: u64, l: u64, steps: &[Step]) -> Result<
 }
 
 // The slot in which bits at a location come to stand, of words in the slots 0 and 1, and the instructions so far.
-fn fetched(alloc: Global, body: &mut Body, loc: &Loc) -> Result<(usize, usize), AllocError> {
+fn fetch_code(alloc: Global, body: &mut Body, loc: &Loc) -> Result<(usize, usize), AllocError> {
     let slot = fetch_loc(alloc, body, &[0, 1], loc)?;
     Ok((slot, body.len()))
 }
@@ -28,7 +28,7 @@ fn locations_are_read(rt: HostRuntime) -> Result<(), Fail> {
     let mut body = Body::new(rt.alloc(), 2);
     // take
     let near = location(rt.alloc(), 1, 3, 5, &[])?;
-    assert!(rt; fetched(rt.alloc(), &mut body, &near)? == (2, 1));
+    assert!(rt; fetch_code(rt.alloc(), &mut body, &near)? == (2, 1));
     // const, and, load
     let whole = Step {
         align: 8,
@@ -38,7 +38,7 @@ fn locations_are_read(rt: HostRuntime) -> Result<(), Fail> {
         l: 64,
     };
     let masked = location(rt.alloc(), 0, 3, 61, &[whole])?;
-    assert!(rt; fetched(rt.alloc(), &mut body, &masked)? == (5, 4));
+    assert!(rt; fetch_code(rt.alloc(), &mut body, &masked)? == (5, 4));
     // const, mul, load, take
     let part = Step {
         align: 8,
@@ -48,9 +48,9 @@ fn locations_are_read(rt: HostRuntime) -> Result<(), Fail> {
         l: 3,
     };
     let multiplied = location(rt.alloc(), 1, 0, 64, &[part])?;
-    assert!(rt; fetched(rt.alloc(), &mut body, &multiplied)? == (9, 8));
+    assert!(rt; fetch_code(rt.alloc(), &mut body, &multiplied)? == (9, 8));
     // take, const, mul, load
     let taken = location(rt.alloc(), 0, 4, 60, &[whole])?;
-    assert!(rt; fetched(rt.alloc(), &mut body, &taken)? == (13, 12));
+    assert!(rt; fetch_code(rt.alloc(), &mut body, &taken)? == (13, 12));
     Ok(())
 }

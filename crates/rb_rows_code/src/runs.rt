@@ -11,7 +11,7 @@ use std::alloc::{AllocError, Global};
 use std::test::Fail;
 
 // How many instructions are begun where the run of the first function spends all its calls.
-fn begun(alloc: Global, code: &Code, calls: u64) -> Result<Option<u128>, AllocError> {
+fn begun_count(alloc: Global, code: &Code, calls: u64) -> Result<Option<u128>, AllocError> {
     match code.funs().get(0) {
         Some(fun) if fun.params == 0 && calls <= 1_000_000_000 => {}
         _ => return Ok(None),
@@ -32,7 +32,7 @@ const CALLS: &[u64] = &[0, 1, 3, 200_000];
 fn calls_nest(rt: HostRuntime) -> Result<(), Fail> {
     let code = read_code(rt.alloc(), b"fun t 0 0 0\ncall 0 of\nreturn\nend\n")?;
     for &calls in CALLS {
-        let found = begun(rt.alloc(), &code, calls)?;
+        let found = begun_count(rt.alloc(), &code, calls)?;
         assert!(rt; found == Some(u128::from(calls)), "{calls} calls");
     }
     Ok(())

@@ -1,7 +1,6 @@
 //! The branch word of RISC-V taken apart and put together, as its base instruction set lays it out: the
 //! word is `beq x1, x2, +8`. Then each call at the word's ends, computed by hand.
 
-ghost use Rattle.std.specs.Prelude.{ℕ, ◌≡◌, [], ◌∷◌};
 ghost use Rattle.rb_bits.specs.Words.{IsRange};
 ghost use Rattle.rb_bits.specs.Slices.{AreSlices};
 
@@ -67,7 +66,7 @@ const RANGES: &[(u32, u32, u64, u64, u64)] = &[
 ];
 
 // What each call says of a range, in the order of `wanted` below.
-fn said(o: u32, l: u32, part: u64, cleared: u64) -> [u64; 8]
+fn range_answers(o: u32, l: u32, part: u64, cleared: u64) -> [u64; 8]
     requires { IsRange o l }
 {
     [
@@ -97,7 +96,10 @@ fn ends_of_a_word(rt: HostRuntime) {
             cleared,
             part,
         ];
-        assert!(rt; said(o, l, part, cleared) == wanted, "{l} bits from {o}");
+        assert!(rt;
+            range_answers(o, l, part, cleared) == wanted,
+            "{l} bits from {o}"
+        );
     }
 }
 

@@ -8,7 +8,7 @@ use rb_bytes::memory::ByteMemory;
 use std::alloc::Global;
 
 // A load as numbers: 0 and the word, or the trap's number and what it names.
-fn told(loaded: Result<u64, Trap>) -> (u64, u64, u64) {
+fn load_answer(loaded: Result<u64, Trap>) -> (u64, u64, u64) {
     match loaded {
         Ok(word) => (0, word, 0),
         Err(Trap::Astray(base, offset)) => (30, base, offset),
@@ -37,7 +37,7 @@ fn store(memory: &mut CheckedMemory, offset: u64, width: u64, word: u64) -> Opti
 // What a load says; None where no access has this width.
 fn load(memory: &CheckedMemory, base: u64, offset: u64, width: u64) -> Option<(u64, u64, u64)> {
     if is_width(width) {
-        Some(told(memory.load(base, offset, width)))
+        Some(load_answer(memory.load(base, offset, width)))
     } else {
         None
     }
@@ -139,7 +139,7 @@ fn stores_and_loads(rt: HostRuntime) {
             "{width} bits at {base} and {offset}"
         );
     }
-    assert!(rt; told(memory.load(72, 0, 16)) == (0, 0xbb01, 0));
+    assert!(rt; load_answer(memory.load(72, 0, 16)) == (0, 0xbb01, 0));
     let bytes = (memory.byte(72), memory.byte(79), memory.byte(81));
     assert!(rt; bytes == (Some(1), Some(0x88), None));
 }

@@ -36,7 +36,7 @@ fn is_grown(name: &Name) -> bool {
 }
 
 // Puts an `F` in the first place of a name of five, and gives what stood there.
-fn replaced(name: &mut Name) -> Option<u8> {
+fn replace_first(name: &mut Name) -> Option<u8> {
     if name.len() == 5 {
         Some(name.replace(0, b'F'))
     } else {
@@ -49,7 +49,7 @@ fn lists(rt: HostRuntime) -> Result<(), Fail> {
     let mut name: Name = list(rt.alloc(), b"Cons")?;
     name.push(b'2')?;
     assert!(rt; is_grown(&name.copy(rt.alloc())?));
-    assert!(rt; replaced(&mut name) == Some(b'C'));
+    assert!(rt; replace_first(&mut name) == Some(b'C'));
     assert_eq!(rt; name.as_slice(), b"Fons2".as_slice());
     Ok(())
 }

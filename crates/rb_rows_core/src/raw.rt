@@ -1,7 +1,7 @@
 //! The same calls on the memory that tests each access and on the one that trusts it. The addresses and
 //! the words were worked out by hand; the first block is at 64, the lowest byte of a word first.
 
-ghost use Rattle.std.specs.Prelude.{◌≡◌, ◌≤◌, IfOk};
+ghost use Rattle.std.specs.Prelude.{◌≡◌, ◌≤◌};
 ghost use Rattle.rb_bytes.specs.Memory.{IsAlign, IsSize, IsWidth};
 
 use crate::width::is_width;
@@ -42,14 +42,15 @@ impl Both {
         })
     }
 
-    // What each says to a place.
+    // The address that each gives a block of so many bytes at this alignment, or 0 where it has no
+    // room: first the one that tests, then the one that trusts.
     fn place(&mut self, size: u64, align: u64) -> (u64, u64)
         requires size { IsSize size }
         requires align { IsAlign align }
     {
         let checked = self.checked.place(size, align);
         let raw = self.raw.place(size, align);
-        (placed(checked), placed(raw))
+        (place_answer(checked), place_answer(raw))
     }
 
     // 0 from the one that trusts, where it stores.
@@ -70,7 +71,7 @@ impl Both {
             return (0, 1);
         }
         let raw = self.raw.load(base, offset, width);
-        (loaded(checked), loaded(raw))
+        (load_answer(checked), load_answer(raw))
     }
 
     // What each says to a call.
@@ -106,7 +107,7 @@ impl Both {
 }
 
 // The address of a block, or 0 where it did not fit.
-fn placed(answer: Result<u64, Full>) -> u64 {
+fn place_answer(answer: Result<u64, Full>) -> u64 {
     match answer {
         Ok(address) => address,
         Err(_) => 0,
@@ -114,7 +115,7 @@ fn placed(answer: Result<u64, Full>) -> u64 {
 }
 
 // The word, or all bits where there is none.
-fn loaded(answer: Result<u64, Trap>) -> u64 {
+fn load_answer(answer: Result<u64, Trap>) -> u64 {
     match answer {
         Ok(word) => word,
         Err(_) => u64::MAX,
@@ -214,8 +215,8 @@ fn largest_memory(alloc: Global) -> Result<RawMemory, AllocError> {
 fn raw_memory_at_its_largest(rt: HostRuntime) {
     let mut largest = largest_memory(rt.alloc()).expect(&rt, "ample memory");
     let found = [
-        placed(largest.place(512, 64)),
-        placed(largest.place(1, 1)),
+        place_answer(largest.place(512, 64)),
+        place_answer(largest.place(1, 1)),
         largest.next(),
     ];
     assert_eq!(rt; found, [64, 576, 577]);

@@ -10,7 +10,7 @@ use std::alloc::{AllocError, Global};
 use std::test::Fail;
 
 // A number in so many constructions, each with another number behind.
-fn nested(alloc: Global, depth: u64) -> Result<Value, AllocError> {
+fn nested_value(alloc: Global, depth: u64) -> Result<Value, AllocError> {
     let mut value = Value::Num(7);
     for _ in 0..depth {
         let items = Vec::from_array(alloc, [value, Value::Num(3)])?;
@@ -37,7 +37,7 @@ fn innermost(value: &Value, depth: u64) -> Option<u64> {
 #[test]
 fn a_million_deep(rt: HostRuntime) -> Result<(), Fail> {
     let alloc = rt.alloc();
-    let value = nested(alloc, 1000000)?;
+    let value = nested_value(alloc, 1000000)?;
     let copy = value.copy(alloc)?;
     drop(value);
     assert_eq!(rt; innermost(&copy, 1000000), Some(7));

@@ -115,7 +115,7 @@ fn tree_of_numbers(alloc: Global, count: u64) -> Result<Tried, AllocError> {
 const GROWING: Cons = &[(b"L", &[]), (b"N", &[K, K, K, K])];
 
 // The type `T` alone.
-fn growing(alloc: Global) -> Result<Vec<DataDecl>, AllocError> {
+fn growing_type(alloc: Global) -> Result<Vec<DataDecl>, AllocError> {
     let tree = data(alloc, b"T", GROWING)?;
     Ok(Vec::from_array(alloc, [tree])?)
 }
@@ -135,14 +135,14 @@ fn full(alloc: Global, depth: usize) -> Result<Pat, AllocError> {
 
 // The graph of one full pattern.
 fn graph_of_full(alloc: Global, depth: usize) -> Result<Graph, AllocError> {
-    let types = growing(alloc)?;
+    let types = growing_type(alloc)?;
     let pat = full(alloc, depth)?;
     pattern_graph(alloc, types.as_slice(), Ty::Named(0), &pat)
 }
 
 // The tree of one full pattern and `_`.
 fn tree_of_full(alloc: Global, depth: usize) -> Result<Tried, AllocError> {
-    let types = growing(alloc)?;
+    let types = growing_type(alloc)?;
     let rows = [full(alloc, depth)?, Pat::Wild(0)];
     tree(alloc, types.as_slice(), Ty::Named(0), &rows)
 }

@@ -1,6 +1,6 @@
 //! Layouts that are derived, part by part, worked out by hand from the rules of derived layouts.
 
-use crate::types::{con, data, derived, packed, seq, written};
+use crate::types::{con, data, derived_layout, packed_layout, seq, written_layout};
 use rb_core::layout_decl::{LayItem, LayTree, LayoutDecl, PartKind};
 use rb_core::types::{Auto, Ty};
 use std::alloc::Global;
@@ -60,7 +60,7 @@ fn block_at(items: &[LayItem], item: usize, part: usize) -> &[LayItem] {
 fn rgb(alloc: Global) -> Result<LayoutDecl, Fail> {
     let gray = con(alloc, &[Ty::Int(8)])?;
     let full = con(alloc, &[Ty::Int(5), Ty::Int(6), Ty::Int(5)])?;
-    packed(alloc, seq(alloc, [gray, full])?)
+    packed_layout(alloc, seq(alloc, [gray, full])?)
 }
 
 #[test]
@@ -77,7 +77,7 @@ fn a_packed_type(rt: HostRuntime) -> Result<(), Fail> {
 // type Unit = Unit; layout Unit = packed;
 fn unit(alloc: Global) -> Result<LayoutDecl, Fail> {
     let unit = con(alloc, &[])?;
-    packed(alloc, seq(alloc, [unit])?)
+    packed_layout(alloc, seq(alloc, [unit])?)
 }
 
 // One constructor has no tag, and a type without bits is one bit wide.
@@ -97,9 +97,9 @@ fn many(alloc: Global) -> Result<LayoutDecl, Fail> {
     let triple = data(alloc, seq(alloc, [triple])?);
     let many = con(alloc, &[Ty::Named(0); 32])?;
     let many = data(alloc, seq(alloc, [many])?);
-    let layouts = seq(alloc, [written(alloc, 0, &[64, 64, 64])?])?;
+    let layouts = seq(alloc, [written_layout(alloc, 0, &[64, 64, 64])?])?;
     let types = seq(alloc, [triple, many])?;
-    derived(alloc, types, layouts, &[None, Some(Auto::Boxed)], 1)
+    derived_layout(alloc, types, layouts, &[None, Some(Auto::Boxed)], 1)
 }
 
 // Over 64 words, a block has a pointer for each 64 of them.

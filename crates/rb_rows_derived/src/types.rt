@@ -43,7 +43,7 @@ pub fn data(alloc: Global, cons: Seq<Con>) -> DataDecl {
 /// # Errors
 ///
 /// Want of memory.
-pub fn written(alloc: Global, ty: u32, shape: &[u64]) -> Result<LayoutDecl, AllocError> {
+pub fn written_layout(alloc: Global, ty: u32, shape: &[u64]) -> Result<LayoutDecl, AllocError> {
     Ok(LayoutDecl {
         at: 0,
         ty,
@@ -57,7 +57,7 @@ pub fn written(alloc: Global, ty: u32, shape: &[u64]) -> Result<LayoutDecl, Allo
 /// # Errors
 ///
 /// A type without a kind, or one that cannot be packed; or want of memory.
-pub fn derived(
+pub fn derived_layout(
     alloc: Global,
     types: Seq<DataDecl>,
     layouts: Seq<LayoutDecl>,
@@ -83,7 +83,7 @@ pub fn derived(
 /// # Errors
 ///
 /// A type that cannot be packed, or want of memory.
-pub fn packed(alloc: Global, cons: Seq<Con>) -> Result<LayoutDecl, Fail> {
+pub fn packed_layout(alloc: Global, cons: Seq<Con>) -> Result<LayoutDecl, Fail> {
     let types = seq(alloc, [data(alloc, cons)])?;
-    derived(alloc, types, Seq::new(alloc), &[Some(Auto::Packed)], 0)
+    derived_layout(alloc, types, Seq::new(alloc), &[Some(Auto::Packed)], 0)
 }

@@ -1,7 +1,7 @@
 //! Rows of files, with their answers worked out from the language's pages, and the bytes counted by
 //! hand.
 
-use rb_rows_calls::call::{expect_answer, repeated};
+use rb_rows_calls::call::{expect_answer, repeated_text};
 use rb_rows_calls::rows::{expect_lines, expect_rows};
 use rb_rows_calls::surprise::Surprise;
 use std::alloc::{AllocError, Global};
@@ -159,8 +159,8 @@ const NESTED: [(usize, &str); 2] = [
 // Looks what `run` answers to each file of nested conversions.
 fn expect_nested(alloc: Global, rows: &[(usize, &str)]) -> Result<(), Surprise> {
     for (times, wanted) in rows {
-        let front = repeated(alloc, "fun main(x: u8): u8 = ", "to u8(", *times, "x")?;
-        let file = repeated(alloc, front.as_str(), ")", *times, ";")?;
+        let front = repeated_text(alloc, "fun main(x: u8): u8 = ", "to u8(", *times, "x")?;
+        let file = repeated_text(alloc, front.as_str(), ")", *times, ";")?;
         expect_answer(alloc, "run E 9 64 7", file.as_bytes(), wanted)?;
     }
     Ok(())
@@ -175,13 +175,13 @@ fn depths(rt: HostRuntime) -> Result<(), Surprise> {
 #[test]
 fn a_text_that_ends_too_deep(rt: HostRuntime) -> Result<(), Surprise> {
     let alloc = rt.alloc();
-    let file = repeated(alloc, "fun main(x: u8): u8 = ", "to u8(", 128, "")?;
+    let file = repeated_text(alloc, "fun main(x: u8): u8 = ", "to u8(", 128, "")?;
     let wanted = "1 ribbit: syntax at byte 790;";
     expect_answer(alloc, "check E", file.as_bytes(), wanted)
 }
 
 // Declarations with the numbers from 0 on in them, and `main`.
-fn declared(
+fn declarations(
     alloc: Global,
     before: &str,
     between: &str,
@@ -225,7 +225,7 @@ const MANY: [(&str, &str, &str, usize, &str); 3] = [
 // Looks what `check` answers to each file of many declarations.
 fn expect_many(alloc: Global, rows: &[(&str, &str, &str, usize, &str)]) -> Result<(), Surprise> {
     for (before, between, behind, times, wanted) in rows {
-        let file = declared(alloc, before, between, behind, *times)?;
+        let file = declarations(alloc, before, between, behind, *times)?;
         expect_answer(alloc, "check E", file.as_slice(), wanted)?;
     }
     Ok(())
@@ -299,7 +299,7 @@ const LONG: [(&str, &str, usize, &str, &str); 8] = [
 // Looks what `check` answers to each file with a part that stands many times.
 fn expect_long(alloc: Global, rows: &[(&str, &str, usize, &str, &str)]) -> Result<(), Surprise> {
     for (before, part, times, behind, wanted) in rows {
-        let file = repeated(alloc, before, part, *times, behind)?;
+        let file = repeated_text(alloc, before, part, *times, behind)?;
         expect_answer(alloc, "check E", file.as_bytes(), wanted)?;
     }
     Ok(())

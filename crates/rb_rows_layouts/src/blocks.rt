@@ -2,7 +2,7 @@
 //! of one leaf is named. Worked out by hand from the rules.
 
 use crate::refusals::{expect_agreed, expect_refusal, expect_refused};
-use rb_rows_calls::call::repeated;
+use rb_rows_calls::call::repeated_text;
 use rb_rows_calls::surprise::Surprise;
 use std::alloc::Global;
 
@@ -190,7 +190,7 @@ const LONG: [Long; 6] = [
 // Looks whether each file is refused for its reason.
 fn expect_long(alloc: Global, rows: &[Long]) -> Result<(), Surprise> {
     for (before, part, times, behind, reason) in rows {
-        let file = repeated(alloc, before, part, *times, behind)?;
+        let file = repeated_text(alloc, before, part, *times, behind)?;
         expect_refusal(alloc, file.as_str(), reason)?;
     }
     Ok(())
@@ -204,7 +204,7 @@ fn many_words_and_blocks(rt: HostRuntime) -> Result<(), Surprise> {
 // The first rows with a part less.
 fn expect_less(alloc: Global, rows: &[Long]) -> Result<(), Surprise> {
     for (before, part, times, behind, _) in rows {
-        let file = repeated(alloc, before, part, times.saturating_sub(1), behind)?;
+        let file = repeated_text(alloc, before, part, times.saturating_sub(1), behind)?;
         expect_agreed(alloc, file.as_str())?;
     }
     Ok(())

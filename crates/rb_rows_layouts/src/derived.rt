@@ -3,7 +3,7 @@
 
 use crate::accepted::{BIT, BRANCH, LIST, NICHE, PAIR, SHAPE, TREE, TWIN};
 use crate::refusals::{expect_agreed, expect_refused};
-use rb_rows_calls::call::{expect_answer, repeated};
+use rb_rows_calls::call::{expect_answer, repeated_text};
 use rb_rows_calls::rows::expect_files;
 use rb_rows_calls::surprise::Surprise;
 use std::alloc::Global;
@@ -252,14 +252,14 @@ fn more_words_than_a_block_has(rt: HostRuntime) -> Result<(), Surprise> {
     let alloc = rt.alloc();
     let field =
         "type F = F(u64, u64, u64); layout F <64, 64, 64> = F(_, _, _) : { word 64 { [0:64] .0 }, word 64 { [0:64] .1 }, word 64 { [0:64] .2 } };";
-    let types = repeated(
+    let types = repeated_text(
         alloc,
         "type Big = Big(",
         "F, ",
         31,
         "F); layout Big = boxed;",
     )?;
-    let value = repeated(alloc, "Big(", "F(1, 2, 3), ", 31, "F(1, 2, 3))")?;
+    let value = repeated_text(alloc, "Big(", "F(1, 2, 3), ", 31, "F(1, 2, 3))")?;
     let file = format!(in alloc; "{field} {types} fun main(): Big = {value};")?;
     let wanted = format!(in alloc; "0 value {value};calls 1;switches 0;blocks 3;bytes 784;")?;
     expect_answer(alloc, "count E 1 1000", file.as_bytes(), wanted.as_str())

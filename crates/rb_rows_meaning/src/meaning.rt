@@ -5,10 +5,11 @@ use rb_check::check;
 use rb_core::eval::eval;
 use rb_core::expression::Expr;
 use rb_core::inference::infer;
-use rb_core::limits::MOST_FILE_BYTES;
+use rb_core::limits::{MOST_EVAL_CALLS, MOST_FILE_BYTES};
 use rb_core::matching::matches;
 use rb_core::outcome::{Event, Outcome, SourceEnd};
 use rb_core::pattern::Pat;
+use rb_core::scope::Scope;
 use rb_core::seq::Seq;
 use rb_core::typed::Typed;
 use rb_core::types::{ConRef, Ty};
@@ -23,7 +24,7 @@ use std::test::Fail;
 const MOST: usize = MOST_FILE_BYTES;
 
 // The typed program of a text.
-fn typed(alloc: Global, text: &[u8]) -> Result<Typed, Fail> {
+fn typed_program(alloc: Global, text: &[u8]) -> Result<Typed, Fail> {
     if text.len() > MOST {
         return Err(AllocError.into());
     }
@@ -70,10 +71,10 @@ const SUMS: [(u64, Option<(u64, u64)>, usize); 3] = [
 
 // Looks at a run of the sum of `Cons(1, Cons(2, Nil))` for each row.
 fn expect_sums(alloc: Global, rows: &[(u64, Option<(u64, u64)>, usize)]) -> Result<(), Fail> {
-    let program = typed(alloc, LIST)?;
+    let program = typed_program(alloc, LIST)?;
     for (calls, end, events) in rows {
         let args = seq(alloc, [one_two(alloc)?])?;
-        let outcome = eval(alloc, &program, 1, args, (*calls).min(1000))?;
+        let outcome = eval(alloc, &program, 1, args, (*calls).min(MOST_EVAL_CALLS))?;
         if !is_end(&outcome.end, *end) || outcome.log.len() != *events {
             return Err(Fail::new(format!(in alloc; "with {calls} calls")?));
         }
@@ -121,7 +122,7 @@ fn kinds(alloc: Global, log: &[Event]) -> Result<Vec<(bool, u32)>, AllocError> {
 #[test]
 fn a_number_is_inserted(rt: HostRuntime) -> Result<(), Fail> {
     let alloc = rt.alloc();
-    let program = typed(alloc, TREE)?;
+    let program = typed_program(alloc, TREE)?;
     let black = Value::Con(1, Seq::new(alloc));
     let left = Value::Con(0, Seq::new(alloc));
     let right = Value::Con(0, Seq::new(alloc));
@@ -171,7 +172,7 @@ const NUMBERS: [(&[u8], u64, u64, u64); 3] = [
 // Looks at a run of each file with one call.
 fn expect_numbers(alloc: Global, rows: &[(&[u8], u64, u64, u64)]) -> Result<(), Fail> {
     for (text, x, y, wanted) in rows {
-        let program = typed(alloc, text)?;
+        let program = typed_program(alloc, text)?;
         let args = seq(alloc, [Value::Num(*x), Value::Num(*y)])?;
         let outcome = eval(alloc, &program, 0, args, 1)?;
         if !is_end(&outcome.end, Some((*wanted, 0))) {
@@ -189,8 +190,8 @@ fn numbers(rt: HostRuntime) -> Result<(), Fail> {
 #[test]
 fn a_number_is_of_the_wanted_type(rt: HostRuntime) -> Result<(), Fail> {
     let alloc = rt.alloc();
-    let typed = typed(alloc, b"fun main(): u8 = 7;")?;
-    let mut scope = Seq::new(alloc);
+    let typed = typed_program(alloc, b"fun main(): u8 = 7;")?;
+    let mut scope = Scope::new(alloc);
     let wanted = Some(Ty::Int(8));
     let ty = infer(typed.program(), &Expr::Num(0, 7), wanted, &mut scope)?;
     assert!(rt; ty == Ty::Int(8));

@@ -47,7 +47,7 @@ pub const EASY: Side = Side {
 
 /// A side on which the call with this number, from 0 on, fails, and no other; each moves at most `step`
 /// bytes.
-pub fn failing(step: usize, call: u64) -> Side {
+pub fn failing_side(step: usize, call: u64) -> Side {
     Side {
         step,
         room: ROOM,
@@ -57,7 +57,7 @@ pub fn failing(step: usize, call: u64) -> Side {
 
 /// A side that takes no more than `room` bytes, and on which no call fails; each moves at most `step`
 /// bytes.
-pub fn holding(step: usize, room: usize) -> Side {
+pub fn bounded_side(step: usize, room: usize) -> Side {
     Side {
         step,
         room,
@@ -80,7 +80,8 @@ fn sink(alloc: Global, side: Side) -> Result<MemSink, AllocError> {
     }
 }
 
-/// Calls `ribbit` on words with blanks between them.
+/// What a call of `ribbit` does on words with blanks between them, where `E` and `I` hold what `held`
+/// says and the source and both sinks are those of `outside`.
 ///
 /// # Errors
 ///

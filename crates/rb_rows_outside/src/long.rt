@@ -1,9 +1,9 @@
 //! Values of up to a million nodes, printed whole: texts of some megabytes. Each is spelled here too, a piece for each
 //! number or level. Nodes, calls and bytes were counted by hand.
 
-use crate::call::{NOTHING_FAILS, Outside, alone, expect, holding};
+use crate::call::{NOTHING_FAILS, Outside, alone, bounded_side, expect};
 use rb_rows_calls::answers::Answer;
-use rb_rows_calls::call::repeated;
+use rb_rows_calls::call::repeated_text;
 use rb_rows_calls::surprise::Surprise;
 use std::alloc::{AllocError, Global};
 
@@ -23,7 +23,7 @@ const TWIN: &str =
 fn expect_printed(alloc: Global, words: &str, file: &str, value: &str) -> Result<(), Surprise> {
     let line = format!(in alloc; "{value}\n")?;
     let outside = Outside {
-        out: holding(65_536, 8_388_608),
+        out: bounded_side(65_536, 8_388_608),
         ..NOTHING_FAILS
     };
     let wanted = Answer {
@@ -46,7 +46,7 @@ fn numbers(alloc: Global, between: &str, last: u64) -> Result<String, AllocError
         front.push_str(part.as_str())?;
     }
     front.push_str("Nil")?;
-    repeated(alloc, front.as_str(), ")", last as usize, "")
+    repeated_text(alloc, front.as_str(), ")", last as usize, "")
 }
 
 // 999,999 nodes, in as many calls and bytes as they take.

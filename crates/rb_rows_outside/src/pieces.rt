@@ -1,7 +1,7 @@
 //! How many calls a file takes, counted by hand: one that opens it, a read for each piece, and a read that
 //! finds its end.
 
-use crate::call::{NOTHING_FAILS, Outside, alone, expect, failing};
+use crate::call::{NOTHING_FAILS, Outside, alone, expect, failing_side};
 use crate::table::READ_FAULT;
 use rb_rows_calls::answers::Answer;
 use rb_rows_calls::surprise::Surprise;
@@ -26,7 +26,7 @@ fn expect_failing(
     wanted: Answer,
 ) -> Result<(), Surprise> {
     let outside = Outside {
-        source: failing(step, number),
+        source: failing_side(step, number),
         ..NOTHING_FAILS
     };
     expect(alloc, "check E", alone(file), outside, wanted)?;

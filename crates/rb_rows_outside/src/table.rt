@@ -2,7 +2,7 @@
 //! a call that opens it, a read for each piece, and a read that finds its end; an image takes the same behind
 //! it; a text takes a write for each piece. A sink fails at one write alone, so a later write would be seen.
 
-use crate::call::{EASY, Held, Outside, Side, alone, expect, failing, holding};
+use crate::call::{EASY, Held, Outside, Side, alone, bounded_side, expect, failing_side};
 use rb_rows_calls::answers::Answer;
 use rb_rows_calls::surprise::Surprise;
 use std::alloc::Global;
@@ -131,9 +131,9 @@ fn each_source_call(alloc: Global, call: &Call, step: usize) -> Result<(), Surpr
         steps: Some(0),
     };
     for number in 0..calls {
-        look(alloc, call, from(failing(step, number)), unread)?;
+        look(alloc, call, from(failing_side(step, number)), unread)?;
     }
-    look(alloc, call, from(failing(step, calls)), due(call))?;
+    look(alloc, call, from(failing_side(step, calls)), due(call))?;
     Ok(())
 }
 
@@ -144,19 +144,24 @@ fn each_write(alloc: Global, call: &Call, step: usize) -> Result<(), Surprise> {
     let mut writes = 0u64;
     let mut taken = 0usize;
     for piece in call.text.chunks(step.max(1)) {
-        let outside = over(call, failing(step, writes));
+        let outside = over(call, failing_side(step, writes));
         look(alloc, call, outside, cut(call, taken))?;
         writes = writes.saturating_add(1);
         taken = taken.saturating_add(piece.len());
     }
-    look(alloc, call, over(call, failing(step, writes)), due(call))?;
+    look(
+        alloc,
+        call,
+        over(call, failing_side(step, writes)),
+        due(call),
+    )?;
     Ok(())
 }
 
 // The sink of the text has each of these rooms, which are too small.
 fn each_cut(alloc: Global, call: &Call, step: usize, rooms: &[usize]) -> Result<(), Surprise> {
     for room in rooms {
-        let outside = over(call, holding(step, *room));
+        let outside = over(call, bounded_side(step, *room));
         look(alloc, call, outside, cut(call, *room))?;
     }
     Ok(())
@@ -166,7 +171,12 @@ fn each_cut(alloc: Global, call: &Call, step: usize, rooms: &[usize]) -> Result<
 fn each_room(alloc: Global, call: &Call, step: usize) -> Result<(), Surprise> {
     let whole = call.text.len();
     each_cut(alloc, call, step, &[0, 1, whole.saturating_sub(1)])?;
-    look(alloc, call, over(call, holding(step, whole)), due(call))?;
+    look(
+        alloc,
+        call,
+        over(call, bounded_side(step, whole)),
+        due(call),
+    )?;
     Ok(())
 }
 
@@ -183,8 +193,8 @@ fn each_line_write(
     for piece in line.text.chunks(step.max(1)) {
         let outside = Outside {
             source,
-            out: failing(1, 0),
-            err: failing(step, writes),
+            out: failing_side(1, 0),
+            err: failing_side(step, writes),
         };
         let wanted = Answer {
             status: UNWRITTEN,
@@ -217,8 +227,8 @@ fn second_write_and_line(alloc: Global, call: &Call) -> Result<(), Surprise> {
     wanted.err = b"";
     let outside = Outside {
         source: EASY,
-        out: failing(1, 1),
-        err: failing(7, 0),
+        out: failing_side(1, 1),
+        err: failing_side(7, 0),
     };
     look(alloc, call, outside, wanted)?;
     Ok(())
@@ -230,8 +240,8 @@ fn one_byte_each(alloc: Global, call: &Call, step: usize) -> Result<(), Surprise
     wanted.err = front(wanted.err, 1);
     let outside = Outside {
         source: EASY,
-        out: holding(step, 1),
-        err: holding(step, 1),
+        out: bounded_side(step, 1),
+        err: bounded_side(step, 1),
     };
     look(alloc, call, outside, wanted)?;
     Ok(())
@@ -243,7 +253,7 @@ fn source_and_sink(alloc: Global, call: &Call, step: usize) -> Result<(), Surpri
         text: READ_FAULT,
         steps: Some(0),
     };
-    each_line_write(alloc, call, failing(10, 1), line, step)
+    each_line_write(alloc, call, failing_side(10, 1), line, step)
 }
 
 // Looks at a call with nothing failing, and then with each part of the outside failing in turn.

@@ -90,7 +90,7 @@ fn types(alloc: Global) -> Result<Vec<DataDecl>, AllocError>
 }
 
 // Takes so many patterns off a list that holds the next one at its end.
-fn taken(alloc: Global, pats: &mut Vec<Pat>, count: usize) -> Result<Seq<Pat>, AllocError> {
+fn take_last(alloc: Global, pats: &mut Vec<Pat>, count: usize) -> Result<Seq<Pat>, AllocError> {
     let mut taken = Seq::new(alloc);
     for _i in 0..count {
         taken.push(pats.pop().unwrap_or(Pat::Wild(0)))?;
@@ -129,11 +129,11 @@ fn row(alloc: Global, text: &[u8]) -> Result<Seq<Pat>, AllocError> {
             pats.push(plain(*byte))?;
             continue;
         };
-        let subs = taken(alloc, &mut pats, fields)?;
+        let subs = take_last(alloc, &mut pats, fields)?;
         pats.push(Pat::Con(0, ConRef { ty, con }, subs))?;
     }
     let count = pats.len();
-    taken(alloc, &mut pats, count)
+    take_last(alloc, &mut pats, count)
 }
 
 // The letter of a constructor.
@@ -194,7 +194,7 @@ fn patterns(alloc: Global, texts: &[&[u8]]) -> Result<Vec<Pat>, AllocError> {
 }
 
 // What is missing among patterns of a type, as text; nothing where they are exhaustive.
-fn missing(alloc: Global, ty: u32, pats: &[Pat]) -> Result<Vec<u8>, AllocError>
+fn missing_text(alloc: Global, ty: u32, pats: &[Pat]) -> Result<Vec<u8>, AllocError>
     requires { ty < 4 }
 {
     let types = types(alloc)?;
@@ -214,7 +214,7 @@ fn never_reached(alloc: Global, ty: u32, pats: &[Pat]) -> Result<Vec<usize>, All
 }
 
 // What two patterns share, as text; nothing where they share no value.
-fn shared(alloc: Global, ty: u32, one: &Pat, other: &Pat) -> Result<Vec<u8>, AllocError>
+fn shared_text(alloc: Global, ty: u32, one: &Pat, other: &Pat) -> Result<Vec<u8>, AllocError>
     requires { ty < 4 }
 {
     let types = types(alloc)?;
@@ -226,7 +226,11 @@ fn shared(alloc: Global, ty: u32, one: &Pat, other: &Pat) -> Result<Vec<u8>, All
 
 // The row that is found for a tree and a colour, as text: what it matches, all wanted rows match
 // and no unwanted one. Nothing where none is found.
-fn found(alloc: Global, wanted: &[Seq<Pat>], unwanted: &[Seq<Pat>]) -> Result<Vec<u8>, AllocError> {
+fn found_text(
+    alloc: Global,
+    wanted: &[Seq<Pat>],
+    unwanted: &[Seq<Pat>],
+) -> Result<Vec<u8>, AllocError> {
     let types = types(alloc)?;
     let tys = [Ty::Named(1), Ty::Named(0)];
     let mut out = Vec::new(alloc);
@@ -252,7 +256,7 @@ fn missing_number(alloc: Global, bits: u8, pats: &[Pat]) -> Result<Option<u64>, 
 fn missing_of(alloc: Global, ty: u32, texts: &[&[u8]]) -> Result<Vec<u8>, AllocError> {
     let pats = patterns(alloc, texts)?;
     if ty < 4 {
-        missing(alloc, ty, pats.as_slice())
+        missing_text(alloc, ty, pats.as_slice())
     } else {
         Ok(Vec::new(alloc))
     }
@@ -364,7 +368,7 @@ fn what_is_never_reached(rt: HostRuntime) -> Result<(), Fail> {
 fn shared_of(alloc: Global, ty: u32, one: &[u8], other: &[u8]) -> Result<Vec<u8>, AllocError> {
     let pats = patterns(alloc, &[one, other])?;
     match pats.as_slice() {
-        [one, other] if ty < 4 => shared(alloc, ty, one, other),
+        [one, other] if ty < 4 => shared_text(alloc, ty, one, other),
         _ => Ok(Vec::new(alloc)),
     }
 }
@@ -391,7 +395,7 @@ fn what_two_patterns_share(rt: HostRuntime) -> Result<(), Fail> {
 fn found_of(alloc: Global, wanted: &[&[u8]], unwanted: &[&[u8]]) -> Result<Vec<u8>, AllocError> {
     let wanted = rows(alloc, wanted)?;
     let unwanted = rows(alloc, unwanted)?;
-    found(alloc, wanted.as_slice(), unwanted.as_slice())
+    found_text(alloc, wanted.as_slice(), unwanted.as_slice())
 }
 
 // wanted rows, unwanted rows, the row that is found, each of a tree and a colour
@@ -426,7 +430,7 @@ fn table(alloc: Global, count: u64) -> Result<Vec<Pat>, AllocError> {
 // What is missing among so many of them.
 fn missing_of_table(alloc: Global, count: u64) -> Result<Vec<u8>, AllocError> {
     let pats = table(alloc, count)?;
-    missing(alloc, 3, pats.as_slice())
+    missing_text(alloc, 3, pats.as_slice())
 }
 
 // Which of so many of them no value reaches.
@@ -459,7 +463,7 @@ fn full_tree(alloc: Global, levels: u32) -> Result<Pat, AllocError> {
 // Whether a tree shares itself with itself.
 fn shares_itself(alloc: Global, tree: &Pat) -> Result<bool, AllocError> {
     let want = text(alloc, tree)?;
-    let found = shared(alloc, 1, tree, tree)?;
+    let found = shared_text(alloc, 1, tree, tree)?;
     Ok(found.as_slice() == want.as_slice())
 }
 

@@ -42,7 +42,7 @@ fn overwrite(text: &mut Vec<u8>, at: usize, with: &[u8]) {
 }
 
 // The text of an image with another byte.
-fn changed(alloc: Global, image: &str, change: &Change) -> Result<Vec<u8>, AllocError> {
+fn changed_image(alloc: Global, image: &str, change: &Change) -> Result<Vec<u8>, AllocError> {
     let (block, at, byte, _) = *change;
     let mut text = lines(alloc, image)?;
     if block == TEXT {
@@ -70,7 +70,7 @@ pub fn expect_changes(
     let sound = lines(alloc, image)?;
     expect_image(alloc, "value E I", file, sound.as_slice(), value)?;
     for change in changes {
-        let text = changed(alloc, image, change)?;
+        let text = changed_image(alloc, image, change)?;
         expect_image(alloc, "value E I", file, text.as_slice(), change.3)?;
     }
     Ok(())

@@ -16,7 +16,7 @@ use std::str;
 use std::test::Fail;
 
 // The text of a file's code.
-fn compiled(alloc: Global, file: &str) -> Result<Vec<u8>, Surprise> {
+fn code_text(alloc: Global, file: &str) -> Result<Vec<u8>, Surprise> {
     let did = call(alloc, "compile E", file.as_bytes(), &[], &[])?;
     if did.status != 0 || did.steps != 0 {
         another(alloc, file, did.err.as_slice(), b"code")?;
@@ -69,7 +69,7 @@ const RUN: [(&str, &str, &str); 5] = [
 // answer; another one is a surprise.
 fn expect_run(alloc: Global, rows: &[(&str, &str, &str)]) -> Result<(), Surprise> {
     for (file, words, wanted) in rows {
-        let code = compiled(alloc, file)?;
+        let code = code_text(alloc, file)?;
         let words = format!(in alloc; "exec E main {words}")?;
         expect_answer(alloc, words.as_str(), code.as_slice(), wanted)?;
     }
@@ -187,7 +187,7 @@ fn lines_with(code: &[u8], start: &str) -> usize {
 // the row's text as the row says; another number is a surprise.
 fn expect_lines(alloc: Global, rows: &[Lines]) -> Result<(), Surprise> {
     for (file, start, least, most) in rows {
-        let code = compiled(alloc, file)?;
+        let code = code_text(alloc, file)?;
         let count = lines_with(code.as_slice(), start);
         if count < *least || *most < count {
             another(alloc, file, code.as_slice(), start.as_bytes())?;
@@ -205,7 +205,7 @@ fn lines_of_code(rt: HostRuntime) -> Result<(), Surprise> {
 #[test]
 fn the_text_does_as_many(rt: HostRuntime) -> Result<(), Fail> {
     let alloc = rt.alloc();
-    let code = compiled(alloc, FOUR)?;
+    let code = code_text(alloc, FOUR)?;
     let code = read_code(alloc, code.as_slice())?;
     let mut memory = CheckedMemory::new(alloc, 64)?;
     let mut steps = Steps::new(CountLedger { count: 0 });
@@ -346,7 +346,7 @@ const SHOWN_INSIDE: &str =
 #[test]
 fn a_shown_argument_shows_its_own(rt: HostRuntime) -> Result<(), Surprise> {
     let alloc = rt.alloc();
-    let code = compiled(alloc, SHOWN_INSIDE)?;
+    let code = code_text(alloc, SHOWN_INSIDE)?;
     let code = code.as_slice();
     expect_answer(alloc, "exec E shown 1 64 4 3", code, "0 2055;")?;
     expect_answer(alloc, "exec E main 1 64 9 3", code, "0 2055;")?;

@@ -1,7 +1,7 @@
 //! Files with layouts that are run. The answers were given by a program apart from
 //! this one, written from the language's pages alone.
 
-use rb_rows_calls::call::{expect_answer, repeated};
+use rb_rows_calls::call::{expect_answer, repeated_text};
 use rb_rows_calls::rows::{expect_rows, expect_words};
 use rb_rows_calls::surprise::Surprise;
 use std::alloc::{AllocError, Global};
@@ -230,8 +230,8 @@ fn lists_as_they_are(rt: HostRuntime) -> Result<(), Surprise> {
 // A list of so many ones, with this between a number and the rest.
 fn ones(alloc: Global, between: &str, count: usize) -> Result<String, AllocError> {
     let part = format!(in alloc; "Cons(1,{between}")?;
-    let front = repeated(alloc, "", part.as_str(), count, "Nil")?;
-    repeated(alloc, front.as_str(), ")", count, "")
+    let front = repeated_text(alloc, "", part.as_str(), count, "Nil")?;
+    repeated_text(alloc, front.as_str(), ")", count, "")
 }
 
 // Looks whether a list of so many ones, behind these words, is printed so, between two texts.

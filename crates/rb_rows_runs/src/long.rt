@@ -2,7 +2,7 @@
 //! have, and one number more. Counted by hand from the files: two nodes, sixteen bytes and a call for each number.
 
 use crate::layouts::{LIST, SUM};
-use rb_rows_calls::call::{expect_answer, repeated};
+use rb_rows_calls::call::{expect_answer, repeated_text};
 use rb_rows_calls::rows::expect_words;
 use rb_rows_calls::surprise::Surprise;
 use std::alloc::Global;
@@ -24,8 +24,8 @@ fn expect_long(
     wanted: &str,
 ) -> Result<(), Surprise> {
     let (ones, closed) = counts;
-    let front = repeated(alloc, words, "Cons(1,", ones, "Nil")?;
-    let words = repeated(alloc, front.as_str(), ")", closed, "")?;
+    let front = repeated_text(alloc, words, "Cons(1,", ones, "Nil")?;
+    let words = repeated_text(alloc, front.as_str(), ")", closed, "")?;
     expect_answer(alloc, words.as_str(), file.as_bytes(), wanted)
 }
 

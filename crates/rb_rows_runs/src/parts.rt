@@ -4,7 +4,7 @@
 use crate::deep::KEPT;
 use crate::images::{OPTION, SAME, TREE};
 use crate::layouts::{BRANCH, LIST, PAIR, TWIN};
-use rb_rows_calls::call::{call, lines, repeated};
+use rb_rows_calls::call::{call, lines, repeated_text};
 use rb_rows_calls::rows::{ImageRow, expect_held, expect_image};
 use rb_rows_calls::surprise::{Surprise, another};
 use std::alloc::Global;
@@ -580,11 +580,11 @@ fn expect_halves(alloc: Global) -> Result<(), Surprise> {
     let image = image.as_slice();
     let wanted = "13 ribbit: value over 1000000 nodes;";
     expect_image(alloc, "peek E I .", file, image, wanted)?;
-    let words = repeated(alloc, "peek E I ", ".1", 29, "")?;
+    let words = repeated_text(alloc, "peek E I ", ".1", 29, "")?;
     expect_image(alloc, words.as_str(), file, image, "0 Fork(Tip, Tip);")?;
-    let words = repeated(alloc, "peek E I ", ".0", 30, "")?;
+    let words = repeated_text(alloc, "peek E I ", ".0", 30, "")?;
     expect_image(alloc, words.as_str(), file, image, "0 Tip;")?;
-    let words = repeated(alloc, "peek E I ", ".0", 31, "")?;
+    let words = repeated_text(alloc, "peek E I ", ".0", 31, "")?;
     let wanted = "16 ribbit: image 46: step 30;";
     expect_image(alloc, words.as_str(), file, image, wanted)
 }
@@ -597,19 +597,19 @@ fn parts_of_too_many_nodes(rt: HostRuntime) -> Result<(), Surprise> {
 // Looks at a list of so many items, along its whole length.
 fn expect_long(alloc: Global, items: usize) -> Result<(), Surprise> {
     let file = LIST.as_bytes();
-    let front = repeated(alloc, "image E 1 16384 ", "Cons(7,", items, "Nil")?;
-    let words = repeated(alloc, front.as_str(), ")", items, "")?;
+    let front = repeated_text(alloc, "image E 1 16384 ", "Cons(7,", items, "Nil")?;
+    let words = repeated_text(alloc, front.as_str(), ")", items, "")?;
     let did = call(alloc, words.as_str(), file, &[], &[])?;
     if did.status != 0 {
         another(alloc, "image", did.err.as_slice(), b"an image")?;
     }
     let image = did.out.as_slice();
     let last = items.saturating_sub(1);
-    let words = repeated(alloc, "peek E I ", ".1", last, ".0")?;
+    let words = repeated_text(alloc, "peek E I ", ".1", last, ".0")?;
     expect_image(alloc, words.as_str(), file, image, "0 7;")?;
-    let words = repeated(alloc, "peek E I ", ".1", items, "")?;
+    let words = repeated_text(alloc, "peek E I ", ".1", items, "")?;
     expect_image(alloc, words.as_str(), file, image, "0 Nil;")?;
-    let words = repeated(alloc, "peek E I ", ".1", items, ".1")?;
+    let words = repeated_text(alloc, "peek E I ", ".1", items, ".1")?;
     let wanted = format!(in alloc; "16 ribbit: image 46: step {items};")?;
     expect_image(alloc, words.as_str(), file, image, wanted.as_str())
 }

@@ -1,7 +1,7 @@
 //! Files of every form, the first fault of others, and each limit at its number and one over. The rows
 //! were written by hand from the grammar, a form each, and marked where it does not go on.
 
-use crate::reading::{Found, expect_each, outcome, repeated};
+use crate::reading::{Found, expect_each, outcome, repeated_part};
 use rb_core::seq::Seq;
 use rb_read::fault::Quantity;
 use rb_read::read::read_file;
@@ -187,7 +187,7 @@ const LIMITS: &[LimitRow] = &[
 
 // What comes of the front, so many parts and the back.
 fn of_parts(alloc: Global, row: &LimitRow, count: usize) -> Result<Found, Fail> {
-    let text = repeated(alloc, row.0, row.1, count, row.2)?;
+    let text = repeated_part(alloc, row.0, row.1, count, row.2)?;
     outcome(alloc, text.as_slice())
 }
 

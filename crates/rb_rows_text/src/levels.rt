@@ -1,7 +1,7 @@
 //! Nodes at the greatest level and below it. The levels of each row were counted by hand, a node one
 //! level deeper than that which it stands in; the marks are those of `reading`.
 
-use crate::reading::{expect, repeated};
+use crate::reading::{expect, repeated_part};
 use std::alloc::{AllocError, Global};
 use std::process::Abort;
 use std::test::Fail;
@@ -63,9 +63,14 @@ const CUT_SHORT: Frame = Frame {
 };
 
 // The row in so many parts of its frame.
-fn framed(alloc: Global, frame: &Frame, around: usize, row: &str) -> Result<Vec<u8>, AllocError> {
-    let mut text = repeated(alloc, frame.front, frame.open, around, row.as_bytes())?;
-    let closed = repeated(alloc, frame.end, frame.close, around, frame.back)?;
+fn framed_row(
+    alloc: Global,
+    frame: &Frame,
+    around: usize,
+    row: &str,
+) -> Result<Vec<u8>, AllocError> {
+    let mut text = repeated_part(alloc, frame.front, frame.open, around, row.as_bytes())?;
+    let closed = repeated_part(alloc, frame.end, frame.close, around, frame.back)?;
     text.extend_from_slice(closed.as_slice())?;
     Ok(text)
 }
@@ -78,7 +83,7 @@ fn expect_framed(
     rows: &[(usize, &str)],
 ) -> Result<(), Fail> {
     for (around, row) in rows {
-        let text = framed(alloc, frame, *around, *row)?;
+        let text = framed_row(alloc, frame, *around, *row)?;
         expect(rt, alloc, text.as_slice())?;
     }
     Ok(())

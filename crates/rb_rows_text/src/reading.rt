@@ -44,7 +44,7 @@ fn place_of(fault: &ReadFault, placed: &[Placed], end: usize) -> Found {
 }
 
 // What is found where a file is read: whether it is spelled as these tokens.
-fn spelled(alloc: Global, file: &FileTree, placed: &[Placed]) -> Result<Found, AllocError> {
+fn spelling(alloc: Global, file: &FileTree, placed: &[Placed]) -> Result<Found, AllocError> {
     let tokens = spell_file(alloc, file)?;
     if are_same(tokens.as_slice(), placed) {
         Ok(Found::File)
@@ -64,7 +64,7 @@ pub fn outcome(alloc: Global, text: &[u8]) -> Result<Found, Fail> {
         return Ok(Found::Other);
     }
     match read_file(alloc, placed.as_slice()) {
-        Ok(file) => Ok(spelled(alloc, &file, placed.as_slice())?),
+        Ok(file) => Ok(spelling(alloc, &file, placed.as_slice())?),
         Err(fault) => Ok(place_of(&fault, placed.as_slice(), text.len())),
     }
 }
@@ -74,7 +74,7 @@ pub fn outcome(alloc: Global, text: &[u8]) -> Result<Found, Fail> {
 /// # Errors
 ///
 /// Want of memory.
-pub fn repeated(
+pub fn repeated_part(
     alloc: Global,
     front: &[u8],
     part: &[u8],

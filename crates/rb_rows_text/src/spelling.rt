@@ -176,7 +176,7 @@ fn first_con(alloc: Global) -> Result<ConTree, AllocError> {
 }
 
 // `type T = A(T, u64) | B;`
-fn declared(alloc: Global) -> Result<TypeTree, AllocError> {
+fn type_tree(alloc: Global) -> Result<TypeTree, AllocError> {
     let first = first_con(alloc)?;
     let second = ConTree {
         name: name(alloc, 0, b"B")?,
@@ -192,7 +192,7 @@ fn declared(alloc: Global) -> Result<TypeTree, AllocError> {
 // The type, its layout, and a layout that is left to the compiler.
 fn items(alloc: Global) -> Result<Seq<ItemTree>, AllocError> {
     let mut items = Seq::new(alloc);
-    items.push(ItemTree::Types(declared(alloc)?))?;
+    items.push(ItemTree::Types(type_tree(alloc)?))?;
     items.push(ItemTree::Layouts(layout(alloc)?))?;
     items.push(ItemTree::Derived(name(alloc, 0, b"T")?, Auto::Packed))?;
     Ok(items)

@@ -24,7 +24,7 @@ pub enum Found {
 }
 
 // What is found where a value is read: whether it is printed as this text.
-fn reprinted(
+fn reprint(
     alloc: Global,
     types: &[DataDecl],
     ty: Ty,
@@ -53,7 +53,7 @@ pub fn outcome(
 ) -> Result<Found, AllocError> {
     let types = types(alloc)?;
     match read_value(alloc, types.as_slice(), ty, text, limit) {
-        Ok(value) => reprinted(alloc, types.as_slice(), ty, &value, printed),
+        Ok(value) => reprint(alloc, types.as_slice(), ty, &value, printed),
         Err(ValueFault::ValueSyntax(at)) => Ok(Found::Syntax(at)),
         Err(ValueFault::ValueTooLarge) => Ok(Found::TooLarge),
         Err(ValueFault::ValueType(at)) => Ok(Found::Misfit(at)),

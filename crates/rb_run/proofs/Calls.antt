@@ -31,7 +31,7 @@ use Rattle.rb_target.specs.declared.outcome.End.{End}
 use Rattle.rb_target.specs.declared.outcome.End.TheVariants as target
 use Rattle.rb_target.specs.Meaning.{CallEnd, run_of}
 use Rattle.rb_rel.specs.Placing.{Laid, Fits, Over, Request, lay, requests_at, requests_of}
-use Rattle.rb_rel.specs.Answers.{all_makings}
+use Rattle.rb_rel.specs.Answers.{all_makings, laid_arguments, laid_call, making_arguments}
 use Rattle.rb_rel.specs.Relation.{Represent}
 use Rattle.rb_rel.proofs.Lists.{got}
 use Rattle.rb_fragment.specs.Plan.{Plan, Reps, types_of, words_needed_by, words_needed}
@@ -39,7 +39,7 @@ use Rattle.rb_fragment.proofs.Laying.{all_behind, lay-append, then_lay}
 use Rattle.rb_fragment.proofs.Represented.{Rep-count}
 use Rattle.rb_compile.specs.Plans.{plan_of}
 use Rattle.rb_compile.specs.Refining.{EndsAs, Refines}
-use Rattle.rb_run.specs.Calling.{CountsAs, HoldArguments, IsCalled, IsCounted, end_over, laid_arguments, laid_call, making_arguments}
+use Rattle.rb_run.specs.Calling.{CountsAs, HoldArguments, IsCalled, IsCounted, end_over}
 
 module _ (plan : Plan) (clean : Bool) (t : Ty) (run : CallEnd) where
   -- blocks that stand before others do not change how a run ends
@@ -89,13 +89,13 @@ below a b e = grind (arith, nat_tests, e)
 pub record Encoded (agreed : LaidOut) (args : List Value) (old m : Memory) (ws : List ℕ) : Type 0 where
   pub blocks : List (ℕ × ℕ)
   pub next : ℕ
-  pub fits : laid_arguments agreed args old ≡ Fits blocks next
+  pub fits : laid_arguments agreed.covered.program agreed.layouts args old ≡ Fits blocks next
   pub grown : Grown old m blocks next
   pub hold : HoldArguments agreed args old m blocks next ws
 
 module _ (agreed : LaidOut) (args : List Value) (old : Memory) (flat : agreed.layouts ≡ flat_layouts agreed.covered.program) (tys : List Ty)
     (tys_are : tys ≡ param_types agreed.covered.program.funs agreed.covered.program.main) where
-  laid_as : lay old.limit old.next (requests_of (flat_layouts agreed.covered.program) (all_makings agreed.covered.program.types args tys)) ≡ laid_arguments agreed args old
+  laid_as : lay old.limit old.next (requests_of (flat_layouts agreed.covered.program) (all_makings agreed.covered.program.types args tys)) ≡ laid_arguments agreed.covered.program agreed.layouts args old
   laid_as =
       ap (λ layouts. lay old.limit old.next (requests_of layouts (all_makings agreed.covered.program.types args tys))) (sym flat)
       ∙ ap (λ ts. lay old.limit old.next (requests_of agreed.layouts (all_makings agreed.covered.program.types args ts))) tys_are
@@ -111,7 +111,7 @@ module _ (agreed : LaidOut) (args : List Value) (old : Memory) (flat : agreed.la
         subst (λ next. StandApart agreed.covered.program.types (flat_layouts agreed.covered.program) m tys args old.next e.0 next ws) e.3.next e.4));
   }
 
-  pub is_unfit : (m : Memory) (full : Full) → AreEncoded agreed.covered.program tys args old m (Err (Unfit full)) → laid_arguments agreed args old ≡ Over full
+  pub is_unfit : (m : Memory) (full : Full) → AreEncoded agreed.covered.program tys args old m (Err (Unfit full)) → laid_arguments agreed.covered.program agreed.layouts args old ≡ Over full
   is_unfit m full e = sym laid_as ∙ e.0
 
 module _ (agreed : LaidOut) (code : List CodeFun) (r : Refines (plan_of agreed) code) (typed : IsTyped agreed.covered.program) (args : List Value) (calls : ℕ) (old : Memory) where
@@ -133,16 +133,16 @@ module _ (agreed : LaidOut) (code : List CodeFun) (r : Refines (plan_of agreed) 
   abbrev log_requests : List Request
   log_requests = requests_of agreed.layouts meant.log
 
-  laid_is : laid_call agreed args calls old ≡ then_lay old.limit (laid_arguments agreed args old) log_requests
+  laid_is : laid_call p agreed.layouts args calls old ≡ then_lay old.limit (laid_arguments p agreed.layouts args old) log_requests
   laid_is =
       ap (λ l. lay old.limit old.next l) (requests-append agreed.layouts (making_arguments p args) meant.log)
       ∙ lay-append old.limit old.next (requests_of agreed.layouts (making_arguments p args)) log_requests
 
   -- the arguments do not fit
-  module _ (full : Full) (over : laid_arguments agreed args old ≡ Over full) where
+  module _ (full : Full) (over : laid_arguments p agreed.layouts args old ≡ Over full) where
     pub called_unfit : (new : Memory) → IsCalled agreed args calls old (target.Full full) new
     called_unfit new =
-        let laid : laid_call agreed args calls old ≡ Over full = laid_is ∙ ap (λ l. then_lay old.limit l log_requests) over in
+        let laid : laid_call p agreed.layouts args calls old ≡ Over full = laid_is ∙ ap (λ l. then_lay old.limit l log_requests) over in
         record {
           ends = subst (λ l. EndsAs (plan_of agreed) true (result_type p.funs p.main) old l meant.end (end_over (target.Full full) new)) (sym laid) refl;
           arguments = λ words left is. absurd (cc is);
@@ -171,18 +171,18 @@ module _ (agreed : LaidOut) (code : List CodeFun) (r : Refines (plan_of agreed) 
         let q = r.heads p.main main_at.0 main_at.1 in
         words_length (plan_of agreed) true m (types_of main_at.0) args ws reps_of_main ∙ sym q.2.params ∙ sym (ap params_in q.1)
 
-    laid_behind : laid_call agreed args calls old ≡ all_behind e.blocks (lay m.limit m.next log_requests)
+    laid_behind : laid_call p agreed.layouts args calls old ≡ all_behind e.blocks (lay m.limit m.next log_requests)
     laid_behind =
         laid_is ∙ ap (λ l. then_lay old.limit l log_requests) e.fits
         ∙ ap (λ k. all_behind e.blocks (lay k e.next log_requests)) (sym e.grown.limit) ∙ ap (λ k. all_behind e.blocks (lay m.limit k log_requests)) (sym e.grown.next)
 
     ends_right : (end : End) (new : Memory) → end ≡ run.ended → new ≡ run.world.memory
-        → EndsAs (plan_of agreed) true (result_type p.funs p.main) old (laid_call agreed args calls old) meant.end (end_over end new)
+        → EndsAs (plan_of agreed) true (result_type p.funs p.main) old (laid_call p agreed.layouts args calls old) meant.end (end_over end new)
     ends_right end new is same =
         let here = ends_behind (plan_of agreed) true main_at.0.result run old m e.blocks e.next e.grown (lay m.limit m.next log_requests) meant.end does in
         let there = subst (λ l. EndsAs (plan_of agreed) true main_at.0.result old l meant.end run) (sym laid_behind) here in
-        let typed_so = subst (λ t. EndsAs (plan_of agreed) true t old (laid_call agreed args calls old) meant.end run) (sym main_result) there in
-        ends_seen (plan_of agreed) true (result_type p.funs p.main) run old (laid_call agreed args calls old) meant.end typed_so end new is same
+        let typed_so = subst (λ t. EndsAs (plan_of agreed) true t old (laid_call p agreed.layouts args calls old) meant.end run) (sym main_result) there in
+        ends_seen (plan_of agreed) true (result_type p.funs p.main) run old (laid_call p agreed.layouts args calls old) meant.end typed_so end new is same
 
     -- the memory of a run that returns has what it had before
     later_hold : (words : List ℕ) (left : ℕ) → run.ended ≡ target.Returned words left → HoldArguments agreed args old run.world.memory e.blocks e.next ws

@@ -17,7 +17,7 @@ use Rattle.rb_layout.specs.declared.layout.Layout.{Layout}
 use Rattle.rb_layout.specs.Flattening.{flat_layouts}
 use Rattle.rb_target.specs.declared.outcome.End.{End}
 use Rattle.rb_target.specs.declared.outcome.End.TheVariants as target
-use Rattle.rb_rel.specs.Answers.{Answer, answer_at}
+use Rattle.rb_rel.specs.Answers.{Answer, answer_at, laid_call}
 use Rattle.rb_rel.specs.Answers as answers
 use Rattle.rb_rel.specs.Placing.{Laid, Fits, Over}
 use Rattle.rb_rel.specs.Relation.{Represents}
@@ -29,7 +29,7 @@ use Rattle.rb_compile.specs.Refining.{EndsAs}
 use Rattle.rb_run.specs.inner.Ends.{left_at, shown_within}
 use Rattle.rb_run.specs.Counting.{IsTally}
 use Rattle.rb_run.specs.declared.count.Tally.{Tally}
-use Rattle.rb_run.specs.Calling.{IsCalled, IsEndOf, end_over, laid_call}
+use Rattle.rb_run.specs.Calling.{IsCalled, IsEndOf, end_over}
 
 -- a value that was returned, with the memory that holds it
 pub record IsReturned (plan : Plan) (t : Ty) (new : Memory) (l : Laid) (e : SourceEnd) (words : List ℕ) : Type 0 where
@@ -96,9 +96,9 @@ module _ (agreed : LaidOut) (flat : agreed.layouts ≡ flat_layouts agreed.cover
       subst (λ (layouts : List Layout). Represents agreed.covered.program.types layouts new false result r.value words) flat free
 
   abbrev returned : (args : List Value) (calls : ℕ) (old : Memory) → IsCalled agreed args calls old (target.Returned words left) new
-      → IsReturned (plan_of agreed) result new (laid_call agreed args calls old) (call_of agreed.covered.program agreed.covered.program.main calls args).end words
+      → IsReturned (plan_of agreed) result new (laid_call agreed.covered.program agreed.layouts args calls old) (call_of agreed.covered.program agreed.covered.program.main calls args).end words
   returned args calls old called =
-      returned_is (plan_of agreed) result old new (laid_call agreed args calls old) (call_of agreed.covered.program agreed.covered.program.main calls args).end words left called.ends
+      returned_is (plan_of agreed) result old new (laid_call agreed.covered.program agreed.layouts args calls old) (call_of agreed.covered.program agreed.covered.program.main calls args).end words left called.ends
 
   -- what was returned represents a value
   pub returned_value : IsEndOf agreed (target.Returned words left) new → (v : Value) × AreOf agreed.covered.program new result words v
@@ -106,7 +106,7 @@ module _ (agreed : LaidOut) (flat : agreed.layouts ≡ flat_layouts agreed.cover
 
   pub returned_answer : (meant : Answer) (nodes : ℕ) → ((v : Value) → AreOf agreed.covered.program new result words v → meant ≡ shown_within nodes v)
       → (args : List Value) (calls : ℕ) (old : Memory) → IsCalled agreed args calls old (target.Returned words left) new
-      → meant ≡ answer_at (laid_call agreed args calls old) (call_of agreed.covered.program agreed.covered.program.main calls args).end nodes
+      → meant ≡ answer_at (laid_call agreed.covered.program agreed.layouts args calls old) (call_of agreed.covered.program agreed.covered.program.main calls args).end nodes
   returned_answer meant nodes shown args calls old called =
       let r = returned args calls old called in
       shown r.value (of_value _ _ r) ∙ sym (r.answers_are nodes)

@@ -1,13 +1,10 @@
 -- What a call of `main` comes to over a memory: its end, its steps and its switches. A step is an instruction that
 -- the run begins. Blocks are laid in a memory: placed one behind the other from its next address on, or one of them
--- is the first that does not fit. A log is what the source does in a call, in order: its constructions, which ask for
--- the blocks of their leaves, and its matches. Words represent a value with what is in the blocks of a memory, and
--- cleanly where the bits that layouts leave free are 0. `agreed` is a program with its layouts, `args` are the
--- arguments of `main`, and `calls` is the number of calls that the run may make.
-use Rattle.std.specs.Prelude.{◌≡◌, ℕ, List, ◌++◌, true}
+-- is the first that does not fit. Words represent a value with what is in the blocks of a memory, and cleanly where the
+-- bits that layouts leave free are 0. `agreed` is a program with its layouts, `args` are the arguments of `main`, and
+-- `calls` is the number of calls that the run may make.
+use Rattle.std.specs.Prelude.{◌≡◌, ℕ, List, true}
 use Rattle.rb_core.specs.declared.value.Value.{Value}
-use Rattle.rb_core.specs.declared.outcome.Event.{Event}
-use Rattle.rb_core.specs.declared.program.Program.{Program}
 use Rattle.rb_core.specs.Meaning.{call_of}
 use Rattle.rb_core.specs.Typing.{param_types, result_type}
 use Rattle.rb_bytes.specs.Memory.{Memory}
@@ -17,31 +14,15 @@ use Rattle.rb_target.specs.declared.code.CodeFun.{CodeFun}
 use Rattle.rb_target.specs.declared.outcome.End.{End}
 use Rattle.rb_target.specs.declared.outcome.End.TheVariants.{Returned}
 use Rattle.rb_target.specs.Meaning.{CallEnd, over, run_of}
-use Rattle.rb_rel.specs.Answers.{all_makings}
-use Rattle.rb_rel.specs.Placing.{Laid, Fits, Over, lay, requests_of}
+use Rattle.rb_rel.specs.Answers.{laid_arguments, laid_call}
+use Rattle.rb_rel.specs.Placing.{Laid, Fits, Over}
 use Rattle.rb_coding.specs.Encoding.{StandApart}
 use Rattle.rb_compile.specs.Plans.{plan_of}
 use Rattle.rb_compile.specs.Refining.{EndsAs}
 
--- the constructions that make values as arguments of `main`, one argument after the other
-abbrev pub making_arguments : Program → List Value → List Event
-making_arguments p args = all_makings p.types args (param_types p.funs p.main)
-
--- what a call of `main` asks for: the blocks of its arguments, and then those of its log, laid in a memory
-abbrev pub laid_call : LaidOut → List Value → ℕ → Memory → Laid
-laid_call agreed args calls m =
-    let p = agreed.covered.program in
-    lay m.limit m.next (requests_of agreed.layouts (making_arguments p args ++ (call_of p p.main calls args).log))
-
 -- an outcome with this end and this memory, and nothing counted
 abbrev pub end_over : End → Memory → CallEnd
 end_over end m = over end (record { left = 0; memory = m; switches = 0; taken = 0 })
-
--- the blocks that the arguments of `main` ask for, laid in a memory: where they end up, or the first that does not
--- fit
-abbrev pub laid_arguments : LaidOut → List Value → Memory → Laid
-laid_arguments agreed args m =
-    lay m.limit m.next (requests_of agreed.layouts (making_arguments agreed.covered.program args))
 
 -- the words ws represent the arguments in memory m, which has grown from the old one by the blocks, up to the address
 -- `next`: each argument cleanly, and over just the blocks that its own constructions ask for
@@ -57,11 +38,12 @@ pub record IsCalled (agreed : LaidOut) (args : List Value) (calls : ℕ) (old : 
   -- the end is Full with the first request that does not fit, or Spent, or words that represent the value,
   -- with clean free bits, and as many calls left
   pub ends : EndsAs (plan_of agreed) true (result_type agreed.covered.program.funs agreed.covered.program.main) old
-      (laid_call agreed args calls old)
+      (laid_call agreed.covered.program agreed.layouts args calls old)
       (call_of agreed.covered.program agreed.covered.program.main calls args).end (end_over end new)
   -- where it returns, some words represent each argument over its own blocks
   pub arguments : (words : List ℕ) (left : ℕ) → end ≡ Returned words left
-      → (blocks : List (ℕ × ℕ)) (next : ℕ) → laid_arguments agreed args old ≡ Fits blocks next
+      → (blocks : List (ℕ × ℕ)) (next : ℕ)
+      → laid_arguments agreed.covered.program agreed.layouts args old ≡ Fits blocks next
       → (ws : List ℕ) × HoldArguments agreed args old new blocks next ws
 
 -- The steps and the switches of a call from memory `old`, where the blocks of the arguments are laid like this: those
@@ -79,7 +61,7 @@ CountsAs agreed code args calls old (Fits blocks next) steps switches =
 -- where these do not fit
 abbrev pub IsCounted : LaidOut → List CodeFun → List Value → ℕ → Memory → ℕ → ℕ → Type 0
 IsCounted agreed code args calls old steps switches =
-    CountsAs agreed code args calls old (laid_arguments agreed args old) steps switches
+    CountsAs agreed code args calls old (laid_arguments agreed.covered.program agreed.layouts args old) steps switches
 
 -- the end, over this memory, is that of some call of `main`, on some arguments and from some memory
 abbrev pub IsEndOf : LaidOut → End → Memory → Type 0

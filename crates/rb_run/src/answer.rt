@@ -11,11 +11,11 @@ ghost use Rattle.rb_core.specs.Limits.{most_calls};
 ghost use Rattle.rb_core.specs.Meaning.{call_of};
 ghost use Rattle.rb_core.specs.Typing.{param_types, result_type};
 ghost use Rattle.rb_core.specs.Values.{all_of_types, is_of_type};
-ghost use Rattle.rb_rel.specs.Answers.{answer_at, answer_of};
+ghost use Rattle.rb_rel.specs.Answers.{answer_at, answer_of, laid_call};
 ghost use Rattle.rb_compile.specs.Plans.{plan_of};
 ghost use Rattle.rb_compile.specs.Refining.{Refines};
 ghost use Rattle.rb_run.specs.Answering.{meant_by};
-ghost use Rattle.rb_run.specs.Calling.{IsCalled, IsCounted, IsEndOf, laid_call};
+ghost use Rattle.rb_run.specs.Calling.{IsCalled, IsCounted, IsEndOf};
 ghost use Rattle.rb_run.specs.inner.Ends.{shown_within};
 
 use crate::count::count_main;
@@ -97,7 +97,8 @@ pub(crate) fn answer_to(
 ) -> Result<Answer, AllocError>
     requires { IsEndOf agreed.now end memory.now }
     ensures { (args : List Value) (calls : ℕ) (old : Memory) → IsCalled agreed.now args calls old end memory.now
-        → IfOk result (λ a. meant_by a ≡ answer_at (laid_call agreed.now args calls old)
+        → IfOk result (λ a. meant_by a
+        ≡ answer_at (laid_call agreed.now.covered.program agreed.now.layouts args calls old)
         (call_of agreed.now.covered.program agreed.now.covered.program.main calls args).end nodes) }
 {
     let _flat = agreed.layouts();

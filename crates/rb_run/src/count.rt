@@ -8,11 +8,11 @@ ghost use Rattle.rb_core.specs.Limits.{most_calls};
 ghost use Rattle.rb_core.specs.Meaning.{call_of};
 ghost use Rattle.rb_core.specs.Typing.{param_types};
 ghost use Rattle.rb_core.specs.Values.{all_of_types, is_of_type};
-ghost use Rattle.rb_rel.specs.Answers.{answer_of};
+ghost use Rattle.rb_rel.specs.Answers.{answer_of, laid_call};
 ghost use Rattle.rb_compile.specs.Plans.{plan_of};
 ghost use Rattle.rb_compile.specs.Refining.{Refines};
 ghost use Rattle.rb_run.specs.Answering.{meant_by};
-ghost use Rattle.rb_run.specs.Calling.{IsCounted, laid_call};
+ghost use Rattle.rb_run.specs.Calling.{IsCounted};
 ghost use Rattle.rb_run.specs.Counting.{IsTally};
 ghost use Rattle.rb_run.specs.inner.Ends.{left_at};
 
@@ -73,7 +73,7 @@ pub fn count_main<L: Ledger>(
     ensures counted { IfOk result (λ c. (taken : ℕ) × (steps.new.taken ≡ steps.old.taken + taken)
         × IsCounted agreed.now code.now args.now bounds.calls (empty_memory bounds.region) taken c.tally.switches) }
     ensures tallied { IfOk result (λ c. IsTally
-        (laid_call agreed.now args.now bounds.calls (empty_memory bounds.region))
+        (laid_call agreed.now.covered.program agreed.now.layouts args.now bounds.calls (empty_memory bounds.region))
         (call_of agreed.now.covered.program agreed.now.covered.program.main bounds.calls args.now).end bounds.calls
         c.tally) }
 {

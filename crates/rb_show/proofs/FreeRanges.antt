@@ -2,7 +2,7 @@
 use Rattle.std.proofs.Common.{◌≡◌, ℕ, zero, suc, ◌+◌, ◌-◌, ◌<◌, ◌≤◌, ◌⊎◌, ◌==◌, ◌&&◌, ◌||◌, inl, inr, List, [], ◌∷◌, get_or, Bool, true, false, not, Some, refl, sym, subst, ap, ◌∙◌, ne_eqb, arith}
 use Rattle.std.specs.Prelude.{slice_get, leb, ltb, if◌then◌else◌}
 use Rattle.std.specs.List.{flat_map, list_any, Contains, All}
-use Rattle.std.proofs.lemmas.Bool.{leb-true, le-leb, ltb-true, lt-ltb}
+use Rattle.std.proofs.lemmas.Bool.{leb-true, le-leb, ltb-true, lt-ltb, and_parts}
 use Rattle.std.proofs.lemmas.List.Elements.{All-nil, All-cons, All-contains, Contains-append_right, Contains-append_cases, Contains-push}
 use Rattle.std.proofs.lemmas.List.Folds.{list_any_none, list_any_at}
 use Rattle.std.proofs.lemmas.Option.{same_Some, slice_get-get_or, slice_get_within}
@@ -14,10 +14,6 @@ use Rattle.rb_show.specs.Laws.{IsMaximal, FreeAreMaximal}
 use Rattle.rb_show.specs.Pieces.{WordPiece, Held, Free, holds_bit, is_free, begins_free, free_bits, held_at, free_at, pieces_at, pieces_of}
 use Rattle.rb_show.proofs.Listed.{in_bits, bit_in, all_flat, first_or_later}
 use Rattle.rb_show.proofs.Words.{free-more, free-stops}
-
-both : (a b : Bool) → (a && b) ≡ true → (a ≡ true) × (b ≡ true)
-both true b e = (refl, e)
-both false b e = absurd cc
 
 and_both : (a b : Bool) → a ≡ true → b ≡ true → (a && b) ≡ true
 and_both a b e f = ap (λ x. x && b) e ∙ f
@@ -33,7 +29,7 @@ is_not false e f = absurd cc
 -- Bits --------------------------------------------------------------------------------------
 
 held_in : (i : ℕ) (p : Part) → holds_bit i p ≡ true → IsIn p.o p.l i
-held_in i p e = let h = both (leb p.o i) (ltb i (p.o + p.l)) e in (leb-true p.o i h.0, ltb-true i (p.o + p.l) h.1)
+held_in i p e = let h = and_parts (leb p.o i) (ltb i (p.o + p.l)) e in (leb-true p.o i h.0, ltb-true i (p.o + p.l) h.1)
 
 in_held : (i : ℕ) (p : Part) → IsIn p.o p.l i → holds_bit i p ≡ true
 in_held i p h = and_both (leb p.o i) (ltb i (p.o + p.l)) (le-leb p.o i h.0) (lt-ltb i (p.o + p.l) h.1)
@@ -61,7 +57,7 @@ module _ (word : FlatWord) where
 
   is_free-true : (i : ℕ) → is_free word i ≡ true → IsFree word i
   is_free-true i e =
-      let h = both (ltb i word.width) (not (held i)) e in
+      let h = and_parts (ltb i word.width) (not (held i)) e in
       record { inside = ltb-true i word.width h.0; outside = λ k p is within. is_not (held i) h.1 (one_holds i word.parts k p is within) }
 
   true-is_free : (i : ℕ) → IsFree word i → is_free word i ≡ true
@@ -154,7 +150,7 @@ module _ (word : FlatWord) where
 
   not_below : (i j : ℕ) → begins_free word i ≡ true → j + 1 ≡ i → IsFree word j → ⊥
   not_below i j b e f =
-      let h = both (is_free word i) (i == 0 || not (is_free word (i - 1))) b in
+      let h = and_parts (is_free word i) (i == 0 || not (is_free word (i - 1))) b in
       let back : i - 1 ≡ j = omega (arith, e) in
       let above : (i == 0) ≡ false = ne_eqb i 0 (λ z. omega (arith, z, e)) in
       let at : not (is_free word j) ≡ true = ap (λ k. not (is_free word k)) (sym back) ∙ ap (λ b. b || not (is_free word (i - 1))) (sym above) ∙ h.1 in
@@ -162,7 +158,7 @@ module _ (word : FlatWord) where
 
   maximal : (i n : ℕ) → begins_free word i ≡ true → i < word.width → n ≡ free_bits word i (word.width - i) → IsMaximal word i n
   maximal i n b lt e =
-      let h = both (is_free word i) (i == 0 || not (is_free word (i - 1))) b in
+      let h = and_parts (is_free word i) (i == 0 || not (is_free word (i - 1))) b in
       let all : word.width - i ≡ suc (word.width - i - 1) = omega (arith, lt) in
       let some : n ≡ suc (free_bits word (suc i) (word.width - i - 1)) = e ∙ ap (λ m. free_bits word i m) all ∙ step_at i (word.width - i - 1) true h.0 in
       record {

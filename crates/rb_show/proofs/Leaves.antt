@@ -11,6 +11,7 @@ use Rattle.rb_core.specs.declared.layout_decl.LayoutDecl.{LayoutDecl}
 use Rattle.rb_core.specs.declared.layout_decl.Arm.{Arm}
 use Rattle.rb_core.specs.declared.layout_decl.LayTree.{LayTree, Split, Leaf}
 use Rattle.rb_core.specs.Layouts.{leaves}
+use Rattle.rb_core.proofs.LayoutInduction.{tree-induction}
 use Rattle.rb_layout.specs.declared.layout.FlatArm.{FlatArm}
 use Rattle.rb_layout.specs.declared.layout.Layout.{Layout}
 use Rattle.rb_layout.specs.Flattening.{LeafNumbering, arms_count, arms_from, tree_step, arm_step, numbering, arm_numbering, flat_leaf, flat_layout}
@@ -94,7 +95,7 @@ else_counted loc arms other each o n =
     ∙ ap (λ (q : LeafNumbering). range_with_len n q.count) (sym e)
 
 counted : (tree : LayTree) → AreCounted tree
-counted = D.tree-induction AreCounted (record { split = split_counted; split_else = else_counted; leaf = leaf_counted })
+counted = tree-induction AreCounted (record { split = split_counted; split_else = else_counted; leaf = leaf_counted })
 
 shown : (p : Program) (d : LayoutDecl) → numbers (routes_of (flat_layout p d).tree) ≡ range_with_len 0 (length (flat_layout p d).leaves)
 shown p d = counted d.tree 0 ∙ ap (λ k. range_with_len 0 k) (count-is d.tree ∙ sym (length-map (leaves d.tree) (flat_leaf p.types p.layouts)))

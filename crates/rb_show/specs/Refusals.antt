@@ -69,6 +69,29 @@ width_text word width = codes "word " ++ decimal word ++ codes " has " ++ decima
 abbrev pub item_text : ℕ → List ℕ
 item_text item = codes "item " ++ decimal item ++ codes ": "
 
+-- the text that the word of this number has so many bits, and the shape's word so many others
+abbrev pub other_width_text : ℕ → ℕ → ℕ → List ℕ
+other_width_text word width wanted = width_text word width ++ codes ", wanted " ++ decimal wanted
+
+-- the text that in this item l bits from bit o on have no bit or go beyond their word
+abbrev pub outside_text : ℕ → ℕ → ℕ → List ℕ
+outside_text item o l = item_text item ++ codes "part " ++ bits_text o l ++ codes " outside its word"
+
+-- the text that in this item l bits from bit o on and m bits from bit p on have a bit in common
+abbrev pub overlap_text : ℕ → ℕ → ℕ → ℕ → ℕ → List ℕ
+overlap_text item o l p m =
+    item_text item ++ codes "parts " ++ bits_text o l ++ codes " and " ++ bits_text p m ++ codes " overlap"
+
+-- the text that in this item a constant stands over l bits, where it doesn't fit
+abbrev pub constant_text : ℕ → ℕ → ℕ → List ℕ
+constant_text item c l =
+    item_text item ++ codes "constant " ++ decimal c ++ codes " over " ++ decimal l ++ codes " bits"
+
+-- the text that in this item l bits from bit o on don't fit what they hold of the field at a path
+abbrev pub misfit_text : ℕ → ℕ → ℕ → List ℕ → List ℕ
+misfit_text item o l path =
+    item_text item ++ codes "part " ++ bits_text o l ++ codes " does not fit " ++ field_text path
+
 -- a literal, as a number behind the word for it
 abbrev pub literal_text : ℕ → List ℕ
 literal_text c = codes "literal " ++ decimal c
@@ -105,6 +128,23 @@ holding_text types ts = codes "holding cycle " ++ names_text types ts
 abbrev pub split_text : Loc → List ℕ
 split_text loc = codes "split " ++ loc_text loc ++ codes ": "
 
+-- the text that the field at a path is not open
+abbrev pub closed_text : List ℕ → List ℕ
+closed_text path = field_text path ++ codes " not open"
+
+-- the text that a literal of the split at a location doesn't fit the bits that it goes by
+abbrev pub wide_text : Loc → ℕ → List ℕ
+wide_text loc c =
+    split_text loc ++ literal_text c ++ codes " over " ++ decimal (length_of loc) ++ codes " bits"
+
+-- the text that the split at a location has a literal twice
+abbrev pub twice_text : Loc → ℕ → List ℕ
+twice_text loc c = split_text loc ++ literal_text c ++ codes " twice"
+
+-- the text that the split at a location has no arm
+abbrev pub armless_text : Loc → List ℕ
+armless_text loc = split_text loc ++ codes "no arm"
+
 module _ (types : List DataDecl) (leaves : List Leaf) where
   -- the provenance of leaf n, by which it is named; empty where there is no such leaf
   abbrev pub leaf_text : ℕ → List ℕ
@@ -113,6 +153,14 @@ module _ (types : List DataDecl) (leaves : List Leaf) where
   -- bit or word i of the field at a path of leaf n, whichever the field is counted in
   abbrev pub unit_of_field : ℕ → List ℕ → ℕ → List ℕ
   unit_of_field n path i = field_text path ++ unit_in types (slice_get leaves n) path ++ decimal i
+
+  -- the text that bit or word i of the field at a path of leaf n is not held
+  abbrev pub unheld_text : ℕ → List ℕ → ℕ → List ℕ
+  unheld_text n path i = unit_of_field n path i ++ codes " not held"
+
+  -- the text that bit or word i of the field at a path of leaf n is held twice
+  abbrev pub twice_held_text : ℕ → List ℕ → ℕ → List ℕ
+  twice_held_text n path i = unit_of_field n path i ++ codes " held twice"
 
   -- the text that leaf n and a later leaf, each named by its provenance, have a common value
   abbrev pub common_text : ℕ → ℕ → List ℕ
@@ -124,14 +172,11 @@ module _ (types : List DataDecl) (leaves : List Leaf) where
   evidence_text n NoLayout = codes "no layout"
   evidence_text n (ShapeWidth i width) = width_text i width
   evidence_text n (WordCount wanted found) = counts_text wanted found
-  evidence_text n (WordWidth i width wanted) = width_text i width ++ codes ", wanted " ++ decimal wanted
-  evidence_text n (Outside item o l) = item_text item ++ codes "part " ++ bits_text o l ++ codes " outside its word"
-  evidence_text n (Overlap item o l p m) =
-      item_text item ++ codes "parts " ++ bits_text o l ++ codes " and " ++ bits_text p m ++ codes " overlap"
-  evidence_text n (ConstWide item c l) =
-      item_text item ++ codes "constant " ++ decimal c ++ codes " over " ++ decimal l ++ codes " bits"
-  evidence_text n (Misfit item o l path) =
-      item_text item ++ codes "part " ++ bits_text o l ++ codes " does not fit " ++ field_text path
+  evidence_text n (WordWidth i width wanted) = other_width_text i width wanted
+  evidence_text n (Outside item o l) = outside_text item o l
+  evidence_text n (Overlap item o l p m) = overlap_text item o l p m
+  evidence_text n (ConstWide item c l) = constant_text item c l
+  evidence_text n (Misfit item o l path) = misfit_text item o l path
   evidence_text n (BlockWord width) = codes "block word of " ++ decimal width ++ codes " bits"
   evidence_text n (BlockWords count) = codes "block of " ++ decimal count ++ codes " words"
   evidence_text n (Blocks count) = decimal count ++ codes " blocks"
@@ -139,16 +184,15 @@ module _ (types : List DataDecl) (leaves : List Leaf) where
   evidence_text n (ShortPointer bits) = codes "pointer of " ++ decimal bits ++ codes " bits"
   evidence_text n (Common later) = common_text n later
   evidence_text n (NoLeaf pat) = missing_text types pat
-  evidence_text n (NotHeld path i) = unit_of_field n path i ++ codes " not held"
-  evidence_text n (HeldTwice path i) = unit_of_field n path i ++ codes " held twice"
-  evidence_text n (NotOpen path) = field_text path ++ codes " not open"
+  evidence_text n (NotHeld path i) = unheld_text n path i
+  evidence_text n (HeldTwice path i) = twice_held_text n path i
+  evidence_text n (NotOpen path) = closed_text path
   evidence_text n (Unresolved loc) = unresolved_text loc
   evidence_text n (NotKnown loc c) = literal_at c (codes " not known at ") loc
   evidence_text n (NotExcluded loc c) = literal_at c (codes " not excluded at ") loc
-  evidence_text n (LiteralWide loc c) =
-      split_text loc ++ literal_text c ++ codes " over " ++ decimal (length_of loc) ++ codes " bits"
-  evidence_text n (LiteralTwice loc c) = split_text loc ++ literal_text c ++ codes " twice"
-  evidence_text n (NoArm loc) = split_text loc ++ codes "no arm"
+  evidence_text n (LiteralWide loc c) = wide_text loc c
+  evidence_text n (LiteralTwice loc c) = twice_text loc c
+  evidence_text n (NoArm loc) = armless_text loc
   evidence_text n (HasPointer t) = pointer_text types t
   evidence_text n (FlatCycle ts) = flattening_text types ts
   evidence_text n (HoldCycle ts) = holding_text types ts

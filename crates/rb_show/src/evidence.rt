@@ -10,13 +10,14 @@ ghost use Rattle.std.specs.Prelude.{◌≡◌, ◌++◌, OnOk, slice_get};
 ghost use Rattle.std.specs.Fmt.{decimal};
 ghost use Rattle.std.specs.List.{flat_map};
 ghost use Rattle.rb_layout.specs.A8 as a8;
-ghost use Rattle.rb_show.specs.Refusals.{common_text, counts_text, evidence_text, field_text, flattening_text, holding_text, item_text, later_name, leaf_text, literal_at, literal_text, missing_text, names_text, pointer_text, split_text, unit_in, unit_of_field, unit_text, unresolved_text, width_text};
+ghost use Rattle.rb_show.specs.Refusals.{armless_text, closed_text, common_text, constant_text, counts_text, evidence_text, field_text, flattening_text, holding_text, item_text, later_name, leaf_text, literal_at, literal_text, misfit_text, missing_text, names_text, other_width_text, outside_text, overlap_text, pointer_text, split_text, twice_held_text, twice_text, unheld_text, unit_in, unit_of_field, unit_text, unresolved_text, wide_text, width_text};
 
 use crate::location::{push_bits, push_loc};
 use crate::piece::push_path;
 use rb_core::layout_decl::Loc;
 use rb_core::pattern::Pat;
 use rb_core::pattern_text::push_pattern;
+use rb_core::seq::Seq;
 use rb_core::text::{push, push_name, push_number};
 use rb_core::types::{DataDecl, Ty};
 use rb_layout::evidence::Why;
@@ -250,6 +251,142 @@ fn push_holding(text: &mut Vec<u8>, types: &[DataDecl], tys: &[u32]) -> Result<(
     push_names(text, types, tys)
 }
 
+// Adds that a root word has so many bits, and the shape's word so many others.
+fn push_other_width(
+    text: &mut Vec<u8>,
+    word: u32,
+    width: u64,
+    wanted: u64,
+) -> Result<(), AllocError>
+    ensures { OnOk result (text.new.items ≡ text.old.items ++ other_width_text word width wanted) }
+{
+    push_width(text, word, width)?;
+    push(text, b", wanted ")?;
+    push_number(text, wanted)
+}
+
+// Adds that in an item the part with this range has no bit or goes beyond its word.
+fn push_outside(text: &mut Vec<u8>, item: u32, o: u64, l: u64) -> Result<(), AllocError>
+    ensures { OnOk result (text.new.items ≡ text.old.items ++ outside_text item o l) }
+{
+    push_item(text, item)?;
+    push(text, b"part ")?;
+    push_bits(text, o, l)?;
+    push(text, b" outside its word")
+}
+
+// Adds that in an item the parts with these two ranges have a bit in common.
+fn push_overlap(
+    text: &mut Vec<u8>,
+    item: u32,
+    o: u64,
+    l: u64,
+    p: u64,
+    m: u64,
+) -> Result<(), AllocError>
+    ensures { OnOk result (text.new.items ≡ text.old.items ++ overlap_text item o l p m) }
+{
+    push_item(text, item)?;
+    push(text, b"parts ")?;
+    push_bits(text, o, l)?;
+    push(text, b" and ")?;
+    push_bits(text, p, m)?;
+    push(text, b" overlap")
+}
+
+// Adds that in an item a constant doesn't fit its part of so many bits.
+fn push_constant(text: &mut Vec<u8>, item: u32, number: u64, l: u64) -> Result<(), AllocError>
+    ensures { OnOk result (text.new.items ≡ text.old.items ++ constant_text item number l) }
+{
+    push_item(text, item)?;
+    push_between(text, b"constant ", number, b" over ")?;
+    push_number(text, l)?;
+    push(text, b" bits")
+}
+
+// Adds that in an item the part with this range doesn't fit what it names of a field.
+fn push_misfit(
+    text: &mut Vec<u8>,
+    item: u32,
+    o: u64,
+    l: u64,
+    path: &[u32],
+) -> Result<(), AllocError>
+    ensures { OnOk result (text.new.items ≡ text.old.items ++ misfit_text item o l path.now) }
+{
+    push_item(text, item)?;
+    push(text, b"part ")?;
+    push_bits(text, o, l)?;
+    push(text, b" does not fit ")?;
+    push_field(text, path)
+}
+
+// Adds that no part holds a bit or a word of a field.
+fn push_unheld(
+    text: &mut Vec<u8>,
+    types: &[DataDecl],
+    leaves: &[Leaf],
+    leaf: u32,
+    path: &Seq<u32>,
+    number: u64,
+) -> Result<(), AllocError>
+    ensures { OnOk result (text.new.items ≡ text.old.items ++ unheld_text types.now leaves.now leaf path.now number) }
+{
+    push_unit(text, types, leaves, leaf, path.as_slice(), number)?;
+    push(text, b" not held")
+}
+
+// Adds that more than one part holds a bit or a word of a field.
+fn push_twice_held(
+    text: &mut Vec<u8>,
+    types: &[DataDecl],
+    leaves: &[Leaf],
+    leaf: u32,
+    path: &Seq<u32>,
+    number: u64,
+) -> Result<(), AllocError>
+    ensures { OnOk result (text.new.items ≡ text.old.items
+        ++ twice_held_text types.now leaves.now leaf path.now number) }
+{
+    push_unit(text, types, leaves, leaf, path.as_slice(), number)?;
+    push(text, b" held twice")?;
+    Ok(())
+}
+
+// Adds that the field at a path is not open.
+fn push_closed(text: &mut Vec<u8>, path: &[u32]) -> Result<(), AllocError>
+    ensures { OnOk result (text.new.items ≡ text.old.items ++ closed_text path.now) }
+{
+    push_field(text, path)?;
+    push(text, b" not open")
+}
+
+// Adds that a literal of the split at a location doesn't fit the bits that the split goes by.
+fn push_wide(text: &mut Vec<u8>, loc: &Loc, literal: u64) -> Result<(), AllocError>
+    ensures { OnOk result (text.new.items ≡ text.old.items ++ wide_text loc.now literal) }
+{
+    push_split(text, loc)?;
+    push_literal(text, literal)?;
+    push_between(text, b" over ", length_of(loc), b" bits")
+}
+
+// Adds that the split at a location has a literal twice.
+fn push_twice(text: &mut Vec<u8>, loc: &Loc, literal: u64) -> Result<(), AllocError>
+    ensures { OnOk result (text.new.items ≡ text.old.items ++ twice_text loc.now literal) }
+{
+    push_split(text, loc)?;
+    push_literal(text, literal)?;
+    push(text, b" twice")
+}
+
+// Adds that the split at a location has no arm.
+fn push_armless(text: &mut Vec<u8>, loc: &Loc) -> Result<(), AllocError>
+    ensures { OnOk result (text.new.items ≡ text.old.items ++ armless_text loc.now) }
+{
+    push_split(text, loc)?;
+    push(text, b"no arm")
+}
+
 /// Adds what fails at a place to a text; `leaf` is the number of the leaf, where it fails at a
 /// leaf.
 ///
@@ -269,38 +406,11 @@ pub(crate) fn push_evidence(
         Why::NoLayout => push(text, b"no layout"),
         Why::ShapeWidth(word, width) => push_width(text, *word, *width),
         Why::WordCount(wanted, found) => push_counts(text, *wanted, *found),
-        Why::WordWidth(word, width, wanted) => {
-            push_width(text, *word, *width)?;
-            push(text, b", wanted ")?;
-            push_number(text, *wanted)
-        }
-        Why::Outside(item, o, l) => {
-            push_item(text, *item)?;
-            push(text, b"part ")?;
-            push_bits(text, *o, *l)?;
-            push(text, b" outside its word")
-        }
-        Why::Overlap(item, o, l, p, m) => {
-            push_item(text, *item)?;
-            push(text, b"parts ")?;
-            push_bits(text, *o, *l)?;
-            push(text, b" and ")?;
-            push_bits(text, *p, *m)?;
-            push(text, b" overlap")
-        }
-        Why::ConstWide(item, number, l) => {
-            push_item(text, *item)?;
-            push_between(text, b"constant ", *number, b" over ")?;
-            push_number(text, *l)?;
-            push(text, b" bits")
-        }
-        Why::Misfit(item, o, l, path) => {
-            push_item(text, *item)?;
-            push(text, b"part ")?;
-            push_bits(text, *o, *l)?;
-            push(text, b" does not fit ")?;
-            push_field(text, path.as_slice())
-        }
+        Why::WordWidth(word, width, wanted) => push_other_width(text, *word, *width, *wanted),
+        Why::Outside(item, o, l) => push_outside(text, *item, *o, *l),
+        Why::Overlap(item, o, l, p, m) => push_overlap(text, *item, *o, *l, *p, *m),
+        Why::ConstWide(item, number, l) => push_constant(text, *item, *number, *l),
+        Why::Misfit(item, o, l, path) => push_misfit(text, *item, *o, *l, path.as_slice()),
         Why::BlockWord(width) => push_between(text, b"block word of ", *width, b" bits"),
         Why::BlockWords(count) => push_between(text, b"block of ", *count, b" words"),
         Why::Blocks(count) => push_between(text, b"", *count, b" blocks"),
@@ -308,37 +418,15 @@ pub(crate) fn push_evidence(
         Why::ShortPointer(bits) => push_between(text, b"pointer of ", *bits, b" bits"),
         Why::Common(later) => push_common(text, types, leaves, leaf, *later),
         Why::NoLeaf(pat) => push_missing(text, types, pat),
-        Why::NotHeld(path, number) => {
-            push_unit(text, types, leaves, leaf, path.as_slice(), *number)?;
-            push(text, b" not held")
-        }
-        Why::HeldTwice(path, number) => {
-            push_unit(text, types, leaves, leaf, path.as_slice(), *number)?;
-            push(text, b" held twice")
-        }
-        Why::NotOpen(path) => {
-            push_field(text, path.as_slice())?;
-            push(text, b" not open")
-        }
+        Why::NotHeld(path, number) => push_unheld(text, types, leaves, leaf, path, *number),
+        Why::HeldTwice(path, number) => push_twice_held(text, types, leaves, leaf, path, *number),
+        Why::NotOpen(path) => push_closed(text, path.as_slice()),
         Why::Unresolved(loc) => push_unresolved(text, loc),
-        Why::NotKnown(loc, literal) => push_literal_at(text, *literal, b" not known at ", loc),
-        Why::NotExcluded(loc, literal) => {
-            push_literal_at(text, *literal, b" not excluded at ", loc)
-        }
-        Why::LiteralWide(loc, literal) => {
-            push_split(text, loc)?;
-            push_literal(text, *literal)?;
-            push_between(text, b" over ", length_of(loc), b" bits")
-        }
-        Why::LiteralTwice(loc, literal) => {
-            push_split(text, loc)?;
-            push_literal(text, *literal)?;
-            push(text, b" twice")
-        }
-        Why::NoArm(loc) => {
-            push_split(text, loc)?;
-            push(text, b"no arm")
-        }
+        Why::NotKnown(loc, number) => push_literal_at(text, *number, b" not known at ", loc),
+        Why::NotExcluded(loc, number) => push_literal_at(text, *number, b" not excluded at ", loc),
+        Why::LiteralWide(loc, literal) => push_wide(text, loc, *literal),
+        Why::LiteralTwice(loc, literal) => push_twice(text, loc, *literal),
+        Why::NoArm(loc) => push_armless(text, loc),
         Why::HasPointer(ty) => push_pointer(text, types, *ty),
         Why::FlatCycle(tys) => push_flattening(text, types, tys.as_slice()),
         Why::HoldCycle(tys) => push_holding(text, types, tys.as_slice()),

@@ -7,7 +7,6 @@
 
 ghost use Rattle.std.specs.Prelude.{◌≡◌, ◌++◌, ◌<◌, OnOk};
 ghost use Rattle.std.specs.List.{flat_map};
-ghost use Rattle.rb_layout.specs.declared.layout.Kind as spec;
 ghost use Rattle.rb_show.specs.Lines.{kind_text, path_text, piece_line, piece_lines};
 ghost use Rattle.rb_show.specs.Pieces.{Held, Free, held_at, pieces_at};
 

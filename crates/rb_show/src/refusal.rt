@@ -4,8 +4,7 @@
 //! have the numbers 1 to 10, and stand in the text as A1 to A10. `types` are the types of the
 //! program. Every error is want of memory.
 
-ghost use Rattle.std.specs.Prelude.{◌≡◌, ◌++◌, ℕ, IfOk, OnOk, Option, slice_get};
-ghost use Rattle.std.specs.List.{list_any};
+ghost use Rattle.std.specs.Prelude.{◌≡◌, ◌++◌, IfOk, OnOk, Option, slice_get};
 ghost use Rattle.rb_layout.specs.Positions.{leaves_of_layout};
 ghost use Rattle.rb_show.specs.Refusals.{at_leaf, is_of_one_leaf, number_of_leaf, refusal_text};
 

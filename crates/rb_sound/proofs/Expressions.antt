@@ -5,7 +5,8 @@ use Rattle.std.proofs.lemmas.List.Elements.{All-nil, All-cons, All-append}
 use Rattle.std.proofs.Math.Nat.{pow-le-pow_right, mod-lt}
 use Rattle.std.proofs.lemmas.Bool.Decides.{nat_tests}
 use Rattle.std.specs.Prelude.{if◌then◌else◌, unwrap_or, is_some, IsSome, nat_lt}
-use Rattle.std.specs.List.{All, flat_map}
+use Rattle.std.specs.List.{All, flat_map, list_all}
+use Rattle.std.proofs.lemmas.Bool.{and_parts}
 use Rattle.rb_core.specs.declared.value.Value.{Value, Num, Con}
 use Rattle.rb_core.specs.declared.types.Ty.{Ty}
 use Rattle.rb_core.specs.declared.types.Ty.TheVariants.{Int, Named}
@@ -30,10 +31,10 @@ use Rattle.rb_core.specs.declared.expression.Expr.{Expr}
 use Rattle.rb_core.specs.declared.expression.Expr as X
 use Rattle.rb_core.specs.Values.{is_of_type, are_of, fields_of}
 use Rattle.rb_core.specs.Matching.{matches_of, bindings, chosen_clause, next_clause}
-use Rattle.rb_core.specs.Typing.{as_wanted, type_holds, number, integer, variable_type, distinct_binders, field_types, pattern_params, pattern_binders, each_argument, arguments, param_types, result_type, operand_wanted, operator_type, integer_operand, operands, clauses, clause_rule, rule_of, type_of}
+use Rattle.rb_core.specs.Typing.{as_wanted, type_holds, number_typing, integer, variable_type, distinct_binders, field_types, pattern_params, pattern_binders, each_argument, arguments, param_types, result_type, operand_wanted, operator_type, integer_operand, operands_typing, clauses_typing, clause_rule, rule_of, type_of}
 use Rattle.rb_core.specs.Inference.{width_of, with_binder, binders, operands_type, match_type, inferred_type, clause_inferred}
 use Rattle.rb_core.specs.Coverage.{SitedBranch, part_sites, branch_sites, sites, AreExhaustive}
-use Rattle.rb_core.specs.Meaning.{Meaning, Calls, op_value, value_outcome, spent, after, at_end, then_do, PartsOutcome, at_part, parts_after, all_of, at_parts_end, then_with, construction_outcome, first_of, meaning_of, clause_meaning, with_value}
+use Rattle.rb_core.specs.Meaning.{Meaning, Calls, op_value, value_outcome, spent_outcome, after, at_end, then_do, PartsOutcome, at_part, parts_after, all_of, at_parts_end, then_with, construction_outcome, first_of, meaning_of, clause_meaning, with_value}
 use Rattle.rb_core.proofs.ValueLaws.{is_of_type-Num, is_of_type-Con}
 use Rattle.rb_core.proofs.ExpressionLaws.{Each, EachBody, induction}
 use Rattle.rb_core.proofs.TypingLemmas.{type-Num, type-Var, type-Call, type-Build, type-Binary, type-To, type-Let, type-Match, type-Clause}
@@ -41,10 +42,8 @@ use Rattle.rb_core.proofs.InferenceForms.{inferred-Match}
 use Rattle.rb_core.proofs.InferenceAgreement.{wanted-is_found, inferred-is_found, clause_typed, found_is}
 use Rattle.rb_core.proofs.TypingAnswers.{ok-same, came, chosen, constructed, fits_found}
 use Rattle.rb_core.proofs.TypedForms.{operands_int}
-use Rattle.rb_core.proofs.NumberedForms.{both}
 use Rattle.rb_core.proofs.CoverageForms.{part, branch, sites-Clause, sites-Call, sites-Build, sites-Binary, sites-To, sites-Let, sites-Match}
 use Rattle.rb_core.proofs.MeaningForms.{clause_meaning-is, meaning-Num, meaning-Var, meaning-Call, meaning-Build, meaning-Binary, meaning-To, meaning-Let, meaning-Match}
-use Rattle.rb_sound.specs.Words.{all_true}
 use Rattle.rb_sound.specs.Soundness.{AreOfTypes, EndIsOfType, IsBuiltTyped, RunsAs}
 use Rattle.rb_sound.proofs.Forms.{and_true, exhaustive-append}
 use Rattle.rb_sound.proofs.Whole.{is_whole, clause_whole, clause_whole-is, whole-Num, whole-Call, whole-Build, whole-Binary, whole-To, whole-Let, whole-Match}
@@ -102,7 +101,7 @@ module _ (types : List DataDecl) where
   pub done_runs : (t : Ty) (v : Value) (left : ℕ) → IsOf types v t → RunsAs types t (value_outcome v left)
   done_runs t v left h = record { ends = h; builds = no_events }
 
-  pub spent_runs : (t : Ty) → RunsAs types t spent
+  pub spent_runs : (t : Ty) → RunsAs types t spent_outcome
   spent_runs t = record { ends = tt; builds = no_events }
 
   -- one event before a run, and several
@@ -156,7 +155,7 @@ module _ (types : List DataDecl) where
   snoc_types [] [] v t h k = ap (λ b. b && true) k
   snoc_types [] (u ∷ ts) v t h k = cc
   snoc_types (w ∷ vs) [] v t h k = cc
-  snoc_types (w ∷ vs) (u ∷ ts) v t h k = let hs = both (is_of_type types w u) _ h in and_true _ _ hs.0 (snoc_types vs ts v t hs.1 k)
+  snoc_types (w ∷ vs) (u ∷ ts) v t h k = let hs = and_parts (is_of_type types w u) _ h in and_true _ _ hs.0 (snoc_types vs ts v t hs.1 k)
 
 module _ (types : List DataDecl) (funs : List Fun) where
   -- a clause that is typed
@@ -201,14 +200,14 @@ module _ (p : Program) (calls : Calls) (sound : (g n : ℕ) (vs : List Value) �
       subst (λ u. RunsAs p.types u (ev e (Some w) scope left env)) (sym (wanted-is_found p.types p.funs e w scope t typed)) (h (Some w) scope left env t typed whole covered agree)
 
   parts_sound : (es : List Expr) → Each Sound es → (ts : List Ty) (scope : List Binder) (env : List Binding) (u : Unit {0}) → each_argument (map (rule_of p.types p.funs) es) ts scope ≡ Ok u → length (map (rule_of p.types p.funs) es) ≡ length ts
-      → all_true (map (is_whole p.types) es) ≡ true → AreExhaustive p.types (flat_map (part_sites scope) (map (part p.types p.funs) es)) → Agree p.types scope env
+      → list_all (λ b. b) (map (is_whole p.types) es) ≡ true → AreExhaustive p.types (flat_map (part_sites scope) (map (part p.types p.funs) es)) → Agree p.types scope env
       → (us : List Ty) (vs : List Value) (left : ℕ) → AreOfTypes p.types vs us → PartsRunAs p.types (us ++ ts) (all_of (map ev es) ts scope vs left env)
   parts_sound [] each [] scope env u typed len whole covered agree us vs left h = parts_done p.types (us ++ []) vs left (subst (λ l. AreOfTypes p.types vs l) (sym (append-nil us)) h)
   parts_sound [] each (t ∷ ts) scope env u typed len whole covered agree us vs left h = absurd (omega arith)
   parts_sound (e ∷ es) each [] scope env u typed len whole covered agree us vs left h = absurd (omega arith)
   parts_sound (e ∷ es) each (t ∷ ts) scope env u typed len whole covered agree us vs left h =
       let first = came (type_of p.types p.funs e (Some t) scope) (λ found. each_argument (map (rule_of p.types p.funs) es) ts scope) u typed in
-      let ws = both (is_whole p.types e) _ whole in
+      let ws = and_parts (is_whole p.types e) _ whole in
       let cs = exhaustive-append p.types (sites p.types p.funs e scope) _ covered in
       part_from p.types t (us ++ t ∷ ts) (ev e (Some t) scope left env) _ (wanted_sound e each.0 t scope left env first.from first.first_is ws.0 cs.0 agree)
       (λ v rest k. subst (λ l. PartsRunAs p.types l (all_of (map ev es) ts scope (vs ++ v ∷ []) rest env)) (append_assoc us (t ∷ []) ts)
@@ -227,21 +226,21 @@ module _ (p : Program) (calls : Calls) (sound : (g n : ℕ) (vs : List Value) �
       h wanted _ left _ t typed.body (sym (clause_whole-is p.types c) ∙ whole) (subst (AreExhaustive p.types) (sites-Clause p.types p.funs c (scope ++ binders p.types c.pat s)) covered)
       (agree-append p.types scope _ env _ agree (bound_agrees p.types c.pat s typed.params v typed.pattern hit is))
 
-  rest_sound : (cs : List Clause) → EachBody Sound cs → (s : Ty) (scope : List Binder) (v : Value) (left : ℕ) (env : List Binding) (t : Ty) → clauses (map (clause_rule p.types p.funs) cs) s (Some t) scope ≡ Ok t
-      → all_true (map (clause_whole p.types) cs) ≡ true → AreExhaustive p.types (flat_map (branch_sites p.types s scope) (map (branch p.types p.funs) cs)) → Agree p.types scope env → IsOf p.types v s
+  rest_sound : (cs : List Clause) → EachBody Sound cs → (s : Ty) (scope : List Binder) (v : Value) (left : ℕ) (env : List Binding) (t : Ty) → clauses_typing (map (clause_rule p.types p.funs) cs) s (Some t) scope ≡ Ok t
+      → list_all (λ b. b) (map (clause_whole p.types) cs) ≡ true → AreExhaustive p.types (flat_map (branch_sites p.types s scope) (map (branch p.types p.funs) cs)) → Agree p.types scope env → IsOf p.types v s
       → IsSome (chosen_clause (map (λ (c : Clause). c.pat) cs) v) → RunsAs p.types t (first_of p.types s (map (clause_meaning p calls f) cs) (Some t) (Some t) scope v left env)
   rest_sound [] each s scope v left env t typed whole covered agree is some = cc
   rest_sound (c ∷ cs) each s scope v left env t typed whole covered agree is some =
-      let first = came (clause_rule p.types p.funs c s (Some t) scope) (λ found. clauses (map (clause_rule p.types p.funs) cs) s (Some found) scope) t typed in
+      let first = came (clause_rule p.types p.funs c s (Some t) scope) (λ found. clauses_typing (map (clause_rule p.types p.funs) cs) s (Some found) scope) t typed in
       let here = typed_clause p.types p.funs c s (Some t) scope first.from first.first_is in
       let is_t : t ≡ first.from = wanted-is_found p.types p.funs c.body t _ first.from here.body in
-      let ws = both (clause_whole p.types c) _ whole in
+      let ws = and_parts (clause_whole p.types c) _ whole in
       let covers = exhaustive-append p.types (branch_sites p.types s scope (branch p.types p.funs c)) _ covered in
       subst (λ (o : Outcome). RunsAs p.types t o) (sym (opened s c cs (Some t) (Some t) scope v left env))
       (by_test (matches_of c.pat v) refl some
       (λ hit. subst (λ u. RunsAs p.types u (ev c.body (Some t) (scope ++ binders p.types c.pat s) left (env ++ bindings c.pat v))) (sym is_t)
       (body_sound c each.0 s (Some t) scope v left env first.from here ws.0 covers.0 agree is hit))
-      (λ more. rest_sound cs each.1 s scope v left env t (subst (λ u. clauses (map (clause_rule p.types p.funs) cs) s (Some u) scope ≡ Ok t) (sym is_t) first.then_is) ws.1 covers.1 agree is more))
+      (λ more. rest_sound cs each.1 s scope v left env t (subst (λ u. clauses_typing (map (clause_rule p.types p.funs) cs) s (Some u) scope ≡ Ok t) (sym is_t) first.then_is) ws.1 covers.1 agree is more))
     where
       by_test : (b : Bool) → matches_of c.pat v ≡ b → IsSome (if b then Some 0 else next_clause (chosen_clause (map (λ (d : Clause). d.pat) cs) v))
           → (matches_of c.pat v ≡ true → RunsAs p.types t (ev c.body (Some t) (scope ++ binders p.types c.pat s) left (env ++ bindings c.pat v)))
@@ -250,21 +249,21 @@ module _ (p : Program) (calls : Calls) (sound : (g n : ℕ) (vs : List Value) �
       by_test true e h k l = k e
       by_test false e h k l = l (some_behind (chosen_clause (map (λ (d : Clause). d.pat) cs) v) h)
 
-  clauses_sound : (cs : List Clause) → EachBody Sound cs → (s : Ty) (wanted : Option Ty) (scope : List Binder) (v : Value) (left : ℕ) (env : List Binding) (t : Ty) → clauses (map (clause_rule p.types p.funs) cs) s wanted scope ≡ Ok t
-      → all_true (map (clause_whole p.types) cs) ≡ true → AreExhaustive p.types (flat_map (branch_sites p.types s scope) (map (branch p.types p.funs) cs)) → Agree p.types scope env → IsOf p.types v s
+  clauses_sound : (cs : List Clause) → EachBody Sound cs → (s : Ty) (wanted : Option Ty) (scope : List Binder) (v : Value) (left : ℕ) (env : List Binding) (t : Ty) → clauses_typing (map (clause_rule p.types p.funs) cs) s wanted scope ≡ Ok t
+      → list_all (λ b. b) (map (clause_whole p.types) cs) ≡ true → AreExhaustive p.types (flat_map (branch_sites p.types s scope) (map (branch p.types p.funs) cs)) → Agree p.types scope env → IsOf p.types v s
       → IsSome (chosen_clause (map (λ (c : Clause). c.pat) cs) v) → RunsAs p.types t (first_of p.types s (map (clause_meaning p calls f) cs) wanted (Some t) scope v left env)
   clauses_sound [] each s wanted scope v left env t typed whole covered agree is some = cc
   clauses_sound (c ∷ cs) each s wanted scope v left env t typed whole covered agree is some =
-      let first = came (clause_rule p.types p.funs c s wanted scope) (λ found. clauses (map (clause_rule p.types p.funs) cs) s (Some found) scope) t typed in
+      let first = came (clause_rule p.types p.funs c s wanted scope) (λ found. clauses_typing (map (clause_rule p.types p.funs) cs) s (Some found) scope) t typed in
       let here = typed_clause p.types p.funs c s wanted scope first.from first.first_is in
       let is_t : first.from ≡ t = found_is p.types p.funs cs s first.from scope t first.then_is in
-      let ws = both (clause_whole p.types c) _ whole in
+      let ws = and_parts (clause_whole p.types c) _ whole in
       let covers = exhaustive-append p.types (branch_sites p.types s scope (branch p.types p.funs c)) _ covered in
       subst (λ (o : Outcome). RunsAs p.types t o) (sym (opened s c cs wanted (Some t) scope v left env))
       (by_test (matches_of c.pat v) refl some
       (λ hit. subst (λ u. RunsAs p.types u (ev c.body wanted (scope ++ binders p.types c.pat s) left (env ++ bindings c.pat v))) is_t
       (body_sound c each.0 s wanted scope v left env first.from here ws.0 covers.0 agree is hit))
-      (λ more. rest_sound cs each.1 s scope v left env t (subst (λ u. clauses (map (clause_rule p.types p.funs) cs) s (Some u) scope ≡ Ok t) is_t first.then_is) ws.1 covers.1 agree is more))
+      (λ more. rest_sound cs each.1 s scope v left env t (subst (λ u. clauses_typing (map (clause_rule p.types p.funs) cs) s (Some u) scope ≡ Ok t) is_t first.then_is) ws.1 covers.1 agree is more))
     where
       by_test : (b : Bool) → matches_of c.pat v ≡ b → IsSome (if b then Some 0 else next_clause (chosen_clause (map (λ (d : Clause). d.pat) cs) v))
           → (matches_of c.pat v ≡ true → RunsAs p.types t (ev c.body wanted (scope ++ binders p.types c.pat s) left (env ++ bindings c.pat v)))
@@ -277,7 +276,7 @@ module _ (p : Program) (calls : Calls) (sound : (g n : ℕ) (vs : List Value) �
   num_sound at n wanted scope left env t typed whole covered agree =
       subst (λ (o : Outcome). RunsAs p.types t o) (sym (meaning-Num p calls f wanted scope left env at n)) (done_runs p.types t (Num n) left (of_wanted wanted (sym (type-Num p.types p.funs at n wanted scope) ∙ typed)))
     where
-      of_wanted : (o : Option Ty) → number at n o ≡ Ok t → IsOf p.types (Num n) t
+      of_wanted : (o : Option Ty) → number_typing at n o ≡ Ok t → IsOf p.types (Num n) t
       of_wanted None e = subst (λ u. IsOf p.types (Num n) u) (ok-same e) (is_of_type-Num p.types n (Int 64) ∙ sym (whole-Num p.types at n) ∙ whole)
       of_wanted (Some w) e = let h = chosen (type_holds w n) w t _ e in subst (λ u. IsOf p.types (Num n) u) h.1 (number_is p.types n w h.0)
 
@@ -295,7 +294,7 @@ module _ (p : Program) (calls : Calls) (sound : (g n : ℕ) (vs : List Value) �
   build_sound at c es each wanted scope left env t typed whole covered agree =
       let h = came {A = Unit {0}} (arguments at (map (rule_of p.types p.funs) es) (field_types p.types c) scope) (λ _. as_wanted at wanted (Named c.ty)) t (sym (type-Build p.types p.funs at c es wanted scope) ∙ typed) in
       let args = constructed (length (map (rule_of p.types p.funs) es) == length (field_types p.types c)) _ _ h.from h.first_is in
-      let ws = both (is_some (fields_of p.types c)) _ (sym (whole-Build p.types at c es) ∙ whole) in
+      let ws = and_parts (is_some (fields_of p.types c)) _ (sym (whole-Build p.types at c es) ∙ whole) in
       same t (Named c.ty) _ _ (meaning-Build p calls f wanted scope left env at c es) (fits_found at wanted (Named c.ty) t h.then_is)
       (runs_with p.types (field_types p.types c) (Named c.ty) _ _
       (parts_sound es each (field_types p.types c) scope env h.from args.1 (eqb-true _ _ args.0) ws.1
@@ -304,9 +303,9 @@ module _ (p : Program) (calls : Calls) (sound : (g n : ℕ) (vs : List Value) �
 
   binary_sound : (at : ℕ) (op : Op) (a b : Expr) → Sound a → Sound b → Sound (X.Binary at op a b)
   binary_sound at op a b ha hb wanted scope left env t typed whole covered agree =
-      let h = came (operands op (rule_of p.types p.funs a) (rule_of p.types p.funs b) wanted scope) (λ u. as_wanted at wanted (operator_type op u)) t (sym (type-Binary p.types p.funs at op a b wanted scope) ∙ typed) in
+      let h = came (operands_typing op (rule_of p.types p.funs a) (rule_of p.types p.funs b) wanted scope) (λ u. as_wanted at wanted (operator_type op u)) t (sym (type-Binary p.types p.funs at op a b wanted scope) ∙ typed) in
       let parts = operands_int p.types p.funs op a b wanted scope h.from h.first_is in
-      let ws = both (is_whole p.types a) _ (sym (whole-Binary p.types at op a b) ∙ whole) in
+      let ws = and_parts (is_whole p.types a) _ (sym (whole-Binary p.types at op a b) ∙ whole) in
       let cs = exhaustive-append p.types (sites p.types p.funs a scope) _ (subst (AreExhaustive p.types) (sites-Binary p.types p.funs at op a b scope) covered) in
       let int : operands_type op wanted (inferred_type p.types p.funs a None scope) ≡ Int parts.0 = parts.2 ∙ parts.1 in
       same t (operator_type op h.from) _ _ (meaning-Binary p calls f wanted scope left env at op a b) (fits_found at wanted (operator_type op h.from) t h.then_is)
@@ -328,7 +327,7 @@ module _ (p : Program) (calls : Calls) (sound : (g n : ℕ) (vs : List Value) �
   let_sound : (at x : ℕ) (u : Ty) (a b : Expr) → Sound a → Sound b → Sound (X.Let at x u a b)
   let_sound at x u a b ha hb wanted scope left env t typed whole covered agree =
       let h = came (type_of p.types p.funs a (Some u) scope) (λ _. type_of p.types p.funs b wanted (with_binder scope x u)) t (sym (type-Let p.types p.funs at x u a b wanted scope) ∙ typed) in
-      let ws = both (is_whole p.types a) _ (sym (whole-Let p.types at x u a b) ∙ whole) in
+      let ws = and_parts (is_whole p.types a) _ (sym (whole-Let p.types at x u a b) ∙ whole) in
       let cs = exhaustive-append p.types (sites p.types p.funs a scope) _ (subst (AreExhaustive p.types) (sites-Let p.types p.funs at x u a b scope) covered) in
       same t t _ _ (meaning-Let p calls f wanted scope left env at x u a b) refl
       (runs_do p.types u t _ _ (wanted_sound a ha u scope left env h.from h.first_is ws.0 cs.0 agree)
@@ -336,11 +335,11 @@ module _ (p : Program) (calls : Calls) (sound : (g n : ℕ) (vs : List Value) �
 
   match_sound : (at : ℕ) (e : Expr) (cs : List Clause) → Sound e → EachBody Sound cs → Sound (X.Match at e cs)
   match_sound at e cs he hcs wanted scope left env t typed whole covered agree =
-      let h = came (type_of p.types p.funs e None scope) (λ s. clauses (map (clause_rule p.types p.funs) cs) s wanted scope) t (sym (type-Match p.types p.funs at e cs wanted scope) ∙ typed) in
+      let h = came (type_of p.types p.funs e None scope) (λ s. clauses_typing (map (clause_rule p.types p.funs) cs) s wanted scope) t (sym (type-Match p.types p.funs at e cs wanted scope) ∙ typed) in
       let is_s : inferred_type p.types p.funs e None scope ≡ h.from = inferred-is_found p.types p.funs e None scope h.from h.first_is in
       let is_t : match_type p.types wanted (map (clause_inferred p.types p.funs) cs) (inferred_type p.types p.funs e None scope) scope ≡ t
       = sym (inferred-Match p.types p.funs wanted scope at e cs) ∙ inferred-is_found p.types p.funs (X.Match at e cs) wanted scope t typed in
-      let ws = both (is_whole p.types e) _ (sym (whole-Match p.types at e cs) ∙ whole) in
+      let ws = and_parts (is_whole p.types e) _ (sym (whole-Match p.types at e cs) ∙ whole) in
       let all = subst (AreExhaustive p.types) (sites-Match p.types p.funs at e cs scope) covered in
       let covers = exhaustive-append p.types (sites p.types p.funs e scope) _ all.1 in
       same t t _ _ (meaning-Match p calls f wanted scope left env at e cs) refl

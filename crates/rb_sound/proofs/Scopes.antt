@@ -1,6 +1,7 @@
 -- Scopes and environments that agree: the same variables, each value of its type.
 use Rattle.std.proofs.Common.{◌≡◌, ℕ, List, [], ◌∷◌, ◌++◌, map, length, Bool, true, false, ◌==◌, Option, Some, None, Ok, refl, sym, ap, ◌∙◌, subst, eqb-true}
 use Rattle.std.specs.Prelude.{if◌then◌else◌, unwrap_or}
+use Rattle.std.proofs.lemmas.Bool.{and_parts}
 use Rattle.rb_core.specs.declared.value.Value.{Value, Num, out-Value}
 use Rattle.rb_core.specs.declared.value.Value.TheVariants.{outs-Num, outs-Con}
 use Rattle.rb_core.specs.declared.types.Ty.{Ty}
@@ -13,8 +14,8 @@ use Rattle.rb_core.specs.declared.program.Param.{Param}
 use Rattle.rb_core.specs.declared.pattern.Pat.{Pat}
 use Rattle.rb_core.specs.declared.pattern.Pat as Q
 use Rattle.rb_core.specs.Values.{is_of_type, are_of, fields_of}
-use Rattle.rb_core.specs.Matching.{all_pass, is_con, matches_of, bindings, all_bound, bound_within}
-use Rattle.rb_core.specs.Typing.{same_type, bound_type, variable_type, binder_of, field_types, also_bound, subpatterns, fields_match, pattern_params}
+use Rattle.rb_core.specs.Matching.{all_pass, is_con, matches_of, bindings, all_bindings, layer_bindings}
+use Rattle.rb_core.specs.Typing.{same_type, bound_type, variable_type, binder_of, field_types, also_bound, subpatterns, field_params, pattern_params}
 use Rattle.rb_core.specs.Inference.{binders, all_binders}
 use Rattle.rb_core.specs.Meaning.{value_or, value_in, argument_bindings}
 use Rattle.rb_core.proofs.ValueLaws as VL
@@ -23,7 +24,6 @@ use Rattle.rb_core.proofs.MatchingForms.{matches-Con, bindings-Wild, bindings-Va
 use Rattle.rb_core.proofs.TypingLemmas.{pattern-Con}
 use Rattle.rb_core.proofs.InferenceAgreement.{binders-Wild, binders-Var, binders-Num, binders-Con}
 use Rattle.rb_core.proofs.TypingAnswers.{came, constructed, same_type-is}
-use Rattle.rb_core.proofs.NumberedForms.{both}
 use Rattle.rb_sound.specs.Soundness.{AreOfTypes, AreInScope}
 
 module _ (types : List DataDecl) where
@@ -61,22 +61,22 @@ module _ (types : List DataDecl) where
   arguments_agree [] [] h = tt
   arguments_agree [] (v ∷ vs) h = cc
   arguments_agree (p ∷ ps) [] h = cc
-  arguments_agree (p ∷ ps) (v ∷ vs) h = let k = both (is_of_type types v p.ty) _ h in (refl, k.0, arguments_agree ps vs k.1)
+  arguments_agree (p ∷ ps) (v ∷ vs) h = let k = and_parts (is_of_type types v p.ty) _ h in (refl, k.0, arguments_agree ps vs k.1)
 
   -- a pattern that matches a value of its type binds its variables to values of their types
   abbrev Bound : Pat → Type 0
   Bound p = (t : Ty) (ps : List Param) (v : Value) → pattern_params types p t ≡ Ok ps → matches_of p v ≡ true → IsOf v t → Agree (binders types p t) (bindings p v)
 
   all_agree : (ps : List Pat) → PL.Each Bound ps → (ts : List Ty) (qs : List Param) (vs : List Value) → subpatterns (map (pattern_params types) ps) ts ≡ Ok qs
-      → all_pass (map matches_of ps) vs ≡ true → AreOfTypes types vs ts → Agree (all_binders (map (binders types) ps) ts) (all_bound (map bindings ps) vs)
+      → all_pass (map matches_of ps) vs ≡ true → AreOfTypes types vs ts → Agree (all_binders (map (binders types) ps) ts) (all_bindings (map bindings ps) vs)
   all_agree [] each ts qs vs e m h = tt
   all_agree (p ∷ ps) each ts qs [] e m h = cc
   all_agree (p ∷ ps) each [] qs (v ∷ vs) e m h = cc
   all_agree (p ∷ ps) each (t ∷ ts) qs (v ∷ vs) e m h =
       let first = came (pattern_params types p t) (λ bound. also_bound bound (subpatterns (map (pattern_params types) ps) ts)) qs e in
       let rest = came (subpatterns (map (pattern_params types) ps) ts) (λ more. Ok (first.from ++ more)) qs first.then_is in
-      let ms = both (matches_of p v) _ m in
-      let hs = both (is_of_type types v t) _ h in
+      let ms = and_parts (matches_of p v) _ m in
+      let hs = and_parts (is_of_type types v t) _ h in
       agree-append (binders types p t) _ (bindings p v) _ (each.0 t first.from v first.first_is ms.0 hs.0) (all_agree ps each.1 ts rest.from vs rest.first_is ms.1 hs.1)
 
   of_fields : (vs : List Value) (o : Option (List Ty)) → are_of (map (is_of_type types) vs) o ≡ true → AreOfTypes types vs (unwrap_or o [])
@@ -84,18 +84,18 @@ module _ (types : List DataDecl) where
   of_fields vs (Some ts) h = h
 
   con_agrees : (at : ℕ) (c : ConRef) (ps : List Pat) → PL.Each Bound ps → (qs : List Param) (v : Value)
-      → fields_match at (map (pattern_params types) ps) (field_types types c) ≡ Ok qs → is_con c.con (map matches_of ps) (out-Value v) ≡ true → IsOf v (Named c.ty)
-      → Agree (all_binders (map (binders types) ps) (field_types types c)) (bound_within (map bindings ps) (out-Value v))
+      → field_params at (map (pattern_params types) ps) (field_types types c) ≡ Ok qs → is_con c.con (map matches_of ps) (out-Value v) ≡ true → IsOf v (Named c.ty)
+      → Agree (all_binders (map (binders types) ps) (field_types types c)) (layer_bindings (map bindings ps) (out-Value v))
   con_agrees at c ps each qs v e m h = VL.induction (λ w. is_con c.con (map matches_of ps) (out-Value w) ≡ true → IsOf w (Named c.ty)
-      → Agree (all_binders (map (binders types) ps) (field_types types c)) (bound_within (map bindings ps) (out-Value w)))
+      → Agree (all_binders (map (binders types) ps) (field_types types c)) (layer_bindings (map bindings ps) (out-Value w)))
       (λ n m' h'. let no = sym (ap (is_con c.con (map matches_of ps)) (outs-Num n)) ∙ m' in cc)
       (λ k vs each' m' h'.
       let opened = sym (ap (is_con c.con (map matches_of ps)) (outs-Con k vs)) ∙ m' in
-      let parts = both (c.con == k) (all_pass (map matches_of ps) vs) opened in
+      let parts = and_parts (c.con == k) (all_pass (map matches_of ps) vs) opened in
       let same = eqb-true c.con k parts.0 in
       let fields = sym (VL.is_of_type-Con types k vs (Named c.ty)) ∙ h' in
       let typed = subst (λ j. are_of (map (is_of_type types) vs) (fields_of types (record { ty = c.ty; con = j })) ≡ true) (sym same) fields in
-      subst (λ l. Agree (all_binders (map (binders types) ps) (field_types types c)) (bound_within (map bindings ps) l)) (sym (outs-Con k vs))
+      subst (λ l. Agree (all_binders (map (binders types) ps) (field_types types c)) (layer_bindings (map bindings ps) l)) (sym (outs-Con k vs))
       (all_agree ps each (field_types types c) qs vs
       (constructed (length (map (pattern_params types) ps) == length (field_types types c)) _ _ qs e).1 parts.1 (of_fields vs (fields_of types c) typed)))
       v m h

@@ -1,5 +1,6 @@
 -- Expressions and programs whose numbers have at most 64 bits, as any `u64` has.
-use Rattle.std.specs.Prelude.{◌≡◌, ◌^◌, List, [], ◌∷◌, map, Bool, true, ◌&&◌, nat_lt}
+use Rattle.std.specs.Prelude.{◌≡◌, ◌^◌, map, Bool, true, ◌&&◌, nat_lt}
+use Rattle.std.specs.List.{list_all}
 use Rattle.rb_core.specs.declared.program.Fun.{Fun}
 use Rattle.rb_core.specs.declared.program.Program.{Program}
 use Rattle.rb_core.specs.declared.expression.Expr.{Expr}
@@ -8,21 +9,16 @@ use Rattle.rb_core.specs.declared.expression.Expr.TheOpen.{Expr-F}
 use Rattle.rb_core.specs.declared.expression.Expr.TheFolds.{fold-Expr}
 use Rattle.rb_core.specs.declared.expression.Clause.{Clause-F}
 
--- each of these truth values is true; it holds where there are none, too
-abbrev pub all_true : List Bool → Bool
-all_true [] = true
-all_true (b ∷ bs) = b && all_true bs
-
 -- one level of `has_words`: a number has at most 64 bits, and any other expression asks that of its parts
 abbrev pub words_step : Expr-F Bool Bool → Bool
 words_step (E.Num at n) = nat_lt n (2 ^ 64)
 words_step (E.Var at x) = true
-words_step (E.Call at g es) = all_true es
-words_step (E.Build at c es) = all_true es
+words_step (E.Call at g es) = list_all (λ b. b) es
+words_step (E.Build at c es) = list_all (λ b. b) es
 words_step (E.Binary at op a b) = a && b
 words_step (E.To at bits a) = a
 words_step (E.Let at x t a b) = a && b
-words_step (E.Match at e cs) = e && all_true cs
+words_step (E.Match at e cs) = e && list_all (λ b. b) cs
 
 -- one level of a clause, in a match: its body is asked, and its pattern is not
 abbrev pub words_clause : Clause-F Bool Bool → Bool
@@ -38,4 +34,4 @@ body_has_words f = has_words f.body
 
 -- each number in the functions of a program, patterns apart, has at most 64 bits
 abbrev pub HasWords : Program → Type 0
-HasWords p = all_true (map body_has_words p.funs) ≡ true
+HasWords p = list_all (λ b. b) (map body_has_words p.funs) ≡ true

@@ -1,7 +1,8 @@
 //! The numbers of a program that is held in memory, each of which is a `u64`.
 
 ghost use Rattle.std.specs.Prelude.{◌≡◌, ◌^◌, map, true, nat_lt};
-ghost use Rattle.rb_sound.specs.Words.{all_true, has_words, body_has_words, HasWords};
+ghost use Rattle.std.specs.List.{list_all};
+ghost use Rattle.rb_sound.specs.Words.{has_words, body_has_words, HasWords};
 ghost use Rattle.rb_sound.specs.inner.Words.{clause_has_words};
 
 use rb_core::expression::{Clause, Expr};
@@ -41,7 +42,7 @@ fn see_expression(expr: &Expr)
 // Looks at the numbers of several expressions, one after the other.
 #[cycle(seeing)]
 fn see_expressions(exprs: &[Expr])
-    ensures { all_true (map has_words exprs.now) ≡ true }
+    ensures { list_all (λ b. b) (map has_words exprs.now) ≡ true }
 {
     for expr in exprs {
         see_expression(expr);
@@ -51,7 +52,7 @@ fn see_expressions(exprs: &[Expr])
 // Looks at the numbers of clauses' bodies.
 #[cycle(seeing)]
 fn see_clauses(clauses: &[Clause])
-    ensures { all_true (map clause_has_words clauses.now) ≡ true }
+    ensures { list_all (λ b. b) (map clause_has_words clauses.now) ≡ true }
 {
     for clause in clauses {
         see_expression(&clause.body);
@@ -60,7 +61,7 @@ fn see_clauses(clauses: &[Clause])
 
 // Looks at the numbers of functions' bodies.
 fn see_functions(funs: &[Fun])
-    ensures { all_true (map body_has_words funs.now) ≡ true }
+    ensures { list_all (λ b. b) (map body_has_words funs.now) ≡ true }
 {
     for fun in funs {
         see_expression(&fun.body);

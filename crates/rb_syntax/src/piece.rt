@@ -1,7 +1,6 @@
 //! The piece at the front of some bytes.
 
-ghost use Rattle.std.specs.Prelude.{◌≡◌, ◌∷◌, ◌<◌, ◌^◌, length, take_while, IfOk};
-ghost use Rattle.rb_syntax.specs.Bytes as kind;
+ghost use Rattle.std.specs.Prelude.{◌≡◌, ◌<◌, length, IfOk};
 ghost use Rattle.rb_syntax.specs.Words as text;
 ghost use Rattle.rb_syntax.specs.Pieces as piece;
 ghost use Rattle.rb_syntax.specs.Lexing.{IsWithin};

@@ -3,8 +3,8 @@ use Rattle.std.proofs.Common.{◌≡◌, ℕ, zero, suc, ◌+◌, List, length, 
 use Rattle.std.specs.Prelude.{slice_get}
 use Rattle.rb_bytes.specs.declared.fault.Full.{Full}
 use Rattle.rb_bytes.specs.declared.fault.Trap.{Trap}
-use Rattle.rb_target.specs.Calls.{AreCalls}
-use Rattle.rb_target.specs.Meaning.{World, CallEnd, over, Next, Callee, act, act_at, steps, from, enter, body_of, first_slots, after_load, after_store, after_place, after_switch, after_call, after_one_call, taken, switched, with_left, slots_at, put_slots}
+use Rattle.rb_target.specs.Calls.{CallLaws}
+use Rattle.rb_target.specs.Meaning.{World, CallEnd, over, Next, Callee, act, act_at, steps, from, enter, body_of, first_slots, after_load, after_store, after_place, after_switch, after_call, after_one_call, taken, with_switch, with_left, slots_at, put_slots}
 use Rattle.rb_target.specs.declared.outcome.End.{End}
 use Rattle.rb_target.specs.declared.outcome.End.TheVariants.{Returned, Spent, Full as Filled, Trapped}
 use Rattle.rb_target.specs.declared.code.CodeFun.{CodeFun}
@@ -48,7 +48,7 @@ module _ (callee : Callee) where
   act_tells (Store a offset width v) g pc slots w h = store_tells _ _ _ (h _ _ _)
   act_tells (Place d size align) g pc slots w h = place_tells _ _ _ (λ x. h _ _ _)
   act_tells (Jump t) g pc slots w h = h _ _ w
-  act_tells (Switch a other arms) g pc slots w h = switch_tells _ _ (switched w) _ (λ t. h _ _ _)
+  act_tells (Switch a other arms) g pc slots w h = switch_tells _ _ (with_switch w) _ (λ t. h _ _ _)
   act_tells (Call f ds froms) g pc slots w h =
       let back = callee f (slots_at slots froms) w in
       call_tells back.ended back.world (λ x. g (pc + 1) (put_slots slots ds x) back.world) (λ x. h _ _ back.world)
@@ -83,7 +83,7 @@ unfolding enter
 enter_one funs depth f n words w e =
     ap (λ k. after_one_call k w (λ v. from (body_of funs f) (enter funs depth) 0 (first_slots funs f words) v)) e
 
-pub calls_are : (funs : List CodeFun) → AreCalls funs
+pub calls_are : (funs : List CodeFun) → CallLaws funs
 calls_are funs = record {
   none = enter_none funs;
   one = enter_one funs;

@@ -3,7 +3,7 @@ use Rattle.std.proofs.Common.{◌≡◌, ◌≢◌, ℕ, ◌<◌, ◌≤◌, Boo
 use Rattle.std.specs.Prelude.{slice_get}
 use Rattle.rb_target.specs.declared.instr.Instr.{Instr}
 use Rattle.rb_target.specs.declared.body.Hole.{Hole}
-use Rattle.rb_target.specs.Sheet.{Sheet, patched}
+use Rattle.rb_target.specs.Sheet.{Sheet, with_target_at}
 use Rattle.rb_target.specs.Growth.{AgreesBut, Nowhere, Grows}
 use Rattle.rb_target.specs.Targets.{without_targets_in, target_in, IsHoleAmong, IsOpenTarget, AgreesAt, Finishes}
 use Rattle.rb_target.proofs.Shapes.{IsPatched}
@@ -28,7 +28,7 @@ finishes_part final code more hs a b a1 b1 g lo1 hi1 within f = λ q lo hi.
     agrees-sub final code more hs hs q (g.same q (omega (arith, hi, within))) (λ arm o. o) (f q (omega (arith, lo, lo1)) (omega (arith, hi, hi1)))
 
 -- A target that is set: the code before it has one hole more, and that hole's target is known.
-module _ (final : List Instr) (b : Sheet) (h : Hole) (t : ℕ) (p : IsPatched b h t (patched b h t)) (hs hs' : List Hole) (sub : (x : Hole) → IsHoleAmong x hs' → IsHoleAmong x hs) (hole : IsHoleAmong h hs) (lo hi : ℕ) (f : Finishes final (patched b h t).code hs' lo hi) where
+module _ (final : List Instr) (b : Sheet) (h : Hole) (t : ℕ) (p : IsPatched b h t (with_target_at b h t)) (hs hs' : List Hole) (sub : (x : Hole) → IsHoleAmong x hs' → IsHoleAmong x hs) (hole : IsHoleAmong h hs) (lo hi : ℕ) (f : Finishes final (with_target_at b h t).code hs' lo hi) where
   fewer : (q : ℕ) (arm : Option ℕ) → IsOpenTarget hs' q arm → IsOpenTarget hs q arm
   fewer q arm o = (o.0, sub o.0 o.1, o.2, o.3)
 
@@ -36,7 +36,7 @@ module _ (final : List Instr) (b : Sheet) (h : Hole) (t : ℕ) (p : IsPatched b 
   at_patched q le lt true e =
       let same : h.pc ≡ q = grind arith in
       let a = f q le lt in
-      let a1 = subst (λ n. AgreesAt final (patched b h t).code hs' n) (sym same) a in
+      let a1 = subst (λ n. AgreesAt final (with_target_at b h t).code hs' n) (sym same) a in
       subst (λ n. AgreesAt final b.code hs n) same (record {
         same = λ no. absurd (no h.arm (h, hole, refl, refl));
         shapes = a1.shapes ∙ p.shapes;

@@ -10,7 +10,7 @@ use Rattle.rb_target.specs.Text.{line_word_text, key_text, key_of, spaced_text, 
 use Rattle.rb_target.specs.Validity.{IsLower}
 use Rattle.rb_target.proofs.SpelledForms.{IsFit, AreFit, IsFitFun}
 use Rattle.rb_target.specs.inner.Fields.{number_of_word, is_open, word_in, key_of_word, next_field, may_end, first_line, after_word, instruction_of}
-use Rattle.rb_target.specs.inner.Reading.{named, line_next, closing, started, worded, headed, step}
+use Rattle.rb_target.specs.inner.Reading.{named, line_next, end_move, start_move, word_move, count_move, step}
 use Rattle.rb_target.specs.declared.instr.Instr.{Instr}
 use Rattle.rb_target.specs.declared.word.LineWord.{LineWord}
 use Rattle.rb_target.specs.declared.word.LineWord.TheVariants.{Number}
@@ -128,11 +128,11 @@ zero_small = omega arith
 
 -- Words and the bytes behind them ------------------------------------------------------------------
 
-starting_leaves : (f : CodeFun) (w : List ℕ) (g : ℕ) (o : Option Key) → key_of_word w ≡ o → IsFitFun f → Leaves (opened f ++ (w ++ g ∷ [])) (started f g o)
+starting_leaves : (f : CodeFun) (w : List ℕ) (g : ℕ) (o : Option Key) → key_of_word w ≡ o → IsFitFun f → Leaves (opened f ++ (w ++ g ∷ [])) (start_move f g o)
 starting_leaves f w g None e h = tt
 starting_leaves f w g (Some k) e h = line_leaves_by (opened f) w f (first_line k) g h (first_good k) (ap (λ t. opened f ++ t) (append-nil (key_text k) ∙ key_told w k e))
 
-closing_leaves : (f : CodeFun) (w : List ℕ) (g : ℕ) → w ≡ codes "end" → IsFitFun f → Leaves (opened f ++ (w ++ g ∷ [])) (closing f g)
+closing_leaves : (f : CodeFun) (w : List ℕ) (g : ℕ) → w ≡ codes "end" → IsFitFun f → Leaves (opened f ++ (w ++ g ∷ [])) (end_move f g)
 closing_leaves f w g is h =
     if_leaves (opened f ++ (w ++ g ∷ [])) (g == 10) (Closed f) Refused (λ e. (
       ap (λ b. opened f ++ (codes "end" ++ b ∷ [])) (sym (eqb-true g 10 e)) ∙ ap (λ v. opened f ++ (v ++ g ∷ [])) (sym is),
@@ -141,7 +141,7 @@ closing_leaves f w g is h =
 
 first_leaves : (f : CodeFun) (w : List ℕ) (g : ℕ) → IsFitFun f → Leaves (opened f ++ (w ++ g ∷ [])) (step (Starting f) w g)
 first_leaves f w g h =
-    if_leaves (opened f ++ (w ++ g ∷ [])) (pointwise nat_eq w (codes "end")) (closing f g) (started f g (key_of_word w))
+    if_leaves (opened f ++ (w ++ g ∷ [])) (pointwise nat_eq w (codes "end")) (end_move f g) (start_move f g (key_of_word w))
     (λ e. closing_leaves f w g (same_text w (codes "end") (sym e)) h) (starting_leaves f w g (key_of_word w) refl h)
 
 -- one word more of a line
@@ -153,7 +153,7 @@ word_front_more f l x =
     ∙ sym (append_assoc (line_front f l) (32 ∷ []) (line_word_text x))
 
 within_leaves : (f : CodeFun) (l : Line) (w : List ℕ) (g : ℕ) (o : Option LineWord) → word_in (next_field l.rest) w ≡ o → IsGoodWithin f l
-    → Leaves ((line_front f l ++ 32 ∷ []) ++ (w ++ g ∷ [])) (worded f l g o)
+    → Leaves ((line_front f l ++ 32 ∷ []) ++ (w ++ g ∷ [])) (word_move f l g o)
 within_leaves f l w g None e h = tt
 within_leaves f l w g (Some x) e h =
     let told = word_told_in (next_field l.rest) w x e in
@@ -179,7 +179,7 @@ head_whole f none =
     ∙ sym (append_assoc (codes "fun ") (f.name ++ spaced_text (counts f)) (10 ∷ []))
 
 heading_leaves : (f : CodeFun) (t : Turn) (w : List ℕ) (g : ℕ) (o : Option ℕ) → number_of_word w ≡ o → IsGoodHead f t
-    → Leaves ((head_front f t ++ 32 ∷ []) ++ (w ++ g ∷ [])) (headed f t g o)
+    → Leaves ((head_front f t ++ 32 ∷ []) ++ (w ++ g ∷ [])) (count_move f t g o)
 heading_leaves f t w g None e h = tt
 heading_leaves f First w g (Some n) e h =
     let told = number_told w n e in

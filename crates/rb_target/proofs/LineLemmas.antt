@@ -10,7 +10,7 @@ use Rattle.rb_target.specs.Text.{key_of, line_words, numbers, pairs}
 use Rattle.rb_target.specs.Validity.{IsBounded}
 use Rattle.rb_target.specs.Spelled.{IsShort}
 use Rattle.rb_target.proofs.SpelledForms.{AreShort, IsFit}
-use Rattle.rb_target.specs.inner.Fields.{has, is_open, fields, next_field, behind_field, fields_after, may_end, first_line, after_word, value_of, paired, arms_in, listed, lists_in, instruction_of}
+use Rattle.rb_target.specs.inner.Fields.{has, is_open, fields, next_field, behind_field, fields_after, may_end, first_line, after_word, value_of, arms_with_word, arms_in, lists_with_word, lists_in, instruction_of}
 use Rattle.rb_target.specs.declared.instr.AluOp.{AluOp}
 use Rattle.rb_target.specs.declared.instr.AluOp.TheVariants.{Add}
 use Rattle.rb_target.specs.declared.instr.SwitchArm.{SwitchArm}
@@ -250,12 +250,12 @@ abbrev arms_so : List SwitchArm → Option ℕ → Arms
 arms_so arms n = record { arms = arms; number = n }
 
 -- pairs are read as the arms that they spell
-pairs_arms : (done arms : List SwitchArm) → fold paired (arms_so done None) (pairs arms) ≡ arms_so (done ++ arms) None
+pairs_arms : (done arms : List SwitchArm) → fold arms_with_word (arms_so done None) (pairs arms) ≡ arms_so (done ++ arms) None
 pairs_arms done [] = ap (λ a. arms_so a None) (sym (append-nil done))
 pairs_arms done (arm ∷ arms) = pairs_arms (done ++ arm ∷ []) arms ∙ ap (λ a. arms_so a None) (append_assoc done (arm ∷ []) arms)
 
 -- words that are pairs are those of the arms read
-arms_pairs : (done : List SwitchArm) (ws : List LineWord) → whole (Pairs ∷ []) ws ≡ true → pairs ((fold paired (arms_so done None) ws).arms) ≡ pairs done ++ ws
+arms_pairs : (done : List SwitchArm) (ws : List LineWord) → whole (Pairs ∷ []) ws ≡ true → pairs ((fold arms_with_word (arms_so done None) ws).arms) ≡ pairs done ++ ws
 arms_pairs done [] h = sym (append-nil (pairs done))
 arms_pairs done (Number n ∷ Number t ∷ ws) h =
     let arm : SwitchArm = record { number = n; target = t } in
@@ -283,12 +283,12 @@ abbrev lists_so : List ℕ → List ℕ → Bool → Lists
 lists_so ds froms b = record { dests = ds; froms = froms; behind = b }
 
 -- the second list of a call
-froms_lists : (ds done ns : List ℕ) → fold listed (lists_so ds done true) (numbers ns) ≡ lists_so ds (done ++ ns) true
+froms_lists : (ds done ns : List ℕ) → fold lists_with_word (lists_so ds done true) (numbers ns) ≡ lists_so ds (done ++ ns) true
 froms_lists ds done [] = ap (λ l. lists_so ds l true) (sym (append-nil done))
 froms_lists ds done (n ∷ ns) = froms_lists ds (done ++ n ∷ []) ns ∙ ap (λ l. lists_so ds l true) (append_assoc done (n ∷ []) ns)
 
 -- both lists of a call
-call_lists : (done ds froms : List ℕ) → fold listed (lists_so done [] false) (numbers ds ++ Of ∷ numbers froms) ≡ lists_so (done ++ ds) froms true
+call_lists : (done ds froms : List ℕ) → fold lists_with_word (lists_so done [] false) (numbers ds ++ Of ∷ numbers froms) ≡ lists_so (done ++ ds) froms true
 call_lists done [] froms = froms_lists done [] froms ∙ ap (λ l. lists_so l froms true) (sym (append-nil done))
 call_lists done (d ∷ ds) froms = call_lists (done ++ d ∷ []) ds froms ∙ ap (λ l. lists_so l froms true) (append_assoc done (d ∷ []) ds)
 

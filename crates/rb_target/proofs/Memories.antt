@@ -6,7 +6,7 @@ use Rattle.rb_bytes.specs.declared.fault.Full.{Full}
 use Rattle.rb_bytes.specs.declared.fault.Trap.{Trap}
 use Rattle.rb_bytes.proofs.MemoryLemmas.{place_good, store_good}
 use Rattle.rb_target.specs.Calls.{KeepGood}
-use Rattle.rb_target.specs.Meaning.{World, CallEnd, Next, Callee, act, act_at, steps, from, enter, body_in, body_of, after_load, after_store, after_place, after_switch, after_call, after_one_call, taken, switched, with_left, slots_at, put_slots}
+use Rattle.rb_target.specs.Meaning.{World, CallEnd, Next, Callee, act, act_at, steps, from, enter, body_in, body_of, after_load, after_store, after_place, after_switch, after_call, after_one_call, taken, with_switch, with_left, slots_at, put_slots}
 use Rattle.rb_target.specs.Validity.{IsBounded, IsValidFun, IsValid}
 use Rattle.rb_target.specs.declared.outcome.End.{End}
 use Rattle.rb_target.specs.declared.outcome.End.TheVariants.{Returned, Spent, Full as Filled, Trapped}
@@ -52,7 +52,7 @@ module _ (callee : Callee) (called : (f : ℕ) (words : List ℕ) (w : World) �
   act_good (Place d size align) b g pc slots w good h =
       let kept = place_good w.memory size align good b.0 b.1 in placed_good _ _ _ kept (λ x. h _ _ _ kept)
   act_good (Jump t) b g pc slots w good h = h _ _ w good
-  act_good (Switch a other arms) b g pc slots w good h = switch_good _ _ (switched w) _ good (λ t. h _ _ (switched w) good)
+  act_good (Switch a other arms) b g pc slots w good h = switch_good _ _ (with_switch w) _ good (λ t. h _ _ (with_switch w) good)
   act_good (Call f ds froms) b g pc slots w good h =
       let back = callee f (slots_at slots froms) w in
       let kept = called f (slots_at slots froms) w good in

@@ -4,13 +4,9 @@ use Rattle.std.proofs.lemmas.Bool.Decides.{nat_tests}
 use Rattle.std.proofs.lemmas.List.Elements.{All-nil, All-cons, All-head, All-tail}
 use Rattle.std.specs.Prelude.{nat_le}
 use Rattle.std.specs.List.{list_all}
+use Rattle.std.proofs.lemmas.Bool.{and_parts}
 use Rattle.rb_core.specs.WellNumbered.{is_between, is_capital, is_small, either, is_word_byte, is_lower}
 use Rattle.rb_target.specs.Validity.{IsNameByte, IsLower}
-
-both : (a b : Bool) → (a && b) ≡ true → (a ≡ true) × (b ≡ true)
-both true true e = (refl, refl)
-both true false e = cc
-both false b e = cc
 
 and_also : (a b : Bool) → a ≡ true → b ≡ true → (a && b) ≡ true
 and_also true b e f = f
@@ -18,7 +14,7 @@ and_also false b e f = cc
 
 pub between : (a b n : ℕ) → is_between a b n ≡ true → (a ≤ n) × (n ≤ b)
 between a b n e =
-    let h = both (nat_le a n) (nat_le n b) e in
+    let h = and_parts (nat_le a n) (nat_le n b) e in
     let lo : a ≤ n = grind (arith, nat_tests, h.0) in let hi : n ≤ b = grind (arith, nat_tests, h.1) in (lo, hi)
 
 pub from_between : (a b n : ℕ) → a ≤ n → n ≤ b → is_between a b n ≡ true
@@ -58,7 +54,7 @@ from_name_byte n (inr (inr (inr line))) = ap is_word_byte line
 
 name_bytes : (bs : List ℕ) → list_all is_word_byte bs ≡ true → All IsNameByte bs
 name_bytes [] e = All-nil IsNameByte
-name_bytes (b ∷ bs) e = let h = both (is_word_byte b) (list_all is_word_byte bs) e in All-cons IsNameByte b bs (name_byte b h.0) (name_bytes bs h.1)
+name_bytes (b ∷ bs) e = let h = and_parts (is_word_byte b) (list_all is_word_byte bs) e in All-cons IsNameByte b bs (name_byte b h.0) (name_bytes bs h.1)
 
 from_name_bytes : (bs : List ℕ) → All IsNameByte bs → list_all is_word_byte bs ≡ true
 from_name_bytes [] h = refl
@@ -66,7 +62,7 @@ from_name_bytes (b ∷ bs) h = and_also (is_word_byte b) (list_all is_word_byte 
 
 pub lower_name : (bs : List ℕ) → is_lower bs ≡ true → IsLower bs
 lower_name [] e = cc
-lower_name (b ∷ bs) e = let h = both (is_small b) (list_all is_word_byte bs) e in (between 97 122 b h.0, name_bytes bs h.1)
+lower_name (b ∷ bs) e = let h = and_parts (is_small b) (list_all is_word_byte bs) e in (between 97 122 b h.0, name_bytes bs h.1)
 
 pub name_is_lower : (bs : List ℕ) → IsLower bs → is_lower bs ≡ true
 name_is_lower [] h = absurd h

@@ -1,9 +1,9 @@
 -- Two bounds on the nesting of calls that are no less than the calls left give the same.
 use Rattle.std.proofs.Common.{◌≡◌, ℕ, zero, suc, ◌+◌, ◌≤◌, List, length, Option, Some, None, refl, sym, ap, ◌∙◌, arith}
 use Rattle.std.specs.Prelude.{slice_get}
+use Rattle.rb_target.proofs.Calling.{enter_none}
 use Rattle.rb_target.proofs.Results.{load_same, store_same, place_same, switch_same, call_same, one_call_same, load_left, store_left, place_left, switch_left, call_left, one_call_left}
-use Rattle.rb_target.specs.Meaning.{World, CallEnd, over, Next, Callee, act, act_at, steps, from, enter, body_of, after_call, after_one_call, taken, slots_at, put_slots, first_slots, with_memory, switched}
-use Rattle.rb_target.specs.declared.outcome.End.TheVariants.{Spent}
+use Rattle.rb_target.specs.Meaning.{World, CallEnd, Next, Callee, act, act_at, steps, from, enter, body_of, after_call, taken, slots_at, put_slots, with_memory, with_switch}
 use Rattle.rb_target.specs.declared.code.CodeFun.{CodeFun}
 use Rattle.rb_target.specs.declared.instr.Instr.{Instr}
 use Rattle.rb_target.specs.declared.instr.Instr.TheVariants.{Const, Copy, Alu, Take, Put, Load, Store, Place, Jump, Switch, Call, Return}
@@ -23,7 +23,7 @@ module _ (callee : Callee) (falls : Falls callee) where
   act_left (Store a offset width v) g pc slots w h = store_left _ (with_memory w _) _ (h _ _ _)
   act_left (Place d size align) g pc slots w h = place_left _ (with_memory w _) _ (λ x. h _ _ _)
   act_left (Jump t) g pc slots w h = h _ _ w
-  act_left (Switch a other arms) g pc slots w h = switch_left _ _ (switched w) _ (λ t. h _ _ _)
+  act_left (Switch a other arms) g pc slots w h = switch_left _ _ (with_switch w) _ (λ t. h _ _ _)
   act_left (Call f ds froms) g pc slots w h =
       let words = slots_at slots froms in
       let back = callee f words w in
@@ -77,12 +77,6 @@ module _ (most : ℕ) (a b : Callee) (falls : Falls a) (agree : Agree most a b) 
   steps_agree : (n : ℕ) (body : List Instr) (pc : ℕ) (slots : List ℕ) (w : World) → w.left ≤ most → steps n body a pc slots w ≡ steps n body b pc slots w
   steps_agree zero body pc slots w le = refl
   steps_agree (suc n) body pc slots w le = at_agrees (slice_get body pc) (steps n body a) (steps n body b) pc slots w le (steps_agree n body)
-
-enter_none : (funs : List CodeFun) (depth f : ℕ) (words : List ℕ) (w : World) → w.left ≡ 0 → enter funs depth f words w ≡ over Spent w
-unfolding enter
-enter_none funs zero f words w e = refl
-enter_none funs (suc depth) f words w e =
-    ap (λ n. after_one_call n w (λ v. from (body_of funs f) (enter funs depth) 0 (first_slots funs f words) v)) e
 
 pub enter_deep : (funs : List CodeFun) (d e f : ℕ) (words : List ℕ) (w : World) → w.left ≤ d → w.left ≤ e → enter funs d f words w ≡ enter funs e f words w
 unfolding enter from

@@ -11,7 +11,7 @@ use Rattle.rb_target.specs.Text.{line_word_text, key_text, key_of, line_words, s
 use Rattle.rb_target.specs.Validity.{IsSmall, IsNameByte, IsLower}
 use Rattle.rb_target.proofs.SpelledForms.{AreShort, IsFit, AreFit, IsFitFun, AreFitFuns}
 use Rattle.rb_target.specs.inner.Fields.{number_of_word, is_open, next_field, may_end, first_line, after_word, instruction_of}
-use Rattle.rb_target.specs.inner.Reading.{is_gap, named, line_next, headed, step, is_some, goes_on, Progress, start, moved, feed, then_feed, run}
+use Rattle.rb_target.specs.inner.Reading.{is_gap, named, line_next, count_move, step, is_some, goes_on, Progress, start, progress_behind, feed, then_feed, run}
 use Rattle.rb_target.specs.declared.instr.Instr.{Instr}
 use Rattle.rb_target.specs.declared.word.LineWord.{LineWord}
 use Rattle.rb_target.specs.declared.word.LineWord.TheVariants.{Number}
@@ -46,10 +46,10 @@ steps_run funs spot p (b ∷ xs) rest s =
     ap (λ o. run o (xs ++ rest)) one ∙ steps_run funs spot (p ++ b ∷ []) xs rest s.2 ∙ ap (λ w. run (Some (at_spot funs spot w)) rest) (append_assoc p (b ∷ []) xs)
 
 -- a word and the byte behind it
-word_run : (funs : List CodeFun) (spot : Spot) (w : List ℕ) (g : ℕ) (rest : List ℕ) → Steps (goes_on spot) [] w → is_gap g ≡ true → run (Some (at_spot funs spot [])) (w ++ g ∷ rest) ≡ run (moved funs (step spot w g)) rest
+word_run : (funs : List CodeFun) (spot : Spot) (w : List ℕ) (g : ℕ) (rest : List ℕ) → Steps (goes_on spot) [] w → is_gap g ≡ true → run (Some (at_spot funs spot [])) (w ++ g ∷ rest) ≡ run (progress_behind funs (step spot w g)) rest
 word_run funs spot w g rest s h = steps_run funs spot [] w (g ∷ rest) s ∙ ap (λ o. run o rest) gap
   where
-    gap : feed (at_spot funs spot w) g ≡ moved funs (step spot w g)
+    gap : feed (at_spot funs spot w) g ≡ progress_behind funs (step spot w g)
     gap = rw h refl
 
 -- Lines ----------------------------------------------------------------------------------------
@@ -81,18 +81,18 @@ line_goes_on f l h = rw h refl
 
 -- the words ws, with which the line is whole and spells j, and the bytes behind it
 line_run : (funs : List CodeFun) (f : CodeFun) (l : Line) (ws : List LineWord) (j : Instr) (rest : List ℕ) → whole l.rest ws ≡ true → instruction_of l.key (l.words ++ ws) ≡ j → AreShort ws
-    → run (moved funs (line_next f l (gap_before ws))) (behind_gap ws rest) ≡ run (Some (at_spot funs (Starting (pushed f j)) [])) rest
+    → run (progress_behind funs (line_next f l (gap_before ws))) (behind_gap ws rest) ≡ run (Some (at_spot funs (Starting (pushed f j)) [])) rest
 line_run funs f l [] j rest h is short =
-    ap (λ m. run (moved funs m) rest) (line_ends f l h)
+    ap (λ m. run (progress_behind funs m) rest) (line_ends f l h)
     ∙ ap (λ i. run (Some (at_spot funs (Starting (pushed f i)) [])) rest) (ap (instruction_of l.key) (sym (append-nil l.words)) ∙ is)
 line_run funs f l (w ∷ ws) j rest h is short =
     let next = whole_next l.rest w ws h in
     let field : Field = next_field l.rest in
     let told : step (Within f l) (line_word_text w) (gap_before ws) ≡ line_next f (after_word l w) (gap_before ws) = rw (word_in_text field w next.0 short.0) refl in
-    ap (λ m. run (moved funs m) (behind_gap (w ∷ ws) rest)) (line_goes_on f l (in_open field w next.0))
+    ap (λ m. run (progress_behind funs m) (behind_gap (w ∷ ws) rest)) (line_goes_on f l (in_open field w next.0))
     ∙ ap (λ r. run (Some (at_spot funs (Within f l) [])) (line_word_text w ++ r)) (gap_split ws rest)
     ∙ word_run funs (Within f l) (line_word_text w) (gap_before ws) (behind_gap ws rest) (word_steps field w next.0 short.0) (gap_is ws)
-    ∙ ap (λ m. run (moved funs m) (behind_gap ws rest)) told
+    ∙ ap (λ m. run (progress_behind funs m) (behind_gap ws rest)) told
     ∙ line_run funs f (after_word l w) ws j rest next.1 (ap (instruction_of l.key) (append_assoc l.words (w ∷ []) ws) ∙ is) short.1
 
 -- a line's words and end, with what follows, from its first word on
@@ -137,7 +137,7 @@ module _ (funs : List CodeFun) (f : CodeFun) (rest : List ℕ) where
       ap (λ b. run (Some (at_spot funs (Starting f) [])) (line (key_text b) (line_words j) ++ rest)) r.key
       ∙ ap (λ r. run (Some (at_spot funs (Starting f) [])) r) (line_split (key_text k) (line_words j) rest)
       ∙ word_run funs (Starting f) (key_text k) (gap_before (line_words j)) (behind_gap (line_words j) rest) (key_steps k) (gap_is (line_words j))
-      ∙ ap (λ m. run (moved funs m) (behind_gap (line_words j) rest)) (key_next k (gap_before (line_words j)))
+      ∙ ap (λ m. run (progress_behind funs m) (behind_gap (line_words j) rest)) (key_next k (gap_before (line_words j)))
       ∙ line_run funs f (first_line k) (line_words j) j rest r.whole r.is short
 
   instr_run : (j : Instr) → IsFit j → Runs funs f j rest
@@ -200,21 +200,21 @@ head_run funs f rest h =
     ap (λ r. run (Some (at_spot funs Outside [])) r) (append_assoc (codes "fun ") (line f.name (counts f)) rest ∙ ap (λ r. codes "fun " ++ r) (line_split f.name (counts f) rest))
     ∙ word_run funs Outside (codes "fun") 32 (f.name ++ 32 ∷ r3) (refl, refl, (refl, refl, (refl, refl, tt))) refl
     ∙ word_run funs Naming f.name 32 r3 (lower_steps f.name h.named) refl
-    ∙ ap (λ m. run (moved funs m) r3) (named_next h.named)
+    ∙ ap (λ m. run (progress_behind funs m) r3) (named_next h.named)
     ∙ ap (λ r. run (Some (at_spot funs (Heading f1 First) [])) (decimal f.params ++ r)) (gap_split (Number f.results ∷ Number f.slots ∷ []) rest)
     ∙ word_run funs (Heading f1 First) (decimal f.params) 32 (behind_gap (Number f.results ∷ Number f.slots ∷ []) rest) (count_steps f1 First f.params h.counts.0) refl
-    ∙ ap (λ m. run (moved funs m) (behind_gap (Number f.results ∷ Number f.slots ∷ []) rest)) (count_next f1 First 32 f.params h.counts.0)
+    ∙ ap (λ m. run (progress_behind funs m) (behind_gap (Number f.results ∷ Number f.slots ∷ []) rest)) (count_next f1 First 32 f.params h.counts.0)
     ∙ ap (λ r. run (Some (at_spot funs (Heading f2 Second) [])) (decimal f.results ++ r)) (gap_split (Number f.slots ∷ []) rest)
     ∙ word_run funs (Heading f2 Second) (decimal f.results) 32 (behind_gap (Number f.slots ∷ []) rest) (count_steps f2 Second f.results h.counts.1) refl
-    ∙ ap (λ m. run (moved funs m) (behind_gap (Number f.slots ∷ []) rest)) (count_next f2 Second 32 f.results h.counts.1)
+    ∙ ap (λ m. run (progress_behind funs m) (behind_gap (Number f.slots ∷ []) rest)) (count_next f2 Second 32 f.results h.counts.1)
     ∙ word_run funs (Heading f3 Third) (decimal f.slots) 10 rest (count_steps f3 Third f.slots h.counts.2) refl
-    ∙ ap (λ m. run (moved funs m) rest) (count_next f3 Third 10 f.slots h.counts.2)
+    ∙ ap (λ m. run (progress_behind funs m) rest) (count_next f3 Third 10 f.slots h.counts.2)
   where
     named_next : IsLower f.name → step Naming f.name 32 ≡ To (Heading (named f.name) First)
     named_next low = rw (lower_some f.name low) refl
 
-    count_next : (g : CodeFun) (t : Turn) (b n : ℕ) → n < 2 ^ 64 → step (Heading g t) (decimal n) b ≡ headed g t b (Some n)
-    count_next g t b n small = ap (headed g t b) (number_decimal n small)
+    count_next : (g : CodeFun) (t : Turn) (b n : ℕ) → n < 2 ^ 64 → step (Heading g t) (decimal n) b ≡ count_move g t b (Some n)
+    count_next g t b n small = ap (count_move g t b) (number_decimal n small)
 
 fun_run : (funs : List CodeFun) (f : CodeFun) (rest : List ℕ) → IsFitFun f
     → run (Some (at_spot funs Outside [])) (fun_text f ++ rest) ≡ run (Some (at_spot (funs ++ f ∷ []) Outside [])) rest

@@ -7,8 +7,8 @@ use Rattle.rb_target.specs.declared.instr.Instr.{Instr}
 use Rattle.rb_target.specs.declared.instr.Instr.TheVariants.{Const, Copy, Alu, Take, Put, Load, Store, Place, Jump, Switch, Call, Return}
 use Rattle.rb_target.specs.declared.body.Hole.{Hole}
 use Rattle.rb_target.specs.Meaning.{target_of}
-use Rattle.rb_target.specs.Sheet.{Sheet, retargeted, retargeted_arm, IsHole, IsHoleIn, with_instr, patched}
-use Rattle.rb_target.specs.Targets.{untargeted, no_target, without_targets, without_targets_in, arm_target, target_at, target_in, dests_in, SetsTarget}
+use Rattle.rb_target.specs.Sheet.{Sheet, with_one_target, with_arm_target, IsHole, IsHoleIn, with_instr, with_target_at}
+use Rattle.rb_target.specs.Targets.{without_target, no_target, without_targets, without_targets_in, arm_target, target_at, target_in, dests_in, SetsTarget}
 use Rattle.rb_target.specs.Validity.{dests}
 use Rattle.rb_target.proofs.Growing.{get-set_same, get-set_other}
 
@@ -37,17 +37,17 @@ hole_view (Call f ds fs) x h = absurd h
 hole_view (Return fs) x h = absurd h
 
 -- arms
-arm_shapes : (arms : List SwitchArm) (k t : ℕ) → map untargeted (retargeted_arm arms k t) ≡ map untargeted arms
+arm_shapes : (arms : List SwitchArm) (k t : ℕ) → map without_target (with_arm_target arms k t) ≡ map without_target arms
 arm_shapes [] k t = refl
 arm_shapes (a ∷ arms) zero t = refl
-arm_shapes (a ∷ arms) (suc k) t = ap (λ l. untargeted a ∷ l) (arm_shapes arms k t)
+arm_shapes (a ∷ arms) (suc k) t = ap (λ l. without_target a ∷ l) (arm_shapes arms k t)
 
-arm_same : (arms : List SwitchArm) (k t : ℕ) → k < length arms → arm_target (slice_get (retargeted_arm arms k t) k) ≡ Some t
+arm_same : (arms : List SwitchArm) (k t : ℕ) → k < length arms → arm_target (slice_get (with_arm_target arms k t) k) ≡ Some t
 arm_same [] k t lt = absurd (omega (arith, lt))
 arm_same (a ∷ arms) zero t lt = refl
 arm_same (a ∷ arms) (suc k) t lt = arm_same arms k t (omega (arith, lt))
 
-arm_other : (arms : List SwitchArm) (k j t : ℕ) → j ≢ k → arm_target (slice_get (retargeted_arm arms k t) j) ≡ arm_target (slice_get arms j)
+arm_other : (arms : List SwitchArm) (k j t : ℕ) → j ≢ k → arm_target (slice_get (with_arm_target arms k t) j) ≡ arm_target (slice_get arms j)
 arm_other [] k j t ne = refl
 arm_other (a ∷ arms) zero zero t ne = absurd (ne refl)
 arm_other (a ∷ arms) zero (suc j) t ne = refl
@@ -59,25 +59,25 @@ arm_exists [] k lt = absurd (omega (arith, lt))
 arm_exists (a ∷ arms) zero lt = (a.target, refl)
 arm_exists (a ∷ arms) (suc k) lt = arm_exists arms k (omega (arith, lt))
 
-length-shapes : (xs ys : List SwitchArm) → map untargeted xs ≡ map untargeted ys → length xs ≡ length ys
+length-shapes : (xs ys : List SwitchArm) → map without_target xs ≡ map without_target ys → length xs ≡ length ys
 length-shapes xs ys e = sym (len xs) ∙ ap length e ∙ len ys
   where
-    len : (zs : List SwitchArm) → length (map untargeted zs) ≡ length zs
+    len : (zs : List SwitchArm) → length (map without_target zs) ≡ length zs
     len [] = refl
     len (z ∷ zs) = ap suc (len zs)
 
 -- one target changed
-pub retarget_shape : (i : Instr) (x : Option ℕ) (t : ℕ) → HoleView i x → without_targets (retargeted i x t) ≡ without_targets i
+pub retarget_shape : (i : Instr) (x : Option ℕ) (t : ℕ) → HoleView i x → without_targets (with_one_target i x t) ≡ without_targets i
 retarget_shape _ _ t (jump u) = refl
 retarget_shape _ _ t (other a u arms) = refl
 retarget_shape _ _ t (branch a o arms k lt) = ap (λ l. Switch a (no_target o) l) (arm_shapes arms k t)
 
-pub retarget_same : (i : Instr) (x : Option ℕ) (t : ℕ) → HoleView i x → target_at (retargeted i x t) x ≡ Some t
+pub retarget_same : (i : Instr) (x : Option ℕ) (t : ℕ) → HoleView i x → target_at (with_one_target i x t) x ≡ Some t
 retarget_same _ _ t (jump u) = refl
 retarget_same _ _ t (other a u arms) = refl
 retarget_same _ _ t (branch a o arms k lt) = arm_same arms k t lt
 
-pub retarget_other : (i : Instr) (x y : Option ℕ) (t : ℕ) → HoleView i x → (y ≡ x → ⊥) → target_at (retargeted i x t) y ≡ target_at i y
+pub retarget_other : (i : Instr) (x y : Option ℕ) (t : ℕ) → HoleView i x → (y ≡ x → ⊥) → target_at (with_one_target i x t) y ≡ target_at i y
 retarget_other _ _ None t (jump u) ne = absurd (ne refl)
 retarget_other _ _ (Some k) t (jump u) ne = refl
 retarget_other _ _ None t (other a u arms) ne = absurd (ne refl)
@@ -96,7 +96,7 @@ pub record IsSwitch (o : Option Instr) (a : ℕ) (e : Option ℕ) (arms : List S
   pub list : List SwitchArm
   pub is : o ≡ Some (Switch a other list)
   pub others : no_target other ≡ no_target e
-  pub same : map untargeted list ≡ map untargeted arms
+  pub same : map without_target list ≡ map without_target arms
 
 pub switch_shape : (o : Option Instr) (a : ℕ) (e : Option ℕ) (arms : List SwitchArm) → without_targets_in o ≡ Some (without_targets (Switch a e arms)) → IsSwitch o a e arms
 switch_shape None a e arms h = absurd cc
@@ -114,7 +114,7 @@ switch_shape (Some (Return fs)) a e arms h = absurd cc
 switch_shape (Some (Switch b o list)) a e arms h =
     let eb : b ≡ a = cc in
     let eo : no_target o ≡ no_target e = cc in
-    let el : map untargeted list ≡ map untargeted arms = cc in
+    let el : map without_target list ≡ map without_target arms = cc in
     record { other = o; list = list; is = ap (λ k. Some (Switch k o list)) eb; others = eo; same = el }
 
 pub jump_shape : (o : Option Instr) (t : ℕ) → without_targets_in o ≡ Some (without_targets (Jump t)) → (u : ℕ) × (o ≡ Some (Jump u))
@@ -165,20 +165,20 @@ pub record IsPatched (b : Sheet) (h : Hole) (t : ℕ) (c : Sheet) : Type 0 where
   pub is_old : slice_get b.code h.pc ≡ Some old
   pub view : HoleView old h.arm
   pub inside : h.pc < length b.code
-  pub code : c.code ≡ slice_set b.code h.pc (retargeted old h.arm t)
+  pub code : c.code ≡ slice_set b.code h.pc (with_one_target old h.arm t)
   pub long : length c.code ≡ length b.code
-  pub here : slice_get c.code h.pc ≡ Some (retargeted old h.arm t)
+  pub here : slice_get c.code h.pc ≡ Some (with_one_target old h.arm t)
   pub elsewhere : (q : ℕ) → q ≢ h.pc → slice_get c.code q ≡ slice_get b.code q
   pub shapes : without_targets_in (slice_get c.code h.pc) ≡ without_targets_in (slice_get b.code h.pc)
   pub target : target_in (slice_get c.code h.pc) h.arm ≡ Some t
   pub others : (x : Option ℕ) → (x ≡ h.arm → ⊥) → target_in (slice_get c.code h.pc) x ≡ target_in (slice_get b.code h.pc) x
 
-pub patch_is : (b : Sheet) (h : Hole) (t : ℕ) → IsHole b.code h → IsPatched b h t (patched b h t)
+pub patch_is : (b : Sheet) (h : Hole) (t : ℕ) → IsHole b.code h → IsPatched b h t (with_target_at b h t)
 patch_is b h t hole =
     let v = hole_in (slice_get b.code h.pc) h.arm hole in
     let i = v.0 in
-    let j = retargeted i h.arm t in
-    let c = patched b h t in
+    let j = with_one_target i h.arm t in
+    let c = with_target_at b h t in
     let inside = slice_get_within b.code h.pc i v.1 in
     let code : c.code ≡ slice_set b.code h.pc j = ap (λ o. with_instr o b.code h t) v.1 in
     let here : slice_get c.code h.pc ≡ Some j = ap (λ l. slice_get l h.pc) code ∙ get-set_same b.code h.pc j inside in
@@ -197,12 +197,12 @@ patch_is b h t hole =
     }
 
 -- patching sets the hole's target and changes nothing else
-keeps_dests : (i : Instr) (x : Option ℕ) (t : ℕ) → HoleView i x → dests (retargeted i x t) ≡ dests i
+keeps_dests : (i : Instr) (x : Option ℕ) (t : ℕ) → HoleView i x → dests (with_one_target i x t) ≡ dests i
 keeps_dests _ _ t (jump u) = refl
 keeps_dests _ _ t (other a u arms) = refl
 keeps_dests _ _ t (branch a o arms k lt) = refl
 
-pub patch_sets : (b : Sheet) (h : Hole) (t : ℕ) → IsHole b.code h → SetsTarget b h t (patched b h t)
+pub patch_sets : (b : Sheet) (h : Hole) (t : ℕ) → IsHole b.code h → SetsTarget b h t (with_target_at b h t)
 patch_sets b h t hole =
     let p = patch_is b h t hole in
     record {
@@ -215,10 +215,10 @@ patch_sets b h t hole =
       slots = (refl, refl);
     }
   where
-    written : (pc : ℕ) → IsPatched b h t (patched b h t) → (u : Bool) → eqb pc h.pc ≡ u → dests_in (slice_get (patched b h t).code pc) ≡ dests_in (slice_get b.code pc)
+    written : (pc : ℕ) → IsPatched b h t (with_target_at b h t) → (u : Bool) → eqb pc h.pc ≡ u → dests_in (slice_get (with_target_at b h t).code pc) ≡ dests_in (slice_get b.code pc)
     written pc p true e =
         let same : pc ≡ h.pc = grind arith in
-        ap (λ n. dests_in (slice_get (patched b h t).code n)) same ∙ ap dests_in p.here ∙ keeps_dests p.old h.arm t p.view ∙ sym (ap dests_in p.is_old) ∙ sym (ap (λ n. dests_in (slice_get b.code n)) same)
+        ap (λ n. dests_in (slice_get (with_target_at b h t).code n)) same ∙ ap dests_in p.here ∙ keeps_dests p.old h.arm t p.view ∙ sym (ap dests_in p.is_old) ∙ sym (ap (λ n. dests_in (slice_get b.code n)) same)
     written pc p false e = let ne : pc ≢ h.pc = grind arith in ap dests_in (p.elsewhere pc ne)
 
 -- Choices
@@ -236,10 +236,10 @@ abbrev pub numbers : List SwitchArm → List ℕ
 numbers [] = []
 numbers (a ∷ arms) = a.number ∷ numbers arms
 
-numbers-same : (xs ys : List SwitchArm) → map untargeted xs ≡ map untargeted ys → numbers xs ≡ numbers ys
+numbers-same : (xs ys : List SwitchArm) → map without_target xs ≡ map without_target ys → numbers xs ≡ numbers ys
 numbers-same xs ys e = sym (plain xs) ∙ ap numbers e ∙ plain ys
   where
-    plain : (zs : List SwitchArm) → numbers (map untargeted zs) ≡ numbers zs
+    plain : (zs : List SwitchArm) → numbers (map without_target zs) ≡ numbers zs
     plain [] = refl
     plain (z ∷ zs) = ap (λ l. z.number ∷ l) (plain zs)
 
@@ -257,5 +257,5 @@ target_picked a e (arm ∷ arms) x = go (nat_eq arm.number x) (target_picked a e
     go true h = refl
     go false h = h ∙ sym (picked a e arm arms (pick (numbers arms) x))
 
-pub target_shaped : (a : ℕ) (e : Option ℕ) (arms list : List SwitchArm) (x : ℕ) → map untargeted list ≡ map untargeted arms → target_of list e x ≡ target_at (Switch a e list) (pick (numbers arms) x)
+pub target_shaped : (a : ℕ) (e : Option ℕ) (arms list : List SwitchArm) (x : ℕ) → map without_target list ≡ map without_target arms → target_of list e x ≡ target_at (Switch a e list) (pick (numbers arms) x)
 target_shaped a e arms list x same = target_picked a e list x ∙ ap (λ cs. target_at (Switch a e list) (pick cs x)) (numbers-same list arms same)

@@ -19,7 +19,7 @@ use Rattle.rb_target.specs.Spelled.{AreSpelled}
 use Rattle.rb_target.specs.Stopping.{IsCode, StopsAt, IsTextOf}
 use Rattle.rb_target.proofs.SpelledForms.{IsFitFun, AreFitFuns, funs_fit, fit_funs}
 use Rattle.rb_target.specs.inner.Fields.{number_of_word, is_open, is_word_front, keys, next_field, after_word}
-use Rattle.rb_target.specs.inner.Reading.{is_gap, named, line_next, worded, headed, step, is_some, goes_on, Progress, start, moved, feed, run, is_outside, is_done}
+use Rattle.rb_target.specs.inner.Reading.{is_gap, named, line_next, word_move, count_move, step, is_some, goes_on, Progress, start, progress_behind, feed, run, is_outside, is_done}
 use Rattle.rb_target.specs.declared.word.LineWord.{LineWord}
 use Rattle.rb_target.specs.declared.word.LineWord.TheVariants.{Number}
 use Rattle.rb_target.specs.declared.code.CodeFun.{CodeFun}
@@ -162,9 +162,9 @@ starting_can_end f q h = elim (starts_with nat_eq (codes "end") q) as (λ (b : B
 
 heading_can_end : (f : CodeFun) (t : Turn) (q : List ℕ) (o : Option ℕ) → number_of_word q ≡ o → is_some o ≡ true → CanEnd (Heading f t) q
 heading_can_end f t q None e h = absurd (cc h)
-heading_can_end f First q (Some n) e h = can_end (Heading f First) q q [] 32 (append-nil q) (subst (λ o. Moves (headed f First 32 o)) (sym e) tt)
-heading_can_end f Second q (Some n) e h = can_end (Heading f Second) q q [] 32 (append-nil q) (subst (λ o. Moves (headed f Second 32 o)) (sym e) tt)
-heading_can_end f Third q (Some n) e h = can_end (Heading f Third) q q [] 10 (append-nil q) (subst (λ o. Moves (headed f Third 10 o)) (sym e) tt)
+heading_can_end f First q (Some n) e h = can_end (Heading f First) q q [] 32 (append-nil q) (subst (λ o. Moves (count_move f First 32 o)) (sym e) tt)
+heading_can_end f Second q (Some n) e h = can_end (Heading f Second) q q [] 32 (append-nil q) (subst (λ o. Moves (count_move f Second 32 o)) (sym e) tt)
+heading_can_end f Third q (Some n) e h = can_end (Heading f Third) q q [] 10 (append-nil q) (subst (λ o. Moves (count_move f Third 10 o)) (sym e) tt)
 
 line_gap : (f : CodeFun) (l : Line) → IsGoodLine l → (g : ℕ) × Moves (line_next f l g)
 line_gap f l good = elim (is_open (next_field l.rest)) as (λ (b : Bool). is_open (next_field l.rest) ≡ b → (g : ℕ) × Moves (line_next f l g)) [
@@ -177,7 +177,7 @@ within_can_end f l q good h =
     let front : IsWordFront (next_field l.rest) q = word_front_told (next_field l.rest) q h in
     let gap = line_gap f (after_word l front.word) (word_follows l front.word good front.may front.short) in
     can_end (Within f l) q (line_word_text front.word) front.rest gap.0 front.is
-    (subst (λ o. Moves (worded f l gap.0 o)) (sym (word_in_text (next_field l.rest) front.word front.may front.short)) gap.1)
+    (subst (λ o. Moves (word_move f l gap.0 o)) (sym (word_in_text (next_field l.rest) front.word front.may front.short)) gap.1)
 
 long_word : (x : ℕ) (bs : List ℕ) (b : ℕ) → (length (x ∷ bs ++ b ∷ []) == 1) ≡ false
 long_word x bs b = let e : length (bs ++ b ∷ []) ≡ length bs + 1 = length-append bs (b ∷ []) in grind (arith, common_steps)
@@ -257,7 +257,7 @@ no_word (Heading f t) = inl refl
 no_word (Starting f) = inl refl
 no_word (Within f l) = inl refl
 
-moved_fed : (funs : List CodeFun) (t : List ℕ) (m : Move) (q : Progress) → AreFitFuns funs → Leaves t m → moved funs m ≡ Some q → Fed (code_text funs ++ t) q
+moved_fed : (funs : List CodeFun) (t : List ℕ) (m : Move) (q : Progress) → AreFitFuns funs → Leaves t m → progress_behind funs m ≡ Some q → Fed (code_text funs ++ t) q
 moved_fed funs t (To spot) q h l e =
     subst (λ p. Fed (code_text funs ++ t) p) (same_Some (at_spot funs spot []) q e)
     (record { text = ap (λ u. code_text funs ++ u) (append-nil (spot_text spot) ∙ l.0); sound = record { funs = h; spot = l.1; word = no_word spot } })
@@ -274,7 +274,7 @@ byte_last : (p : Progress) (b : ℕ) → code_text p.funs ++ (spot_text p.spot +
 byte_last p b =
     ap (λ u. code_text p.funs ++ u) (sym (append_assoc (spot_text p.spot) p.word (b ∷ []))) ∙ sym (append_assoc (code_text p.funs) (spot_text p.spot ++ p.word) (b ∷ []))
 
-gap_fed : (p : Progress) (b : ℕ) (q : Progress) → IsSound p → moved p.funs (step p.spot p.word b) ≡ Some q → Fed (text_of p ++ b ∷ []) q
+gap_fed : (p : Progress) (b : ℕ) (q : Progress) → IsSound p → progress_behind p.funs (step p.spot p.word b) ≡ Some q → Fed (text_of p ++ b ∷ []) q
 gap_fed p b q h e =
     subst (λ t. Fed t q) (byte_last p b)
     (moved_fed p.funs (spot_text p.spot ++ (p.word ++ b ∷ [])) (step p.spot p.word b) q h.funs (step_leaves p.spot p.word b h.spot (named_from p.spot p.word h.word)) e)
@@ -288,7 +288,7 @@ word_fed p b q h e = elim (goes_on p.spot (p.word ++ b ∷ []) b) as (λ (c : Bo
 ] refl e
 
 feed_fed : (p : Progress) (b : ℕ) (q : Progress) → IsSound p → feed p b ≡ Some q → Fed (text_of p ++ b ∷ []) q
-feed_fed p b q h e = elim (is_gap b) as (λ (c : Bool). (if c then moved p.funs (step p.spot p.word b) else (if goes_on p.spot (p.word ++ b ∷ []) b then Some (record p { word = p.word ++ b ∷ [] }) else None)) ≡ Some q → Fed (text_of p ++ b ∷ []) q) [
+feed_fed p b q h e = elim (is_gap b) as (λ (c : Bool). (if c then progress_behind p.funs (step p.spot p.word b) else (if goes_on p.spot (p.word ++ b ∷ []) b then Some (record p { word = p.word ++ b ∷ [] }) else None)) ≡ Some q → Fed (text_of p ++ b ∷ []) q) [
   | true ↦ λ k. gap_fed p b q h k
   | false ↦ λ k. word_fed p b q h k
 ] e

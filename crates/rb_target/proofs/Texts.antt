@@ -8,11 +8,6 @@ use Rattle.rb_target.specs.declared.word.LineWord.{LineWord}
 use Rattle.rb_target.specs.declared.word.LineWord.TheVariants.{Number}
 use Rattle.rb_target.specs.declared.code.CodeFun.{CodeFun}
 
--- one piece more, behind what stood there at first
-pub appended : {X : Type 0} (first done all : List X) (x : List X) (before after : List X) → before ≡ first ++ done → after ≡ before ++ x → all ≡ done ++ x → after ≡ first ++ all
-appended first done all x before after e0 e1 e2 =
-    e1 ∙ ap (λ t. t ++ x) e0 ∙ append_assoc first done x ∙ ap (λ t. first ++ t) (sym e2)
-
 pub spaced_text-push : (ws : List LineWord) (w : LineWord) → spaced_text (ws ++ w ∷ []) ≡ spaced_text ws ++ 32 ∷ line_word_text w
 spaced_text-push [] w = ap (λ t. 32 ∷ t) (append-nil (line_word_text w))
 spaced_text-push (x ∷ ws) w = ap (λ t. 32 ∷ line_word_text x ++ t) (spaced_text-push ws w) ∙ sym (append_assoc (32 ∷ line_word_text x) (spaced_text ws) (32 ∷ line_word_text w))

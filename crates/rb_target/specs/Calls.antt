@@ -7,7 +7,7 @@ use Rattle.rb_target.specs.declared.code.CodeFun.{CodeFun}
 use Rattle.rb_target.specs.Meaning.{World, over, from, enter, body_of, first_slots, with_left}
 
 -- How calls of these functions go, whatever f is.
-pub record AreCalls (funs : List CodeFun) : Type 0 where
+pub record CallLaws (funs : List CodeFun) : Type 0 where
   -- a call is spent where none is left
   pub none : (depth f : ℕ) (words : List ℕ) (w : World) → w.left ≡ 0 → enter funs depth f words w ≡ over Spent w
   -- else the function's body is gone through from its first instruction on, with its words in the first slots and one

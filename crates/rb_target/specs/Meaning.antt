@@ -109,8 +109,8 @@ after_call (Filled f) w go = over (Filled f) w
 after_call (Trapped t) w go = over (Trapped t) w
 
 -- the world with one more switch done
-abbrev pub switched : World → World
-switched w = record w { switches = w.switches + 1 }
+abbrev pub with_switch : World → World
+with_switch w = record w { switches = w.switches + 1 }
 
 -- the world with this memory in place of its own
 abbrev pub with_memory : World → Memory → World
@@ -142,8 +142,8 @@ act (Place d size align) next callee pc slots w =
     after_place placed.0 w' (λ a. next (pc + 1) (slice_set slots d a) w')
 act (Jump t) next callee pc slots w = next t slots w
 act (Switch a other arms) next callee pc slots w =
-    after_switch (target_of arms other (slice_index slots a)) (slice_index slots a) (switched w)
-    (λ t. next t slots (switched w))
+    after_switch (target_of arms other (slice_index slots a)) (slice_index slots a) (with_switch w)
+    (λ t. next t slots (with_switch w))
 act (Call f ds froms) next callee pc slots w =
     let back = callee f (slots_at slots froms) w in
     after_call back.ended back.world (λ words. next (pc + 1) (put_slots slots ds words) back.world)

@@ -35,27 +35,27 @@ pub record SheetIsKept (params slots : ℕ) (code : List Instr) : Type 0 where
   pub short : length code ≤ most_instrs
 
 -- the sheet with one instruction more, at the end
-abbrev pub pushed : Sheet → Instr → Sheet
-pushed b i = record b { code = b.code ++ i ∷ [] }
+abbrev pub with_more : Sheet → Instr → Sheet
+with_more b i = record b { code = b.code ++ i ∷ [] }
 
 -- the sheet with one slot more, behind the others
 abbrev pub with_slot : Sheet → Sheet
 with_slot b = record b { slots = b.slots + 1 }
 
 -- the arms with t as the target of arm number k; unchanged where there is no such arm
-abbrev pub retargeted_arm : List SwitchArm → ℕ → ℕ → List SwitchArm
-retargeted_arm [] k t = []
-retargeted_arm (arm ∷ arms) zero t = record arm { target = t } ∷ arms
-retargeted_arm (arm ∷ arms) (suc k) t = arm ∷ retargeted_arm arms k t
+abbrev pub with_arm_target : List SwitchArm → ℕ → ℕ → List SwitchArm
+with_arm_target [] k t = []
+with_arm_target (arm ∷ arms) zero t = record arm { target = t } ∷ arms
+with_arm_target (arm ∷ arms) (suc k) t = arm ∷ with_arm_target arms k t
 
 -- an instruction with t as one target: that of the arm with the number given, or without a number the target of a
 -- jump or the other target of a switch, which a switch without one gets; any other instruction is unchanged, and so
 -- is a switch without an arm of that number
-abbrev pub retargeted : Instr → Option ℕ → ℕ → Instr
-retargeted (Jump old) None t = Jump t
-retargeted (Switch a other arms) None t = Switch a (Some t) arms
-retargeted (Switch a other arms) (Some k) t = Switch a other (retargeted_arm arms k t)
-retargeted i arm t = i
+abbrev pub with_one_target : Instr → Option ℕ → ℕ → Instr
+with_one_target (Jump old) None t = Jump t
+with_one_target (Switch a other arms) None t = Switch a (Some t) arms
+with_one_target (Switch a other arms) (Some k) t = Switch a other (with_arm_target arms k t)
+with_one_target i arm t = i
 
 -- there is an instruction, and it has that target: without a number the target of a jump or the other target of a
 -- switch that has one, with a number an arm of a switch
@@ -69,19 +69,19 @@ IsHoleIn i arm = ⊥
 abbrev pub IsHole : List Instr → Hole → Type 0
 IsHole code h = IsHoleIn (slice_get code h.pc) h.arm
 
--- the code with t as the target at the hole, by `retargeted`; the instruction there is given first, and where it is
--- None the code is unchanged
+-- the code with t as the target at the hole, by `with_one_target`; the instruction there is given first, and where it
+-- is None the code is unchanged
 abbrev pub with_instr : Option Instr → List Instr → Hole → ℕ → List Instr
 with_instr None code h t = code
-with_instr (Some i) code h t = slice_set code h.pc (retargeted i h.arm t)
+with_instr (Some i) code h t = slice_set code h.pc (with_one_target i h.arm t)
 
--- the sheet with t as the target at a hole, by `retargeted`; unchanged where the hole's instruction is not there
-abbrev pub patched : Sheet → Hole → ℕ → Sheet
-patched b h t = record b { code = with_instr (slice_get b.code h.pc) b.code h t }
+-- the sheet with t as the target at a hole, by `with_one_target`; unchanged where the hole's instruction is not there
+abbrev pub with_target_at : Sheet → Hole → ℕ → Sheet
+with_target_at b h t = record b { code = with_instr (slice_get b.code h.pc) b.code h t }
 
 -- the function of the name given whose code the sheet is, with so many results
-abbrev pub finished : Sheet → List ℕ → ℕ → CodeFun
-finished b name results =
+abbrev pub finished_function : Sheet → List ℕ → ℕ → CodeFun
+finished_function b name results =
     record { name = name; params = b.params; results = results; slots = b.slots; body = b.code }
 
 -- each slot behind the parameters, if there is one, is named by some instruction as one that it writes

@@ -13,8 +13,8 @@ use Rattle.rb_target.specs.Sheet.{Sheet}
 use Rattle.rb_target.specs.Validity.{dests}
 
 -- an arm with 0 in place of its target
-abbrev pub untargeted : SwitchArm → SwitchArm
-untargeted arm = record arm { target = 0 }
+abbrev pub without_target : SwitchArm → SwitchArm
+without_target arm = record arm { target = 0 }
 
 -- a switch's other target, if it has one, with 0 in its place
 abbrev pub no_target : Option ℕ → Option ℕ
@@ -24,7 +24,7 @@ no_target (Some t) = Some 0
 -- an instruction with 0 in place of each of its targets; one without targets is itself
 abbrev pub without_targets : Instr → Instr
 without_targets (Jump t) = Jump 0
-without_targets (Switch a other arms) = Switch a (no_target other) (map untargeted arms)
+without_targets (Switch a other arms) = Switch a (no_target other) (map without_target arms)
 without_targets i = i
 
 -- the shape of an instruction, if there is one

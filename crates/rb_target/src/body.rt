@@ -1,8 +1,8 @@
 //! The code of one function while it is made. Instructions and slots are numbered from 0, and a
 //! target is the number of an instruction.
 
-ghost use Rattle.std.specs.Prelude.{◌≡◌, ℕ, ◌+◌, ◌<◌, ◌≤◌, ◌^◌, ◌∷◌, ◌++◌, [], IfOk, OnOk, OnErr, length, Some, Option};
-ghost use Rattle.rb_target.specs.Sheet.{Sheet, most_instrs, most_param_words, pushed, with_slot, patched, finished, retargeted, retargeted_arm, IsHole, IsHoleIn, AreWritten};
+ghost use Rattle.std.specs.Prelude.{◌≡◌, ◌+◌, ◌<◌, ◌≤◌, ◌^◌, [], IfOk, OnOk, OnErr, length, Some, Option};
+ghost use Rattle.rb_target.specs.Sheet.{Sheet, most_instrs, most_param_words, with_more, with_slot, with_target_at, finished_function, with_one_target, with_arm_target, IsHole, IsHoleIn, AreWritten};
 ghost use Rattle.rb_target.specs.Validity.{dest_count};
 
 use crate::code::CodeFun;
@@ -71,7 +71,7 @@ impl Body {
     /// Want of memory, also where the body has `MOST_INSTRS` instructions already. The body stays
     /// as it is.
     pub fn push(&mut self, instr: Instr) -> Result<(), AllocError>
-        ensures ok { OnOk result (self.new ≡ pushed self.old instr) }
+        ensures ok { OnOk result (self.new ≡ with_more self.old instr) }
         ensures err { OnErr result (self.new ≡ self.old) }
     {
         if self.code.len() >= MOST_INSTRS {
@@ -113,7 +113,7 @@ impl Body {
     pub fn patch(&mut self, hole: &Hole, target: usize)
         requires inside { IsHole self.old.code hole.now }
         requires forward { hole.now.pc < target }
-        ensures { self.new ≡ patched self.old hole.now target }
+        ensures { self.new ≡ with_target_at self.old hole.now target }
     {
         let old = self.code.replace(hole.pc, Instr::Jump(target));
         let new = retarget(old, hole.arm, target);
@@ -124,7 +124,7 @@ impl Body {
     /// slots given, each of which some instruction writes.
     pub fn finish(self, name: Name, results: usize) -> CodeFun
         requires { AreWritten self }
-        ensures value { result ≡ finished self name results }
+        ensures value { result ≡ finished_function self name results }
         ensures written { self.slots ≤ self.params + dest_count self.code }
         ensures small { (self.slots < 2 ^ 64) × (length self.code ≤ most_instrs) }
     {
@@ -147,7 +147,7 @@ impl Body {
 // for `None` a jump's own or a switch's other one.
 fn retarget(instr: Instr, arm: Option<usize>, target: usize) -> Instr
     requires { IsHoleIn (Some instr) arm }
-    ensures { result ≡ retargeted instr arm target }
+    ensures { result ≡ with_one_target instr arm target }
 {
     match (instr, arm) {
         (Instr::Switch(slot, _, arms), None) => Instr::Switch(slot, Some(target), arms),
@@ -175,7 +175,7 @@ fn retarget(instr: Instr, arm: Option<usize>, target: usize) -> Instr
 // A switch's arms, of which that with index `k` has this target in place of its own.
 fn retarget_arm(arms: Seq<SwitchArm>, k: usize, target: usize) -> Seq<SwitchArm>
     requires { k < length arms }
-    ensures { result ≡ retargeted_arm arms k target }
+    ensures { result ≡ with_arm_target arms k target }
 {
     let mut arms = arms;
     let number = arms.as_slice()[k].number;

@@ -1,7 +1,7 @@
 //! Whether functions are valid together. Functions, the instructions of a body and slots are
 //! numbered from 0; `pc` is the number of an instruction, `n` that of a function.
 
-ghost use Rattle.std.specs.Prelude.{◌≡◌, ◌↔◌, ◌<◌, ℕ, IsTrue, IsOk, IfOk, OnOk, IfErr, OnErr, Some, slice_get, length, not};
+ghost use Rattle.std.specs.Prelude.{◌≡◌, ◌↔◌, ◌<◌, IsTrue, IsOk, IfOk, OnOk, IfErr, Some, length, not};
 ghost use Rattle.rb_target.specs.Validity.{AreSlots, AreArms, IsTarget, SlotsFit, TargetsFit, CallsFit, EndsInReturn, IsValid, IsValidFun, dests};
 ghost use Rattle.rb_target.specs.Spelled.{AreSpelled};
 ghost use Rattle.rb_target.specs.Faults.{IsFirstCodeFault, InFun, HasBadSlot, HasBadJump, HasBadCall};

@@ -1,6 +1,6 @@
 //! Functions, and code: functions that are valid together.
 
-ghost use Rattle.std.specs.Prelude.{◌≡◌, ℕ};
+ghost use Rattle.std.specs.Prelude.{◌≡◌};
 ghost use Rattle.rb_target.specs.Validity.{IsValid};
 ghost use Rattle.rb_target.specs.Laws.{IsLawful};
 

@@ -10,10 +10,10 @@ ghost use Rattle.rb_core.specs.Meaning.{op_value};
 ghost use Rattle.rb_core.specs.WellNumbered.{is_lower};
 ghost use Rattle.rb_target.specs.declared.body.Hole.{Hole as HoleDecl};
 ghost use Rattle.rb_target.specs.declared.code.CodeFun.{CodeFun as CodeFunDecl};
-ghost use Rattle.rb_target.specs.Calls.{AreCalls, KeepGood};
+ghost use Rattle.rb_target.specs.Calls.{CallLaws, KeepGood};
 ghost use Rattle.rb_target.specs.Meaning.{alu_of};
 ghost use Rattle.rb_target.specs.Operators.{alu_op_of};
-ghost use Rattle.rb_target.specs.Sheet.{Sheet, IsHole, patched};
+ghost use Rattle.rb_target.specs.Sheet.{Sheet, IsHole, with_target_at};
 ghost use Rattle.rb_target.specs.Targets.{SetsTarget};
 ghost use Rattle.rb_target.specs.Validity.{IsLower, IsValid};
 
@@ -22,13 +22,13 @@ ghost use Rattle.rb_target.specs.Validity.{IsLower, IsValid};
 /// are written stay.
 pub fn patching_sets_one_target()
     ensures { (b : Sheet) (h : HoleDecl) (t : ℕ) → IsHole b.code h
-        → SetsTarget b h t (patched b h t) }
+        → SetsTarget b h t (with_target_at b h t) }
 {}
 
 /// A call costs one of the calls that are left, goes through its function's body with one less, and
 /// is spent where there is none. A return tells how many are left then.
 pub fn calls_cost_one()
-    ensures { (funs : List CodeFunDecl) → AreCalls funs }
+    ensures { (funs : List CodeFunDecl) → CallLaws funs }
 {}
 
 /// A call of a function of valid code keeps a good memory good, however it ends.

@@ -6,7 +6,7 @@ use Rattle.std.proofs.lemmas.List.Elements.{All-head, All-tail}
 use Rattle.std.specs.Prelude.{slice_get, slice_index, slice_set, IfSome, All}
 use Rattle.rb_bits.specs.Words.{take_of, put_of}
 use Rattle.rb_bytes.specs.Memory.{Memory, load_of, store_of, place_of}
-use Rattle.rb_target.specs.Meaning.{World, CallEnd, Next, Callee, act, over, switched, with_memory, target_of, alu_of, slots_at, put_slots, after_load, after_store, after_place, after_switch, after_call}
+use Rattle.rb_target.specs.Meaning.{World, CallEnd, Next, Callee, act, over, with_switch, with_memory, target_of, alu_of, slots_at, put_slots, after_load, after_store, after_place, after_switch, after_call}
 use Rattle.rb_target.specs.Validity.{SlotsFit, CallsFit, FitsCall}
 use Rattle.rb_target.specs.declared.outcome.End.TheVariants.{Returned, Trapped}
 use Rattle.rb_bytes.specs.declared.fault.Trap.TheVariants.{Unmatched}
@@ -273,10 +273,10 @@ module _ (h : Hints) (apart : NumbersAreApart h) (funs : List CodeFun) (body : L
       let n1 = near_switched v w near in
       let e : target_of (map (λ (arm : SwitchArm). moved_arm h arm) arms) (landing_in h other) x ≡ landing_in h (target_of arms other x) = moved_target h arms other x in
       subst (λ (k : Instr). IsNoDearer (act k next' new pc' s' v) (act (Switch a other arms) next old pc s w)) (sym m.1)
-      (subst (λ y. IsNoDearer (after_switch (target_of (map (λ (arm : SwitchArm). moved_arm h arm) arms) (landing_in h other) y) y (switched v) (λ t. next' t s' (switched v))) (act (Switch a other arms) next old pc s w)) (sym (named a m.0 m.2))
-      (subst (λ o. IsNoDearer (after_switch o x (switched v) (λ t. next' t s' (switched v))) (act (Switch a other arms) next old pc s w)) (sym e)
-      (switch_near h (target_of arms other x) x (switched v) (switched w) (λ t. next' t s' (switched v)) (λ t. next t s (switched w)) n1
-      (λ t is. go t (landing h t) s s' (switched w) (switched v) (inr (led_to J a s w.memory arms other x t refl leads.1 leads.0 is, refl)) (refl, refl) long long' (as_is (Switch a other arms) (λ n sets. sets)) n1))))
+      (subst (λ y. IsNoDearer (after_switch (target_of (map (λ (arm : SwitchArm). moved_arm h arm) arms) (landing_in h other) y) y (with_switch v) (λ t. next' t s' (with_switch v))) (act (Switch a other arms) next old pc s w)) (sym (named a m.0 m.2))
+      (subst (λ o. IsNoDearer (after_switch o x (with_switch v) (λ t. next' t s' (with_switch v))) (act (Switch a other arms) next old pc s w)) (sym e)
+      (switch_near h (target_of arms other x) x (with_switch v) (with_switch w) (λ t. next' t s' (with_switch v)) (λ t. next t s (with_switch w)) n1
+      (λ t is. go t (landing h t) s s' (with_switch w) (with_switch v) (inr (led_to J a s w.memory arms other x t refl leads.1 leads.0 is, refl)) (refl, refl) long long' (as_is (Switch a other arms) (λ n sets. sets)) n1))))
   acts_alike (Call g ds froms) j m fit fit' call leads jumps go =
       let f : SlotsFit slots' (Call g m.0 m.1) = subst (λ (k : Instr). SlotsFit slots' k) m.2 fit' in
       let words = slots_at s froms in

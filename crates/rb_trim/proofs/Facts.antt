@@ -19,7 +19,7 @@ use Rattle.rb_trim.specs.declared.fact.Content.{Content}
 use Rattle.rb_trim.specs.declared.fact.Content.TheVariants.{Number, Same, Part, Computed, Loaded}
 use Rattle.rb_trim.specs.declared.fact.Fact.{Fact}
 use Rattle.rb_trim.specs.inner.Facts.{IsContent, IsSo, FactSays, Turns, Follows}
-use Rattle.rb_trim.specs.inner.Following.{AreSame, IsAsMuch, IsHeld, IsBelow, IsNarrow, IsLaid, FactIsMade, IsTold, Sets, IsToldBy, WritesTo, Changes, KeepsContent, FollowsOne, FollowsAt, HoldsBehind, IsLoaded, made_of}
+use Rattle.rb_trim.specs.inner.Following.{AreSame, IsAsMuch, IsHeld, IsBelow, IsNarrow, IsLaid, FactIsMade, IsTold, Sets, IsToldBy, WritesTo, Changes, KeepsContent, FollowsOne, FollowsAt, HoldsBehind, IsLoaded, made_fact}
 
 get_at : (xs : List Fact) (k : ℕ) (x : Fact) → k < length xs → get_or xs k x ≡ x → slice_get xs k ≡ Some x
 get_at [] k x lt e = absurd (omega (arith, lt))
@@ -247,7 +247,7 @@ one_content (Part k o l) x y s m a b = a ∙ sym b
 one_content (Computed op n k j) x y s m a b = a ∙ sym b
 one_content (Loaded k offset width) x y s m a b = let e = sym a ∙ b in cc
 
-made_so : (i : Instr) (fact : Fact) (slots : ℕ) (s s' : List ℕ) (m m' : Memory) → made_of i ≡ Some fact → SlotsFit slots i → Turns i s m s' m' → FactIsMade fact slots s s' m m'
+made_so : (i : Instr) (fact : Fact) (slots : ℕ) (s s' : List ℕ) (m m' : Memory) → made_fact i ≡ Some fact → SlotsFit slots i → Turns i s m s' m' → FactIsMade fact slots s s' m m'
 made_so (Const d c) fact slots s s' m m' e fit t = subst (λ (f : Fact). FactIsMade f slots s s' m m') (same_Some _ fact e) (record { word = c; is = refl; slot = t.0; memory = t.1; within = fit })
 made_so (Copy d a) fact slots s s' m m' e fit t = subst (λ (f : Fact). FactIsMade f slots s s' m m') (same_Some _ fact e) (record { word = slice_index s a; is = refl; slot = t.0; memory = t.1; within = fit.0 })
 made_so (Alu op n d a b) fact slots s s' m m' e fit t = subst (λ (f : Fact). FactIsMade f slots s s' m m') (same_Some _ fact e) (record { word = alu_of op n (slice_index s a) (slice_index s b); is = refl; slot = t.0; memory = t.1; within = fit.0 })
@@ -261,7 +261,7 @@ made_so (Switch a other arms) fact slots s s' m m' e fit t = cc
 made_so (Call f ds froms) fact slots s s' m m' e fit t = cc
 made_so (Return froms) fact slots s s' m m' e fit t = cc
 
-made_sets : (i : Instr) (fact : Fact) → made_of i ≡ Some fact → Sets i fact.slot
+made_sets : (i : Instr) (fact : Fact) → made_fact i ≡ Some fact → Sets i fact.slot
 made_sets (Const d c) fact e = subst (λ (f : Fact). Sets (Const d c) f.slot) (same_Some _ fact e) refl
 made_sets (Copy d a) fact e = subst (λ (f : Fact). Sets (Copy d a) f.slot) (same_Some _ fact e) refl
 made_sets (Alu op n d a b) fact e = subst (λ (f : Fact). Sets (Alu op n d a b) f.slot) (same_Some _ fact e) refl
@@ -275,7 +275,7 @@ made_sets (Switch a other arms) fact e = cc
 made_sets (Call f ds froms) fact e = cc
 made_sets (Return froms) fact e = cc
 
-pub told_made : (facts : List Fact) (i : Instr) (made : Fact) (content : Content) → made_of i ≡ Some made → IsAsMuch facts made.content content → IsTold facts i (record { slot = made.slot; content = content })
+pub told_made : (facts : List Fact) (i : Instr) (made : Fact) (content : Content) → made_fact i ≡ Some made → IsAsMuch facts made.content content → IsTold facts i (record { slot = made.slot; content = content })
 told_made facts i made content is much = record {
   sets = made_sets i made is;
   by = λ slots s s' m m' fit hold t.

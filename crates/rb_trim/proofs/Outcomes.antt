@@ -3,7 +3,7 @@ use Rattle.std.proofs.Common.{◌≡◌, ℕ, ◌≤◌, List, Result, Ok, Err, 
 use Rattle.rb_bytes.specs.declared.fault.Full.{Full}
 use Rattle.rb_bytes.specs.declared.fault.Trap.{Trap}
 use Rattle.rb_bytes.specs.Memory.{Memory}
-use Rattle.rb_target.specs.Meaning.{World, CallEnd, over, after_load, after_store, after_place, after_call, taken, switched, with_memory}
+use Rattle.rb_target.specs.Meaning.{World, CallEnd, over, after_load, after_store, after_place, after_call, taken, with_switch, with_memory}
 use Rattle.rb_target.specs.declared.outcome.End.{End}
 use Rattle.rb_target.specs.declared.outcome.End.TheVariants.{Returned, Spent, Full as Filled, Trapped}
 use Rattle.rb_trim.specs.Trimming.{IsNoDearer}
@@ -25,11 +25,11 @@ near_taken v w n = record { left = n.left; memory = n.memory; switches = n.switc
 pub near_behind : (v w : World) → Near v w → Near v (taken w)
 near_behind v w n = record { left = n.left; memory = n.memory; switches = n.switches; taken = omega (arith, n.taken) }
 
-pub near_switched : (v w : World) → Near v w → Near (switched v) (switched w)
+pub near_switched : (v w : World) → Near v w → Near (with_switch v) (with_switch w)
 near_switched v w n = record { left = n.left; memory = n.memory; switches = omega (arith, n.switches); taken = n.taken }
 
 -- a switch that is left out is done by the old code alone
-pub near_more : (v w : World) → Near v w → Near v (switched w)
+pub near_more : (v w : World) → Near v w → Near v (with_switch w)
 near_more v w n = record { left = n.left; memory = n.memory; switches = omega (arith, n.switches); taken = n.taken }
 
 pub near_memory : (v w : World) (m : Memory) → Near v w → Near (with_memory v m) (with_memory w m)

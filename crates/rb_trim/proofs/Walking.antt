@@ -5,7 +5,7 @@ use Rattle.std.proofs.lemmas.Option.{slice_get_within, same_Some}
 use Rattle.std.specs.Prelude.{slice_get, slice_index, slice_set, IfSome, All}
 use Rattle.rb_bits.specs.Words.{take_of}
 use Rattle.rb_bytes.specs.Memory.{load_of}
-use Rattle.rb_target.specs.Meaning.{World, CallEnd, Next, Callee, act, over, taken, from, alu_of, after_load, after_switch, switched, target_of, slots_at}
+use Rattle.rb_target.specs.Meaning.{World, CallEnd, Next, Callee, act, over, taken, from, alu_of, after_load, after_switch, with_switch, target_of, slots_at}
 use Rattle.rb_target.specs.declared.outcome.End.TheVariants.{Returned}
 use Rattle.rb_target.specs.Laws.{Law}
 use Rattle.rb_target.specs.Validity.{IsTarget, TargetsFit, EndsInReturn, IsFine, IsValidFun}
@@ -389,11 +389,11 @@ module _ (funs funs' : List CodeFun) (f q : CodeFun) (valid : IsValidFun funs f)
 
     -- where a switch leads
     switched_to : (u a t : ℕ) (o : Option ℕ) (its : List SwitchArm) → slice_get f.body u ≡ Some (Switch a o its) → pc ≤ u
-        → (v1 : World) (s : List ℕ) (w : World) → LedTo (λ told n. J u (Switch a o its) told n × IsReached h (end h n)) s w.memory t → Near v1 (switched (taken w)) → f.slots ≤ length s → Agree h u s s' → Hold s w.memory (facts_at h u)
-        → IsNoDearer (from q.body new (landing h t) s' v1) (from f.body old t s (switched (taken w)))
+        → (v1 : World) (s : List ℕ) (w : World) → LedTo (λ told n. J u (Switch a o its) told n × IsReached h (end h n)) s w.memory t → Near v1 (with_switch (taken w)) → f.slots ≤ length s → Agree h u s s' → Hold s w.memory (facts_at h u)
+        → IsNoDearer (from q.body new (landing h t) s' v1) (from f.body old t s (with_switch (taken w)))
     switched_to u a t o its at le v1 s w to near long agree hold =
-        goes_to u t to.1.0.0 to.1.0.1 (λ n behind within. rest n (omega (arith, le, behind)) within) to.1.1 s' v1 long' s (switched (taken w)) near long
-        (onward h u (Switch a o its) t s s' to.1.0.2.on.lives (switch_borne s' u a o its s agree)) (holds_on u (Switch a o its) to.0 t at to.1.0.2.on s s w (switched (taken w)) long hold to.2 (refl, refl))
+        goes_to u t to.1.0.0 to.1.0.1 (λ n behind within. rest n (omega (arith, le, behind)) within) to.1.1 s' v1 long' s (with_switch (taken w)) near long
+        (onward h u (Switch a o its) t s s' to.1.0.2.on.lives (switch_borne s' u a o its s agree)) (holds_on u (Switch a o its) to.0 t at to.1.0.2.on s s w (with_switch (taken w)) long hold to.2 (refl, refl))
 
     leads : LeadsAhead (F pc (Switch slot (Some target) arms)) (J pc (Switch slot (Some target) arms)) (Switch slot (Some target) arms) pc
     leads = led pc (Switch slot (Some target) arms) is
@@ -408,13 +408,13 @@ module _ (funs funs' : List CodeFun) (f q : CodeFun) (valid : IsValidFun funs f)
         let e : slice_index s from_slot ≡ x = sym (same.same s s' w.memory agree hold) in
         let i : Instr = Switch from_slot other more in
         let ways : LeadsAhead (F then i) (J then i) i then = led then i following in
-        let near1 : Near v1 (switched (taken w)) = near_more v1 (taken w) (near_behind v1 w near) in
+        let near1 : Near v1 (with_switch (taken w)) = near_more v1 (taken w) (near_behind v1 w near) in
         let P : Option Fact → ℕ → Type 0 = λ told t. J then i told t × IsReached h (end h t) in
         let le : pc ≤ then = omega (arith, leads.0.0, passes_on.0) in
         subst (λ (p : CallEnd). IsNoDearer (after_switch (target_of (map (λ (arm : SwitchArm). moved_arm h arm) more) (landing_in h other) x) x v1 (λ t. from q.body new t s' v1)) p) (sym (law.step then i s w following))
-        (subst (λ y. IsNoDearer (after_switch (target_of (map (λ (arm : SwitchArm). moved_arm h arm) more) (landing_in h other) x) x v1 (λ t. from q.body new t s' v1)) (after_switch (target_of more other y) y (switched (taken w)) (λ t. from f.body old t s (switched (taken w))))) (sym e)
-        (subst (λ (o : Option ℕ). IsNoDearer (after_switch o x v1 (λ t. from q.body new t s' v1)) (after_switch (target_of more other x) x (switched (taken w)) (λ t. from f.body old t s (switched (taken w))))) (sym (moved_target h more other x))
-        (switch_near h (target_of more other x) x v1 (switched (taken w)) (λ t. from q.body new t s' v1) (λ t. from f.body old t s (switched (taken w))) near1
+        (subst (λ y. IsNoDearer (after_switch (target_of (map (λ (arm : SwitchArm). moved_arm h arm) more) (landing_in h other) x) x v1 (λ t. from q.body new t s' v1)) (after_switch (target_of more other y) y (with_switch (taken w)) (λ t. from f.body old t s (with_switch (taken w))))) (sym e)
+        (subst (λ (o : Option ℕ). IsNoDearer (after_switch o x v1 (λ t. from q.body new t s' v1)) (after_switch (target_of more other x) x (with_switch (taken w)) (λ t. from f.body old t s (with_switch (taken w))))) (sym (moved_target h more other x))
+        (switch_near h (target_of more other x) x v1 (with_switch (taken w)) (λ t. from q.body new t s' v1) (λ t. from f.body old t s (with_switch (taken w))) near1
         (λ t to. switched_to then from_slot t other more following le v1 s w
         (led_to P from_slot s w.memory more other x t e (λ k d lt. (ways.1 k d lt, more_come k d lt)) (if_both (J then i None) (λ u. IsReached h (end h u)) other ways.0 other_comes) to) near1 long agree hold))))
 
@@ -423,8 +423,8 @@ module _ (funs funs' : List CodeFun) (f q : CodeFun) (valid : IsValidFun funs f)
         let x = slice_index s' word in
         let e : slice_index s slot ≡ x = sym (name.same s s' w.memory agree hold) in
         let i : Instr = Switch slot (Some target) arms in
-        let v1 = switched (taken v) in
-        let w1 = switched (taken w) in
+        let v1 = with_switch (taken v) in
+        let w1 = with_switch (taken w) in
         let near1 : Near v1 w1 = near_switched (taken v) (taken w) (near_taken v w near) in
         let both_arms = map (λ (arm : SwitchArm). moved_arm h arm) arms ++ map (λ (arm : SwitchArm). moved_arm h arm) more in
         let P : Option Fact → ℕ → Type 0 = λ told t. J pc i told t × IsReached h (end h t) in
@@ -470,7 +470,7 @@ module _ (funs funs' : List CodeFun) (f q : CodeFun) (valid : IsValidFun funs f)
         (each (target_of arms other x) refl))
       where
         w1 : World
-        w1 = switched (taken w)
+        w1 = with_switch (taken w)
 
         near1 : Near (taken v) w1
         near1 = near_more (taken v) (taken w) (near_taken v w near)

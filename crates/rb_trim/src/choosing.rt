@@ -116,7 +116,7 @@ fn is_read_on(rest: &Rest, pc: usize, instr: &Instr, slot: usize) -> bool {
 
 // Those of some slots that are not read from an instruction on, which itself reads `reads`, though
 // a later one reads them.
-fn unread(
+fn unread_slots(
     alloc: Global,
     rest: &Rest,
     slots: &[usize],
@@ -172,7 +172,7 @@ fn choose_one(
             put(&mut rest.reads, *slot, pc.saturating_add(1));
         }
     }
-    let dead = unread(alloc, rest, late, reads.as_slice(), pc, instr)?;
+    let dead = unread_slots(alloc, rest, late, reads.as_slice(), pc, instr)?;
     let end = end_of(rest, pc, instr, is_idle);
     put(&mut rest.ends, pc, end);
     if is_here {
@@ -504,7 +504,7 @@ pub(crate) fn stays(
 
 /// For each slot 1 where an instruction that stays writes it, 2 where only loads would that write
 /// another slot, and else 0. `reached` is as `reach` has it, and `given` as `give` has it.
-pub(crate) fn used(
+pub(crate) fn slot_uses(
     alloc: Global,
     fun: &CodeFun,
     rest: &Rest,

@@ -1,7 +1,7 @@
 //! Whether the numbers of a shorter body fit. Slots and instructions are numbered from 0; a target
 //! is the instruction to which a jump or a switch goes. `hints` have the new number of each slot of
 //! the old body, its number in the shorter body, and for each new number its origin, the slot that
-//! has it.
+//! has it. The first `params` slots are the parameters.
 
 ghost use Rattle.std.specs.Prelude.{◌<◌, ◌≤◌, ◌+◌, ℕ, IsTrue, length};
 ghost use Rattle.rb_target.specs.Validity.{dest_count};
@@ -53,7 +53,9 @@ fn counts_slots(slots: usize, params: usize, body: &[Instr]) -> bool
     unwritten == 0
 }
 
-// Whether the slots, targets and numbers of instruction `pc`, if there is one, fit.
+// Whether instruction `pc`, if there is one, fits a function of `slots` slots: it names slots below
+// that number, its targets are where targets may be, and its bits and ranges are within their
+// bounds.
 fn fits_at(slots: usize, body: &[Instr], pc: usize) -> bool
     ensures { IsTrue result → FitsAt slots body.now pc }
 {

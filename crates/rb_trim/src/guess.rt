@@ -1,12 +1,16 @@
 //! Hints for a body: what is known before each instruction, what is left out, and new numbers,
 //! those of instructions and slots in the shorter body. Nothing rests on their being right.
 
-use crate::choosing::{choose, clear_unreached, give, places_of, put, reach, stays, used};
+use crate::choosing::{
+    Rest, choose, clear_unreached, give, places_of, put, reach, slot_uses, stays,
+};
+use crate::fact::Fact;
 use crate::hints::Hints;
-use crate::learning::{learn, numbers, written};
+use crate::learning::{learn, numbers, written_slots};
 use crate::moving::number_at;
 use rb_core::seq::Seq;
 use rb_target::code::CodeFun;
+use rb_target::instr::Instr;
 use std::alloc::{AllocError, Global};
 
 /// Hints that leave every instruction and number of a function as it is: nothing is known, runs may
@@ -32,6 +36,79 @@ pub(crate) fn identity(alloc: Global, fun: &CodeFun) -> Result<Hints, AllocError
     })
 }
 
+// What is wanted of a body and what is read, as `choose` has it; `facts` has for each instruction
+// what is known before it.
+fn rest_of(alloc: Global, fun: &CodeFun, facts: &[Seq<Fact>]) -> Result<Rest, AllocError> {
+    let late = written_slots(alloc, fun.body.as_slice(), facts)?;
+    choose(alloc, fun, facts, late.as_slice())
+}
+
+// The places of instructions, as hints have them.
+fn new_places(
+    alloc: Global,
+    body: &[Instr],
+    rest: &Rest,
+    reached: &[usize],
+) -> Result<Seq<usize>, AllocError> {
+    let stay = stays(alloc, body, rest, reached)?;
+    places_of(alloc, stay.as_slice())
+}
+
+// The slots of a shorter body, as hints have them: how many there are, the new number of each slot,
+// and the slot of each new number.
+#[derive(Drop)]
+struct Slots {
+    count: usize,
+    names: Seq<usize>,
+    origins: Seq<usize>,
+}
+
+// New numbers for slots: from 0 on for parameters and for what is used, and behind them for slots
+// that only loads would write. `uses` is as `slot_uses` has it, and `reads` as hints have it.
+fn number_slots(
+    alloc: Global,
+    fun: &CodeFun,
+    uses: &[usize],
+    reads: &[usize],
+) -> Result<Slots, AllocError> {
+    let mut names = numbers(alloc, fun.slots, 0, 0)?;
+    let mut origins = Seq::new(alloc);
+    for slot in 0..fun.slots {
+        let is_used = match number_at(uses, slot) {
+            0 => number_at(reads, slot) > 0,
+            uses => uses == 1,
+        };
+        if slot < fun.params || is_used {
+            put(&mut names, slot, origins.len());
+            origins.push(slot)?;
+        }
+    }
+    let count = origins.len();
+    for slot in fun.params..fun.slots {
+        if number_at(uses, slot) == 2 {
+            put(&mut names, slot, origins.len());
+            origins.push(slot)?;
+        }
+    }
+    Ok(Slots {
+        count,
+        names,
+        origins,
+    })
+}
+
+// The slots of the shorter body. `reached` is as `reach` has it, and `given` as `give` has it.
+fn new_slots(
+    alloc: Global,
+    fun: &CodeFun,
+    rest: &Rest,
+    reached: &[usize],
+    given: &[usize],
+) -> Result<Slots, AllocError> {
+    let uses = slot_uses(alloc, fun, rest, reached, given)?;
+    number_slots(alloc, fun, uses.as_slice(), rest.reads.as_slice())
+}
+
 /// Hints for a function that leave out what is known, what is not read and what no run comes to,
 /// and make one of two instructions.
 ///
@@ -41,42 +118,22 @@ pub(crate) fn identity(alloc: Global, fun: &CodeFun) -> Result<Hints, AllocError
 pub(crate) fn guess(alloc: Global, fun: &CodeFun) -> Result<Hints, AllocError> {
     let body = fun.body.as_slice();
     let facts = learn(alloc, body)?;
-    let late = written(alloc, body, facts.as_slice())?;
-    let rest = choose(alloc, fun, facts.as_slice(), late.as_slice())?;
+    let rest = rest_of(alloc, fun, facts.as_slice())?;
     let mut given = give(alloc, body, facts.as_slice(), &rest)?;
     let reached = reach(alloc, body, rest.ends.as_slice(), given.as_slice())?;
     clear_unreached(&mut given, reached.as_slice());
-    let stay = stays(alloc, body, &rest, reached.as_slice())?;
-    let uses = used(alloc, fun, &rest, reached.as_slice(), given.as_slice())?;
-    let mut names = numbers(alloc, fun.slots, 0, 0)?;
-    let mut origins = Seq::new(alloc);
-    for slot in 0..fun.slots {
-        let is_used = match number_at(uses.as_slice(), slot) {
-            0 => number_at(rest.reads.as_slice(), slot) > 0,
-            uses => uses == 1,
-        };
-        if slot < fun.params || is_used {
-            put(&mut names, slot, origins.len());
-            origins.push(slot)?;
-        }
-    }
-    let slots = origins.len();
-    for slot in fun.params..fun.slots {
-        if number_at(uses.as_slice(), slot) == 2 {
-            put(&mut names, slot, origins.len());
-            origins.push(slot)?;
-        }
-    }
+    let places = new_places(alloc, body, &rest, reached.as_slice())?;
+    let slots = new_slots(alloc, fun, &rest, reached.as_slice(), given.as_slice())?;
     Ok(Hints {
-        places: places_of(alloc, stay.as_slice())?,
+        places,
         ends: rest.ends,
         reached,
         given,
         facts,
         dead: rest.dead,
         reads: rest.reads,
-        slots,
-        names,
-        origins,
+        slots: slots.count,
+        names: slots.names,
+        origins: slots.origins,
     })
 }

@@ -2,8 +2,7 @@
 //! what it holds, its content, which is told by the slots that it names. Bits `o` up to `o + l` are
 //! the `l` bits from bit `o` on, as a number.
 
-ghost use Rattle.std.specs.Prelude.{◌≡◌, ◌+◌, ◌<◌, ◌^◌, ℕ, IfSome, IsTrue, Some, Contains};
-ghost use Rattle.rb_bits.specs.Words.{take_of};
+ghost use Rattle.std.specs.Prelude.{◌≡◌, ◌<◌, ◌^◌, IfSome, IsTrue, Some, Contains};
 ghost use Rattle.rb_trim.specs.declared.fact.Content.TheVariants.{Number, Same, Part};
 ghost use Rattle.rb_trim.specs.inner.Following.{AreSame, IsAsMuch, IsHeld, IsNarrow, IsBelow};
 
@@ -44,8 +43,8 @@ fn same_as(fact: &Fact, slot: usize) -> Option<usize>
     }
 }
 
-/// What a slot is known to hold, by the first fact on it; None where there is no fact on it.
-pub(crate) fn content_of(facts: &[Fact], slot: usize) -> Option<Content>
+// What a slot is known to hold, by the first fact on it; None where there is no fact on it.
+fn content_of(facts: &[Fact], slot: usize) -> Option<Content>
     ensures { IfSome result (λ content. IsHeld facts.now slot content) }
 {
     for fact in facts {
@@ -150,7 +149,7 @@ pub(crate) fn part(facts: &[Fact], slot: usize, o: u8, l: u8) -> Content
 }
 
 /// The same content, told by the slots that are known to hold the same words.
-pub(crate) fn resolved(facts: &[Fact], content: Content) -> Content
+pub(crate) fn resolve(facts: &[Fact], content: Content) -> Content
     ensures { IsAsMuch facts.now content result }
 {
     match content {
@@ -184,7 +183,7 @@ fn anew(facts: &[Fact], from: usize) -> Content
 
 /// The same content; where it is another slot's word, what that slot holds is made anew, if one
 /// instruction does it without memory.
-pub(crate) fn remade(facts: &[Fact], content: Content) -> Content
+pub(crate) fn remake(facts: &[Fact], content: Content) -> Content
     ensures { IsAsMuch facts.now content result }
 {
     match content {

@@ -4,8 +4,8 @@
 //! instruction, a place in the body. Behind it is where a run goes on after it, by one of its ways.
 
 use crate::fact::{Content, Fact};
-use crate::knowing::{remade, source};
-use crate::telling::{is_told_by, sets, stays, told};
+use crate::knowing::{remake, source};
+use crate::telling::{is_told_by, sets, stays, told_fact};
 use rb_core::seq::Seq;
 use rb_target::instr::Instr;
 use std::alloc::{AllocError, Global};
@@ -96,7 +96,7 @@ pub(crate) fn holder(facts: &[Fact], content: Content) -> Option<usize> {
 // same as a slot that holds it already. None if nothing is told, or if it would be told by the slot
 // itself, whose word is another one now.
 fn new_fact(facts: &[Fact], instr: &Instr) -> Option<Fact> {
-    let told = told(facts, instr)?;
+    let told = told_fact(facts, instr)?;
     let content = match told.content {
         Content::Same(from) => Content::Same(from),
         Content::Number(_) | Content::Part(..) | Content::Computed(..) | Content::Loaded(..) => {
@@ -234,8 +234,8 @@ pub(crate) fn read_by(
     facts: &[Fact],
     instr: &Instr,
 ) -> Result<Seq<usize>, AllocError> {
-    if let Some(told) = told(facts, instr) {
-        return told_by(alloc, remade(facts, told.content));
+    if let Some(told) = told_fact(facts, instr) {
+        return told_by(alloc, remake(facts, told.content));
     }
     let mut slots = Seq::new(alloc);
     match instr {
@@ -364,7 +364,7 @@ fn join_all(
 }
 
 /// For each instruction some slots that were set on a way to it, and not read on that way.
-pub(crate) fn written(
+pub(crate) fn written_slots(
     alloc: Global,
     body: &[Instr],
     facts: &[Seq<Fact>],

@@ -10,8 +10,8 @@ ghost use Rattle.rb_trim.specs.inner.Moving.{dead_at, end, facts_at, moved_arm, 
 
 use crate::fact::{Content, Fact};
 use crate::hints::{Hints, RETURNS};
-use crate::knowing::{remade, source};
-use crate::telling::told;
+use crate::knowing::{remake, source};
+use crate::telling::told_fact;
 use rb_core::seq::Seq;
 use rb_target::instr::{Instr, SwitchArm};
 use std::alloc::{AllocError, Global};
@@ -249,10 +249,10 @@ fn write(hints: &Hints, facts: &[Fact], pc: usize, told: &Fact) -> Result<Instr,
 fn move_told(hints: &Hints, facts: &[Fact], pc: usize, instr: &Instr) -> Result<Instr, Stop>
     ensures { IfOk result (λ j. IsRemade hints.now facts.now pc instr.now j) }
 {
-    let Some(told) = told(facts, instr) else {
+    let Some(told) = told_fact(facts, instr) else {
         return Err(Stop::Unfit);
     };
-    let content = remade(facts, told.content);
+    let content = remake(facts, told.content);
     let again = Fact {
         slot: told.slot,
         content,
@@ -342,7 +342,7 @@ fn move_other(
 /// # Errors
 ///
 /// A slot that it reads or writes is not to be read or written there, or want of memory.
-pub(crate) fn moved(
+pub(crate) fn moved_instr(
     alloc: Global,
     hints: &Hints,
     facts: &[Fact],
@@ -358,7 +358,7 @@ pub(crate) fn moved(
             Ok(new)
         }
         Instr::Put(d, a, o, l) => {
-            let new = match told(facts, instr) {
+            let new = match told_fact(facts, instr) {
                 None => move_put(hints, facts, pc, *d, *a, *o, *l)?,
                 Some(_) => move_told(hints, facts, pc, instr)?,
             };

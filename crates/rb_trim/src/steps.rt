@@ -7,9 +7,9 @@
 //! switch's slot holds the arm's number; any other way tells nothing. An instruction that need not
 //! be there is idle. Where a test fails the hints do not fit, which is the error `Stop::Unfit`.
 
-ghost use Rattle.std.specs.Prelude.{◌≡◌, ◌⊎◌, ◌+◌, ◌<◌, ◌↔◌, ℕ, None, OnOk, IfOk, IsTrue, Contains, length, slice_get, All, IfSome};
+ghost use Rattle.std.specs.Prelude.{◌≡◌, ◌⊎◌, ◌+◌, ◌<◌, ℕ, None, OnOk, IfOk, IsTrue, length, slice_get, All, IfSome};
 ghost use Rattle.rb_target.specs.declared.instr.SwitchArm.{SwitchArm as SwitchArmDecl};
-ghost use Rattle.rb_trim.specs.inner.Moving.{facts_at, dead_at, end, place, IsUnread, IsReached, IsPlain, IsIdle, IsLeftOut, LivesOn, HintsHold, FallsOn, JumpsOn, EndsWell, tells, IsSkipped, IsMerged, StandsFor};
+ghost use Rattle.rb_trim.specs.inner.Moving.{IsUnread, IsReached, IsPlain, IsIdle, IsLeftOut, LivesOn, HintsHold, FallsOn, JumpsOn, EndsWell, tells, IsSkipped, IsMerged, StandsFor};
 ghost use Rattle.rb_trim.specs.inner.Following.{IsLoaded, Sets};
 ghost use Rattle.rb_trim.specs.inner.Stepping.{JumpsOnAt, LivesAt, IsKnownOn, Steps, Walks};
 
@@ -19,7 +19,8 @@ use crate::giving::into_copy;
 use crate::hints::Hints;
 use crate::knowing::source;
 use crate::moving::{
-    Stop, end_at, is_plain, is_reached, is_read, known_at, moved, place_at, turns_back, unread_at,
+    Stop, end_at, is_plain, is_reached, is_read, known_at, moved_instr, place_at, turns_back,
+    unread_at,
 };
 use crate::returning::into_return;
 use crate::telling::{follow, sets, tells};
@@ -318,7 +319,7 @@ fn is_out(hints: &Hints, pc: usize, instr: &Instr) -> bool
 // The instruction that stands for one of a body and for others behind it: a return, or a switch
 // with the arms of two, for a switch, and else a load for a load and a copy. The hints do not fit
 // where there is no such instruction.
-fn merged(
+fn merged_instr(
     alloc: Global,
     hints: &Hints,
     body: &[Instr],
@@ -351,7 +352,7 @@ fn stands_for(
     ensures { IfOk result (λ j. StandsFor hints.now body.now pc instr.now j) }
 {
     if !is_plain(hints, pc) {
-        let new = merged(alloc, hints, body, pc, instr)?;
+        let new = merged_instr(alloc, hints, body, pc, instr)?;
         return Ok(new);
     }
     let here = place_at(hints, pc);
@@ -362,7 +363,7 @@ fn stands_for(
     if next.saturating_sub(here) != 1 {
         return Err(Stop::Unfit);
     }
-    let new = moved(alloc, hints, known_at(hints, pc), body, pc, instr)?;
+    let new = moved_instr(alloc, hints, known_at(hints, pc), body, pc, instr)?;
     Ok(new)
 }
 

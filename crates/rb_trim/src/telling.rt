@@ -7,17 +7,17 @@
 ghost use Rattle.std.specs.Prelude.{◌≡◌, ◌↔◌, IfSome, IsTrue, Some, Contains};
 ghost use Rattle.rb_target.specs.declared.instr.Instr.TheVariants.{Put};
 ghost use Rattle.rb_trim.specs.inner.Facts.{Follows};
-ghost use Rattle.rb_trim.specs.inner.Following.{IsLaid, IsTold, IsToldBy, WritesTo, Changes, KeepsContent, Sets, FollowsOne, FollowsAt, HoldsBehind, made_of};
+ghost use Rattle.rb_trim.specs.inner.Following.{IsLaid, IsTold, IsToldBy, WritesTo, Changes, KeepsContent, Sets, FollowsOne, FollowsAt, HoldsBehind, made_fact};
 ghost use Rattle.rb_trim.specs.inner.Moving.{tells as tells_of};
 
 use crate::fact::{Content, Fact};
-use crate::knowing::{is_known, is_narrow, part, resolved, source};
+use crate::knowing::{is_known, is_narrow, part, resolve, source};
 use rb_target::instr::Instr;
 
 // What an instruction makes of the slot that it writes, told by the slots before it. None for a
 // put, and for what stores, places, jumps, switches, calls or returns.
-fn made(instr: &Instr) -> Option<Fact>
-    ensures { result ≡ made_of instr.now }
+fn fact_made(instr: &Instr) -> Option<Fact>
+    ensures { result ≡ made_fact instr.now }
 {
     match instr {
         Instr::Const(dest, number) => fact(*dest, Content::Number(*number)),
@@ -46,7 +46,7 @@ fn fact(slot: usize, content: Content) -> Option<Fact>
 
 // What a slot holds once the low `l` bits of another are put into it from bit `o` on, where they
 // replace all that it is known to have; None where they may not.
-fn laid(facts: &[Fact], slot: usize, from: usize, o: u8, l: u8) -> Option<Content>
+fn put_content(facts: &[Fact], slot: usize, from: usize, o: u8, l: u8) -> Option<Content>
     ensures { IfSome result (λ content. IsLaid facts.now slot from o l content) }
 {
     let old = source(facts, slot);
@@ -64,7 +64,7 @@ fn laid(facts: &[Fact], slot: usize, from: usize, o: u8, l: u8) -> Option<Conten
 fn told_put(facts: &[Fact], slot: usize, from: usize, o: u8, l: u8) -> Option<Fact>
     ensures { IfSome result (λ fact. IsTold facts.now (Put slot from o l) fact) }
 {
-    let Some(content) = laid(facts, slot, from, o, l) else {
+    let Some(content) = put_content(facts, slot, from, o, l) else {
         return None;
     };
     Some(Fact { slot, content })
@@ -75,10 +75,10 @@ fn told_put(facts: &[Fact], slot: usize, from: usize, o: u8, l: u8) -> Option<Fa
 fn told_made(facts: &[Fact], instr: &Instr) -> Option<Fact>
     ensures { IfSome result (λ fact. IsTold facts.now instr.now fact) }
 {
-    let Some(made) = made(instr) else {
+    let Some(made) = fact_made(instr) else {
         return None;
     };
-    let content = resolved(facts, made.content);
+    let content = resolve(facts, made.content);
     Some(Fact {
         slot: made.slot,
         content,
@@ -87,7 +87,7 @@ fn told_made(facts: &[Fact], instr: &Instr) -> Option<Fact>
 
 /// What an instruction makes of the slot that it writes, told by what is known; None where that
 /// cannot be told, as of what stores, places, jumps, switches, calls or returns.
-pub(crate) fn told(facts: &[Fact], instr: &Instr) -> Option<Fact>
+pub(crate) fn told_fact(facts: &[Fact], instr: &Instr) -> Option<Fact>
     ensures { IfSome result (λ fact. IsTold facts.now instr.now fact) }
 {
     match instr {
@@ -198,7 +198,7 @@ fn keeps_content(instr: &Instr, content: &Content) -> bool
 fn is_made(facts: &[Fact], instr: &Instr, fact: &Fact) -> bool
     ensures { IsTrue result → FollowsOne facts.now instr.now fact.now }
 {
-    let Some(told) = told(facts, instr) else {
+    let Some(told) = told_fact(facts, instr) else {
         return false;
     };
     if fact.slot != told.slot {

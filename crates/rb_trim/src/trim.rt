@@ -5,7 +5,7 @@
 
 ghost use Rattle.std.specs.Prelude.{◌≡◌, IfOk, IsTrue, [], length};
 ghost use Rattle.rb_trim.specs.Trimming.{IsTrimOf};
-ghost use Rattle.rb_trim.specs.inner.Moving.{IsTrimmed, facts_at, IsReached};
+ghost use Rattle.rb_trim.specs.inner.Moving.{IsTrimmed, facts_at};
 ghost use Rattle.rb_trim.specs.inner.Stepping.{AreTrimmed};
 
 use crate::fit::{are_apart, fits, keep_params};
@@ -63,21 +63,23 @@ fn trim_by(alloc: Global, fun: &CodeFun, hints: &Hints) -> Result<CodeFun, Stop>
     })
 }
 
+// A function that does what another does, as hints tell that are of no use behind it. An `Err` says
+// that they do not fit, or want of memory.
+fn trim_once(alloc: Global, fun: &CodeFun, hints: Hints) -> Result<CodeFun, Stop>
+    ensures { IfOk result (λ q. IsTrimmed fun.now q) }
+{
+    trim_by(alloc, fun, &hints)
+}
+
 // A function that does the same with no more instructions: as the guessed hints tell, or, should
 // these not fit, with one for each of its own. An `Err` says that not even this fits, or want of
 // memory.
 fn trim_fun(alloc: Global, fun: &CodeFun) -> Result<CodeFun, Stop>
     ensures { IfOk result (λ q. IsTrimmed fun.now q) }
 {
-    let hints = guess(alloc, fun)?;
-    match trim_by(alloc, fun, &hints) {
-        Ok(new) => Ok(new),
-        Err(Stop::Memory) => Err(Stop::Memory),
-        Err(Stop::Unfit) => {
-            let hints = identity(alloc, fun)?;
-            let new = trim_by(alloc, fun, &hints)?;
-            Ok(new)
-        }
+    match trim_once(alloc, fun, guess(alloc, fun)?) {
+        Err(Stop::Unfit) => trim_once(alloc, fun, identity(alloc, fun)?),
+        done => done,
     }
 }
 

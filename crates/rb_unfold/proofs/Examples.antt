@@ -18,7 +18,7 @@ use Rattle.rb_layout.specs.declared.layout.Kind.{Kind}
 use Rattle.rb_layout.specs.declared.layout.Kind.TheVariants.{Const, Bits, Word, Pointer}
 use Rattle.rb_layout.specs.Items.{Content, Number, Slice, WordOf, Address}
 use Rattle.rb_layout.proofs.Computing.{flat_rules}
-use Rattle.rb_unfold.specs.Unfolding.{Seen, Begins, Has, Opens, Closes, unfolded, leaf_written}
+use Rattle.rb_unfold.specs.Unfolding.{Seen, Begins, Has, Opens, Closes, leaf_unfolding, leaf_written}
 use Rattle.rb_unfold.proofs.Written.{written_rules}
 
 abbrev part : ℕ → ℕ → Kind → Part
@@ -42,7 +42,7 @@ cons_seen =
     Begins 64 ∷ has 0 1 (Number 0) ∷ has 3 61 (Address 8) ∷ Opens ∷ Begins 64 ∷ has 0 64 (Slice (0 ∷ []) 0 64)
     ∷ Begins 64 ∷ has 0 64 (WordOf (1 ∷ []) 0) ∷ Closes ∷ []
 
-cons_is : unfolded (leaf (word (part 0 1 (Const 0) ∷ part 3 61 (Pointer 8 0) ∷ []) ∷ [])
+cons_is : leaf_unfolding (leaf (word (part 0 1 (Const 0) ∷ part 3 61 (Pointer 8 0) ∷ []) ∷ [])
     (block (word (part 0 64 (Bits (0 ∷ []) 0) ∷ []) ∷ word (part 0 64 (Word (1 ∷ []) 0) ∷ []) ∷ []) ∷ [])) ≡ cons_seen
 cons_is = refl
 
@@ -75,21 +75,21 @@ two_pointers b c blocks = leaf (word (part 0 32 (Pointer 8 b) ∷ part 32 32 (Po
 abbrev two : Leaf
 two = two_pointers 0 1 (block (number 1 ∷ number 2 ∷ []) ∷ block (number 3 ∷ []) ∷ [])
 
-two_are : unfolded two
+two_are : leaf_unfolding two
     ≡ Begins 64 ∷ has 0 32 (Address 8) ∷ Opens ∷ Begins 64 ∷ has 0 64 (Number 1) ∷ Begins 64 ∷ has 0 64 (Number 2) ∷ Closes
     ∷ has 32 32 (Address 8) ∷ Opens ∷ Begins 64 ∷ has 0 64 (Number 3) ∷ Closes ∷ []
 two_are = refl
 
 -- with its blocks swapped, or with a word moved from one to the other, the same parts unfold to something else
-swapped_differ : unfolded (two_pointers 1 0 (block (number 1 ∷ number 2 ∷ []) ∷ block (number 3 ∷ []) ∷ [])) ≡ unfolded two → ⊥
+swapped_differ : leaf_unfolding (two_pointers 1 0 (block (number 1 ∷ number 2 ∷ []) ∷ block (number 3 ∷ []) ∷ [])) ≡ leaf_unfolding two → ⊥
 swapped_differ e = cc
 
-moved_differ : unfolded (two_pointers 0 1 (block (number 1 ∷ []) ∷ block (number 2 ∷ number 3 ∷ []) ∷ [])) ≡ unfolded two → ⊥
+moved_differ : leaf_unfolding (two_pointers 0 1 (block (number 1 ∷ []) ∷ block (number 2 ∷ number 3 ∷ []) ∷ [])) ≡ leaf_unfolding two → ⊥
 moved_differ e = cc
 
 -- word 64 { [0:61] -> 8 { word 64 { [0:61] -> 8 { word 64 { [0:64] = 1 } }, [61:3] = 5 } } }:
 -- the inner block is numbered first
-inner_is : unfolded (leaf (word (part 0 61 (Pointer 8 1) ∷ []) ∷ [])
+inner_is : leaf_unfolding (leaf (word (part 0 61 (Pointer 8 1) ∷ []) ∷ [])
     (block (number 1 ∷ []) ∷ block (word (part 0 61 (Pointer 8 0) ∷ part 61 3 (Const 5) ∷ []) ∷ []) ∷ []))
     ≡ Begins 64 ∷ has 0 61 (Address 8) ∷ Opens ∷ Begins 64 ∷ has 0 61 (Address 8) ∷ Opens ∷ Begins 64 ∷ has 0 64 (Number 1) ∷ Closes ∷ has 61 3 (Number 5) ∷ Closes ∷ []
 inner_is = refl

@@ -12,6 +12,7 @@ use Rattle.rb_core.specs.declared.layout_decl.PartKind.{PartKind}
 use Rattle.rb_core.specs.declared.layout_decl.PartKind as K
 use Rattle.rb_core.specs.declared.layout_decl.PartDecl.{PartDecl}
 use Rattle.rb_core.specs.declared.layout_decl.LayoutDecl.{LayoutDecl}
+use Rattle.rb_core.proofs.LayoutInduction.{item-induction}
 use Rattle.rb_layout.specs.declared.layout.Leaf.{Leaf}
 use Rattle.rb_layout.specs.declared.layout.Block.{Block}
 use Rattle.rb_layout.specs.declared.layout.FlatWord.{FlatWord}
@@ -24,7 +25,6 @@ use Rattle.rb_layout.specs.Flattening.{WithBlocks, Laying, in_turn, item_laid, k
 use Rattle.rb_layout.specs.Items.{Content, Slice, WordOf, Address}
 use Rattle.rb_layout.specs.Placing.{whole_placed, if_open}
 use Rattle.rb_layout.proofs.FlatForms.{Each}
-use Rattle.rb_layout.proofs.WrittenForms.{item-induction}
 use Rattle.rb_layout.proofs.Computing.{word_laid, inline_laid, const_laid, whole_laid, slice_laid, word_of_laid, pointer_laid, part_laid_is}
 use Rattle.rb_layout.proofs.Blocks.{get_left, get_right}
 use Rattle.rb_unfold.specs.Unfolding.{Seen, Begins, Has, in_block, part_seen, word_seen, words_seen, block_seen, Nested, seen_word, item_written, UnfoldingGivesBack}

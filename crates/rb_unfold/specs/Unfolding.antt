@@ -59,8 +59,8 @@ block_seen leaf (suc depth) b = words_seen (block_seen leaf depth) (words_in lea
 
 -- all that is seen of a leaf along its pointers: these lead from a block to blocks of lower numbers, so no way along
 -- them passes more blocks than the leaf has
-abbrev pub unfolded : Leaf → List Seen
-unfolded leaf = words_seen (block_seen leaf (length leaf.blocks)) leaf.root
+abbrev pub leaf_unfolding : Leaf → List Seen
+leaf_unfolding leaf = words_seen (block_seen leaf (length leaf.blocks)) leaf.root
 
 -- As it is written ----------------------------------------------------------------------------
 
@@ -107,4 +107,4 @@ leaf_written types decls w = flat_map (item_written decls (open_positions types 
 -- the flat form of a leaf, unfolded along its pointers, gives back what is written of it
 abbrev pub UnfoldingGivesBack : Type 0
 UnfoldingGivesBack = (types : List DataDecl) (decls : List LayoutDecl) (w : WrittenLeaf)
-    → unfolded (flat_leaf types decls w) ≡ leaf_written types decls w
+    → leaf_unfolding (flat_leaf types decls w) ≡ leaf_written types decls w

@@ -1,5 +1,6 @@
 -- The text of a value of a type spells a term that fits the type and names that value.
-use Rattle.std.proofs.Common.{◌≡◌, ℕ, zero, suc, ◌+◌, ◌<◌, ◌≤◌, ◌^◌, List, [], ◌∷◌, ◌++◌, length, map, codes, nat_lt, nat_le, Bool, true, false, not, ◌&&◌, ◌==◌, Option, Some, None, option_map, Ok, slice_get, refl, sym, ◌∙◌, ap, subst, arith, length-append, append_assoc, append-nil, pow_mono}
+use Rattle.std.proofs.Common.{◌≡◌, ℕ, zero, suc, ◌+◌, ◌<◌, ◌≤◌, ◌^◌, List, [], ◌∷◌, ◌++◌, length, map, codes, nat_lt, nat_le, true, false, not, ◌&&◌, ◌==◌, Option, Some, None, option_map, Ok, slice_get, refl, sym, ◌∙◌, ap, subst, arith, length-append, append_assoc, append-nil, pow_mono}
+use Rattle.std.specs.Prelude.{unwrap_or}
 use Rattle.std.specs.Fmt.{decimal}
 use Rattle.std.specs.List.{list_all, list_any, flat_map, prefix_len}
 use Rattle.std.specs.Str.{bytes_eq}
@@ -18,24 +19,19 @@ use Rattle.rb_core.specs.Typing.{type_holds}
 use Rattle.rb_core.specs.Texts.{con_name, con_text}
 use Rattle.rb_core.specs.Values.{con_in as core_con_in, con_of, fields_of_con, fields_in, all_of_types, are_of, is_of_type, node_count}
 use Rattle.rb_core.specs.WellNumbered.{is_distinct, is_upper, is_between, is_type, con_names, con_is_numbered, type_is_numbered}
+use Rattle.rb_core.proofs.MatchingLemmas.{all_at}
 use Rattle.rb_core.proofs.ValueLaws.{Each, induction, is_of_type-Num, is_of_type-Con, fold-Num, fold-Con}
 use Rattle.rb_syntax.specs.Fronts.{Front, front}
 use Rattle.rb_values.specs.declared.sign.Sign.{Sign}
 use Rattle.rb_values.specs.declared.sign.Sign.TheVariants as sign
-use Rattle.rb_values.specs.Terms.{Term, Terms, number, build, none, also, term_count, term_nodes, spelled, in_parens, others, signs}
-use Rattle.rb_values.specs.Fitting.{con_index, con_in, con_named, con_fields, misfits_of, misfits, misfits_each, con_number, or_none, value_of, values_of}
+use Rattle.rb_values.specs.Terms.{Term, Terms, number, build, none, also, term_count, term_nodes, term_signs, in_parens, others, signs}
+use Rattle.rb_values.specs.Fitting.{con_index, con_in, con_named, con_fields, misfits_of, misfits, misfits_each, con_number, value_of, values_of}
 use Rattle.rb_values.specs.Texts.{con_ref, type_of_field, field_of, before, after_last, fields_text, text_step, text_of}
 use Rattle.rb_values.specs.Reading.{ValueIsRead}
 use Rattle.rb_values.specs.Laws.{AreDeclared, IsReadAs}
 use Rattle.rb_values.proofs.FittingLemmas.{as-many}
 use Rattle.rb_values.proofs.AnswerLemmas.{one-answer}
 use Rattle.rb_values.proofs.CuttingLemmas.{Shows, shows-end, shows-open, shows-close, shows-comma, Stops, shows-name, shows-number}
-
--- what holds of all items holds of each
-all-at : {A : Type 0} (p : A → Bool) (xs : List A) (k : ℕ) (x : A) → list_all p xs ≡ true → slice_get xs k ≡ Some x → p x ≡ true
-all-at p [] k x all e = cc
-all-at p (y ∷ ys) zero x all e = let same : y ≡ x = cc in ap p (sym same) ∙ (and_parts (p y) (list_all p ys) all).0
-all-at p (y ∷ ys) (suc k) x all e = all-at p ys k x (and_parts (p y) (list_all p ys) all).1 e
 
 -- Names of constructors ---------------------------------------------------------------------------
 
@@ -154,7 +150,7 @@ module _ (types : List DataDecl) where
     term : Term
     fits : misfits types term ty ≡ []
     value : value_of types term ty ≡ v
-    says : Says at (text_of types v ty) (spelled term)
+    says : Says at (text_of types v ty) (term_signs term)
 
   abbrev Claim : Value → Type 0
   Claim v = (ty : Ty) → is_type types ty ≡ true → is_of_type types v ty ≡ true → (at : ℕ) → IsSpelled ty at v
@@ -172,11 +168,11 @@ module _ (types : List DataDecl) where
   one-more : (t : Ty) (ts : List Ty) (at : ℕ) (v : Value) (vs : List Value) (more : List ℕ) (s : IsSpelled t at v)
       → (r : AreSpelled ts (at + length (text_of types v t)) vs more others)
       → (misfits types s.term t ++ misfits_each types r.terms ts ≡ []) × (value_of types s.term t ∷ values_of types r.terms ts ≡ v ∷ vs)
-      × Says at (text_of types v t ++ more) (λ ss. spelled s.term (others r.terms ss))
+      × Says at (text_of types v t ++ more) (λ ss. term_signs s.term (others r.terms ss))
   one-more t ts at v vs more s r = (
     rw (s.fits, r.fits) refl,
     rw (s.value, r.values) refl,
-    says-both at (text_of types v t) more (spelled s.term) (others r.terms) r.ahead s.says r.says,
+    says-both at (text_of types v t) more (term_signs s.term) (others r.terms) r.ahead s.says r.says,
   )
 
   behind : (vs : List Value) → Each Claim vs → (tys : List Ty) (f : ℕ → Ty) (j at : ℕ) → 0 < j → AreFrom f j tys → list_all (is_type types) tys ≡ true
@@ -252,7 +248,7 @@ module _ (types : List DataDecl) where
         term = number at n;
         fits = rw held refl;
         value = refl;
-        says = subst (λ (text : List ℕ). Says at text (spelled (number at n))) (sym (text-Num types n (Int bits)))
+        says = subst (λ (text : List ℕ). Says at text (term_signs (number at n))) (sym (text-Num types n (Int bits)))
             (λ from rest ss stops e shown. shows-number at from n rest ss small stops e shown);
       }
   number-spelled n (Named t) known e at = let no : false ≡ true = sym (is_of_type-Num types n (Named t)) ∙ e in cc
@@ -279,9 +275,9 @@ module _ (types : List DataDecl) where
     module _ (t k : ℕ) (vs : List Value) (b : Built t k vs) where
       con-numbered : con_is_numbered types b.con ≡ true
       con-numbered =
-          let d = all-at (type_is_numbered types) types t b.data_type declared.numbered b.is_type in
+          let d = all_at (type_is_numbered types) types t b.data_type declared.numbered b.is_type in
           let counts = and_parts (is_upper b.data_type.name) (is_between 1 256 (length b.data_type.cons) && list_all (con_is_numbered types) b.data_type.cons) d in
-          all-at (con_is_numbered types) b.data_type.cons k b.con (and_parts (is_between 1 256 (length b.data_type.cons)) (list_all (con_is_numbered types) b.data_type.cons) counts.1).1 b.is_con
+          all_at (con_is_numbered types) b.data_type.cons k b.con (and_parts (is_between 1 256 (length b.data_type.cons)) (list_all (con_is_numbered types) b.data_type.cons) counts.1).1 b.is_con
 
       named : is_upper b.con.name ≡ true
       named = (and_parts (is_upper b.con.name) (nat_le (length b.con.fields) 32 && list_all (is_type types) b.con.fields) con-numbered).0
@@ -321,10 +317,10 @@ module _ (types : List DataDecl) where
           record {
             term = build at b.con.name r.terms;
             fits = ap (misfits_of at (term_count r.terms) (misfits_each types r.terms)) its-fields ∙ rw same r.fits;
-            value = ap (λ (o : Option (List Ty)). val.Con (con_number (con_named types (Named t) b.con.name)) (values_of types r.terms (or_none o))) its-fields
+            value = ap (λ (o : Option (List Ty)). val.Con (con_number (con_named types (Named t) b.con.name)) (values_of types r.terms (unwrap_or o []))) its-fields
                 ∙ ap (λ (o : Option ConRef). val.Con (con_number o) (values_of types r.terms b.con.fields)) con-named
                 ∙ ap (λ (vs : List Value). val.Con k vs) r.values;
-            says = subst (λ (text : List ℕ). Says at text (spelled (build at b.con.name r.terms))) (sym text)
+            says = subst (λ (text : List ℕ). Says at text (term_signs (build at b.con.name r.terms))) (sym text)
                 (says-both at b.con.name (fields_text (field_of types its-ref) 0 (map (text_of types) vs)) (λ ss. sign.Name at b.con.name ∷ ss) (in_parens r.terms) r.ahead
                 (λ from rest ss stops e shown. shows-name at from b.con.name rest ss named stops e shown) r.says);
           }
@@ -341,8 +337,8 @@ module _ (types : List DataDecl) where
       read =
           let s : IsSpelled ty 0 v = spelled-at v ty known typed 0 in
           let text : List ℕ = text_of types v ty in
-          let shown : Shows 0 (text ++ []) (spelled s.term []) = s.says (length text) [] [] refl (omega arith) (shows-end (length text)) in
-          let whole : Shows 0 text (spelled s.term []) = subst (λ (bytes : List ℕ). Shows 0 bytes (spelled s.term [])) (append-nil text) shown in
+          let shown : Shows 0 (text ++ []) (term_signs s.term []) = s.says (length text) [] [] refl (omega arith) (shows-end (length text)) in
+          let whole : Shows 0 text (term_signs s.term []) = subst (λ (bytes : List ℕ). Shows 0 bytes (term_signs s.term [])) (append-nil text) shown in
           let tokens : front text ≡ record { tokens = whole.tokens; fault = None } = whole.cut (length text) (omega arith) in
           let nodes : node_count v ≡ term_nodes s.term = ap node_count (sym s.value) ∙ as-many types s.term ty s.fits in
           record {

@@ -1,5 +1,6 @@
 -- A term that fits a type names a value of that type with as many nodes.
 use Rattle.std.proofs.Common.{◌≡◌, ℕ, ◌+◌, ◌≤◌, List, [], ◌∷◌, ◌++◌, length, map, sum, Bool, true, false, ◌==◌, if◌then◌else◌, Option, Some, None, Result, Ok, Err, IfOk, option_map, slice_get, refl, ◌∙◌, ap, arith}
+use Rattle.std.specs.Prelude.{unwrap_or}
 use Rattle.std.proofs.lemmas.Bool.{eqb-true, and_from}
 use Rattle.rb_core.specs.declared.value.Value.{Value, Num}
 use Rattle.rb_core.specs.declared.value.Value as val
@@ -13,7 +14,7 @@ use Rattle.rb_core.proofs.ValueLaws.{is_of_type-Num, is_of_type-Con, node_count-
 use Rattle.rb_values.specs.declared.fault.ValueFault.{ValueFault}
 use Rattle.rb_values.specs.Reading.{ValueIsRead}
 use Rattle.rb_values.specs.Terms.{Term, Terms, number, build, none, also, term_count, term_nodes, terms_nodes}
-use Rattle.rb_values.specs.Fitting.{con_index, con_in, con_named, con_fields, misfits_of, misfits, misfits_each, con_number, or_none, value_of, values_of}
+use Rattle.rb_values.specs.Fitting.{con_index, con_in, con_named, con_fields, misfits_of, misfits, misfits_each, con_number, value_of, values_of}
 use Rattle.rb_values.proofs.PrintLemmas.{nodes-cons}
 
 fits-one : (b : Bool) (at : ℕ) (each : List ℕ) → (if b then each else at ∷ []) ≡ [] → (b ≡ true) × (each ≡ [])
@@ -75,7 +76,7 @@ module _ (types : List DataDecl) where
         count = r.2;
         each = r.3;
         value = λ at.
-            ap (λ (o : Option (List Ty)). val.Con (con_number (con_named types ty name)) (values_of types fields (or_none o))) r.1
+            ap (λ (o : Option (List Ty)). val.Con (con_number (con_named types ty name)) (values_of types fields (unwrap_or o []))) r.1
             ∙ ap (λ (o : Option ConRef). val.Con (con_number o) (values_of types fields r.0)) c.1;
       }
 

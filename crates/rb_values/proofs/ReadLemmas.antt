@@ -13,7 +13,7 @@ use Rattle.rb_values.specs.Terms.{Term, build, none, term_nodes, sign_of, signs}
 use Rattle.rb_values.specs.Fitting.{first}
 use Rattle.rb_values.specs.Reading.{StopsAt, token, refused, ended, ValueIsRead}
 use Rattle.rb_values.specs.inner.States.{Wait, State, expecting, named, complete, step, end_of, term_of, IsStateOf, outline_of, outline_or_none, mode_whole}
-use Rattle.rb_values.specs.inner.Typing.{settled}
+use Rattle.rb_values.specs.inner.Typing.{settled_state}
 use Rattle.rb_values.specs.inner.Finishing.{IsSettled, IsFinished}
 use Rattle.rb_values.proofs.SpellingLemmas.{begins, reached_first, reached_next, stops, is_part, is_whole, whole_same, nodes_whole}
 
@@ -49,7 +49,7 @@ end-settled : (t : Term) (os : List Wait) (v : Term) → end_of t os ≡ Some v 
 end-settled t [] v e = let q : t ≡ v = cc in ap (λ (t : Term). complete t []) q
 end-settled t (o ∷ os) v e = cc
 
-pub settled-whole : (s : State) (t : Term) → term_of s ≡ Some t → settled s ≡ complete t []
+pub settled-whole : (s : State) (t : Term) → term_of s ≡ Some t → settled_state s ≡ complete t []
 settled-whole (expecting os) t e = cc
 settled-whole (named at x os) t e = end-settled (build at x none) os t e
 settled-whole (complete u os) t e = end-settled u os t e

@@ -7,7 +7,7 @@ use Rattle.rb_values.specs.declared.sign.Sign.TheVariants as sign
 use Rattle.rb_values.specs.declared.outline.Mode.{Mode}
 use Rattle.rb_values.specs.declared.outline.Mode.TheVariants as mode
 use Rattle.rb_values.specs.declared.outline.Outline.{Outline}
-use Rattle.rb_values.specs.Terms.{Term, Terms, number, build, none, also, spelled, in_parens, others, term_nodes, terms_nodes}
+use Rattle.rb_values.specs.Terms.{Term, Terms, number, build, none, also, term_signs, in_parens, others, term_nodes, terms_nodes}
 use Rattle.rb_values.specs.Reading.{IsSignFront}
 use Rattle.rb_values.specs.inner.States.{Wait, snoc, waits, longer, whole, State, expecting, named, complete, then_on, step, end_of, term_of, on, answer, each, signs_of_waits, signs_of_state, IsStateOf, waits_nodes, outline_of, outline_or_none, outline_behind, outline_on, outline_step, mode_whole}
 
@@ -51,7 +51,7 @@ plus-none none v = refl
 plus-none (also u us) v = ap (also u) (plus-none us v)
 
 mutual
-  pub reads : (t : Term) (os : List Wait) (rest : List Sign) → Closes rest → answer (expecting os) (spelled t rest) ≡ answer (complete t os) rest
+  pub reads : (t : Term) (os : List Wait) (rest : List Sign) → Closes rest → answer (expecting os) (term_signs t rest) ≡ answer (complete t os) rest
   reads (number at n) os rest c = refl
   reads (build at x none) os rest c = bare at x os rest c
   reads (build at x (also v vs)) os rest c =
@@ -66,20 +66,20 @@ mutual
       ∙ ap (λ (fs : Terms). answer (complete (build at x fs) os) rest) (plus-snoc us v w ws)
 
 -- a spelled term is read as itself
-pub again : (t : Term) → answer (expecting []) (spelled t []) ≡ Some t
+pub again : (t : Term) → answer (expecting []) (term_signs t []) ≡ Some t
 again t = reads t [] [] tt
 
-others_end : (us : Terms) (v : Term) (rest : List Sign) → others (snoc us v) rest ≡ sign.Comma ∷ each us (spelled v (sign.Close ∷ rest))
+others_end : (us : Terms) (v : Term) (rest : List Sign) → others (snoc us v) rest ≡ sign.Comma ∷ each us (term_signs v (sign.Close ∷ rest))
 others_end none v rest = refl
-others_end (also u us) v rest = ap (λ (l : List Sign). sign.Comma ∷ spelled u l) (others_end us v rest)
+others_end (also u us) v rest = ap (λ (l : List Sign). sign.Comma ∷ term_signs u l) (others_end us v rest)
 
-parens_end : (us : Terms) (v : Term) (rest : List Sign) → in_parens (snoc us v) rest ≡ sign.Open ∷ each us (spelled v (sign.Close ∷ rest))
+parens_end : (us : Terms) (v : Term) (rest : List Sign) → in_parens (snoc us v) rest ≡ sign.Open ∷ each us (term_signs v (sign.Close ∷ rest))
 parens_end none v rest = refl
-parens_end (also u us) v rest = ap (λ (l : List Sign). sign.Open ∷ spelled u l) (others_end us v rest)
+parens_end (also u us) v rest = ap (λ (l : List Sign). sign.Open ∷ term_signs u l) (others_end us v rest)
 
-each_end : (us : Terms) (v : Term) (rest : List Sign) → each (snoc us v) rest ≡ each us (spelled v (sign.Comma ∷ rest))
+each_end : (us : Terms) (v : Term) (rest : List Sign) → each (snoc us v) rest ≡ each us (term_signs v (sign.Comma ∷ rest))
 each_end none v rest = refl
-each_end (also u us) v rest = ap (λ (l : List Sign). spelled u (sign.Comma ∷ l)) (each_end us v rest)
+each_end (also u us) v rest = ap (λ (l : List Sign). term_signs u (sign.Comma ∷ l)) (each_end us v rest)
 
 abbrev Shows : State → Sign → List Sign → Option State → Type 0
 Shows s t ts None = Unit {0}
@@ -123,14 +123,14 @@ abbrev wrapped : Term → List Wait → Term
 wrapped v [] = v
 wrapped v (o ∷ os) = wrapped (whole (longer o v)) os
 
-closing : (v : Term) (os : List Wait) → signs_of_state (complete v os) (closes os) ≡ spelled (wrapped v os) []
+closing : (v : Term) (os : List Wait) → signs_of_state (complete v os) (closes os) ≡ term_signs (wrapped v os) []
 closing v [] = refl
 closing v (o ∷ os) = show_then v (o ∷ os) sign.Close (closes os) ∙ closing (whole (longer o v)) os
 
 pub record Ends (s : State) : Type 0 where
   pub tree : Term
   pub more : List Sign
-  pub spells : signs_of_state s more ≡ spelled tree []
+  pub spells : signs_of_state s more ≡ term_signs tree []
 
 ends : (s : State) → Ends s
 ends (expecting os) = record { more = sign.Number 0 0 ∷ closes os; tree = wrapped (number 0 0) os; spells = closing (number 0 0) os }
@@ -141,11 +141,11 @@ ends (complete v os) = record { more = closes os; tree = wrapped v os; spells = 
 pub begins : (ss : List Sign) (s : State) → IsStateOf ss s → IsSignFront ss
 begins ss s r = let e = ends s in (e.tree, e.more, sym (r.said e.more) ∙ e.spells)
 
-shown_end : (v w : Term) (os : List Wait) → end_of v os ≡ Some w → signs_of_state (complete v os) [] ≡ spelled w []
-shown_end v w [] e = let s : v ≡ w = cc in ap (λ (t : Term). spelled t []) s
+shown_end : (v w : Term) (os : List Wait) → end_of v os ≡ Some w → signs_of_state (complete v os) [] ≡ term_signs w []
+shown_end v w [] e = let s : v ≡ w = cc in ap (λ (t : Term). term_signs t []) s
 shown_end v w (o ∷ os) e = cc
 
-shown_whole : (s : State) (v : Term) → term_of s ≡ Some v → signs_of_state s [] ≡ spelled v []
+shown_whole : (s : State) (v : Term) → term_of s ≡ Some v → signs_of_state s [] ≡ term_signs v []
 shown_whole (expecting os) v e = cc
 shown_whole (named at x os) v e = shown_end (build at x none) v os e
 shown_whole (complete w os) v e = shown_end w v os e
@@ -170,13 +170,13 @@ stops ss t s r e b =
     some_not_none v (sym a ∙ r.same (t ∷ b.1) ∙ ap (λ (o : Option State). on o (λ s. answer s b.1)) e)
 
 -- nor is a value whole where its state is not
-pub is_part : (ss : List Sign) (s : State) → IsStateOf ss s → term_of s ≡ None → (v : Term) → ss ≡ spelled v [] → ⊥
+pub is_part : (ss : List Sign) (s : State) → IsStateOf ss s → term_of s ≡ None → (v : Term) → ss ≡ term_signs v [] → ⊥
 is_part ss s r e v same =
     let a : answer (expecting []) ss ≡ Some v = ap (answer (expecting [])) same ∙ again v in
     let b : answer (expecting []) ss ≡ term_of s = ap (answer (expecting [])) (sym (append-nil ss)) ∙ r.same [] in
     some_not_none v (sym a ∙ b ∙ e)
 
-pub is_whole : (ss : List Sign) (s : State) (v : Term) → IsStateOf ss s → term_of s ≡ Some v → ss ≡ spelled v []
+pub is_whole : (ss : List Sign) (s : State) (v : Term) → IsStateOf ss s → term_of s ≡ Some v → ss ≡ term_signs v []
 is_whole ss s v r e = sym (append-nil ss) ∙ sym (r.said []) ∙ shown_whole s v e
 
 -- The outline --------------------------------------------------------------------------------

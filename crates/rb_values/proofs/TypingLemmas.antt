@@ -1,5 +1,6 @@
 -- What is kept of a state goes with it, sign by sign.
 use Rattle.std.proofs.Common.{◌≡◌, ◌≢◌, ℕ, suc, ◌+◌, ◌-◌, ◌≤◌, ◌==◌, List, [], ◌∷◌, ◌++◌, length, take, drop, get_or, refl, arith, ◌∙◌, ap, sym, append_assoc, length-append, true, false, Option, Some, None, slice_get}
+use Rattle.std.specs.Prelude.{unwrap_or}
 use Rattle.std.proofs.lemmas.Grind.{common_steps}
 use Rattle.std.proofs.lemmas.List.{append-nil}
 use Rattle.std.proofs.lemmas.Bool.Decides.{nat_tests}
@@ -12,9 +13,9 @@ use Rattle.rb_core.specs.Typing.{type_holds}
 use Rattle.rb_values.specs.declared.typing.Frame.{Frame}
 use Rattle.rb_values.specs.declared.sign.Sign.TheVariants as sign
 use Rattle.rb_values.specs.Terms.{Term, Terms, number, build, none, also, term_count}
-use Rattle.rb_values.specs.Fitting.{con_named, con_fields, con_number, misfits, misfits_each, first, or_none, value_of, values_of}
+use Rattle.rb_values.specs.Fitting.{con_named, con_fields, con_number, misfits, misfits_each, first, value_of, values_of}
 use Rattle.rb_values.specs.inner.States.{Wait, snoc, waits, longer, whole, State, expecting, named, complete, then_on, step}
-use Rattle.rb_values.specs.inner.Typing.{con_at, field_at, misfits_at, value_at, fields_misfits, wait_misfits, wait_values, is_clean, next_type, faults, values_of_waits, frame_of, frames_of, state_faults, state_values, state_name, IsTypedAs, IsClosing, settled}
+use Rattle.rb_values.specs.inner.Typing.{con_at, field_at, misfits_at, value_at, fields_misfits, wait_misfits, wait_values, is_clean, next_type, faults, values_of_waits, frame_of, frames_of, state_faults, state_values, state_name, IsTypedAs, IsClosing, settled_state}
 
 -- Lists ------------------------------------------------------------------------------------------
 
@@ -117,7 +118,7 @@ module _ (types : List DataDecl) where
   wait-snoc None o t = refl
   wait-snoc (Some ty) o t = fields-snoc (con_fields types (con_named types ty o.name)) o.at o.fields t
 
-  built-snoc : (e : Option (List Ty)) (us : Terms) (t : Term) → values_of types (snoc us t) (or_none e) ≡ values_of types us (or_none e) ++ value_at types (field_at e (term_count us)) t
+  built-snoc : (e : Option (List Ty)) (us : Terms) (t : Term) → values_of types (snoc us t) (unwrap_or e []) ≡ values_of types us (unwrap_or e []) ++ value_at types (field_at e (term_count us)) t
   built-snoc None us t = rw (values-nil (snoc us t), values-nil us) refl
   built-snoc (Some tys) us t = values-snoc us t tys
 
@@ -396,7 +397,7 @@ module _ (types : List DataDecl) (root : Ty) where
   not-named frame e = cc
 
   pub settled-none : (s : State) (fs : List Frame) (nm : Option Frame) (f : Option ℕ) (vs : List Value) → nm ≡ None → IsTypedAs types root s fs nm f vs
-      → IsTypedAs types root (settled s) fs nm f vs
+      → IsTypedAs types root (settled_state s) fs nm f vs
   settled-none (expecting os) fs nm f vs e h = h
   settled-none (named at x os) fs nm f vs e h = absurd (not-named _ (sym h.name_is ∙ e))
   settled-none (complete t os) fs nm f vs e h = h
@@ -404,7 +405,7 @@ module _ (types : List DataDecl) (root : Ty) where
   pub settled-some : (s : State) (fs : List Frame) (nm : Option Frame) (f : Option ℕ) (vs : List Value) (frame : Frame) → nm ≡ Some frame → IsTypedAs types root s fs nm f vs
       → (fs' : List Frame) (nm' : Option Frame) (f' : Option ℕ) (vs' : List Value)
       → ((o : Wait) (os : List Wait) → frame ≡ frame_of types root o os → IsClosing types root o os fs None f vs → IsTypedAs types root (complete (whole o) os) fs' nm' f' vs')
-      → IsTypedAs types root (settled s) fs' nm' f' vs'
+      → IsTypedAs types root (settled_state s) fs' nm' f' vs'
   settled-some (expecting os) fs nm f vs frame e h fs' nm' f' vs' go = absurd (not-named frame (sym e ∙ h.name_is))
   settled-some (named at x os) fs nm f vs frame e h fs' nm' f' vs' go =
       let s : Some frame ≡ Some (frame_of types root (waits at x) os) = sym e ∙ h.name_is in
@@ -442,12 +443,12 @@ module _ (types : List DataDecl) (root : Ty) where
     by-other (complete t []) next e h = cc
     by-other (complete t (o ∷ os)) next e h = cc
 
-    pub by-comma : (s next : State) → step s sign.Comma ≡ Some next → ((t : Term) (os : List Wait) → then_on t os sign.Comma ≡ Some next → Goes (complete t os) next) → Goes (settled s) next
+    pub by-comma : (s next : State) → step s sign.Comma ≡ Some next → ((t : Term) (os : List Wait) → then_on t os sign.Comma ≡ Some next → Goes (complete t os) next) → Goes (settled_state s) next
     by-comma (expecting os) next e go h = cc
     by-comma (named at x os) next e go h = go (build at x none) os e h
     by-comma (complete t os) next e go h = go t os e h
 
-    pub by-close : (s next : State) → step s sign.Close ≡ Some next → ((t : Term) (os : List Wait) → then_on t os sign.Close ≡ Some next → Goes (complete t os) next) → Goes (settled s) next
+    pub by-close : (s next : State) → step s sign.Close ≡ Some next → ((t : Term) (os : List Wait) → then_on t os sign.Close ≡ Some next → Goes (complete t os) next) → Goes (settled_state s) next
     by-close (expecting os) next e go h = cc
     by-close (named at x os) next e go h = go (build at x none) os e h
     by-close (complete t os) next e go h = go t os e h

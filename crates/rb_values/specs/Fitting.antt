@@ -1,7 +1,7 @@
 -- Where a term does not fit a type, and the value that it names where it does. A term is what a text says before
 -- types are looked at: a number, or a name with its fields. Its nodes are its numbers and names, each with the byte
 -- at which it begins. `types` are the types of the program, and names are lists of bytes.
-use Rattle.std.specs.Prelude.{ℕ, List, [], ◌∷◌, ◌++◌, length, if◌then◌else◌, ◌==◌, Option, Some, None, slice_get}
+use Rattle.std.specs.Prelude.{ℕ, List, [], ◌∷◌, ◌++◌, length, if◌then◌else◌, ◌==◌, Option, Some, None, slice_get, unwrap_or}
 use Rattle.std.specs.List.{position}
 use Rattle.std.specs.Option.{option_map}
 use Rattle.std.specs.Str.{bytes_eq}
@@ -65,18 +65,13 @@ abbrev pub con_number : Option ConRef → ℕ
 con_number None = 0
 con_number (Some c) = c.con
 
--- a list of types that may be missing; no types where it is
-abbrev pub or_none : Option (List Ty) → List Ty
-or_none None = []
-or_none (Some tys) = tys
-
 -- the value that a term names at a type that it fits
 abbrev mutual
   pub value_of : List DataDecl → Term → Ty → Value
   value_of types (number at n) ty = Num n
   value_of types (build at name fields) ty =
       val.Con (con_number (con_named types ty name))
-      (values_of types fields (or_none (con_fields types (con_named types ty name))))
+      (values_of types fields (unwrap_or (con_fields types (con_named types ty name)) []))
 
   -- the values that terms name, each at its own type, as far as both lists reach
   pub values_of : List DataDecl → Terms → List Ty → List Value

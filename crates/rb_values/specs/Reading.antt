@@ -10,12 +10,12 @@ use Rattle.rb_syntax.specs.Fronts.{front}
 use Rattle.rb_values.specs.declared.sign.Sign.{Sign}
 use Rattle.rb_values.specs.declared.fault.ValueFault.{ValueFault}
 use Rattle.rb_values.specs.declared.fault.ValueFault.TheVariants.{ValueSyntax, ValueTooLarge, ValueType, Memory}
-use Rattle.rb_values.specs.Terms.{Term, term_nodes, spelled, sign_of, signs, SpellsTerm}
+use Rattle.rb_values.specs.Terms.{Term, term_nodes, term_signs, sign_of, signs, SpellsTerm}
 use Rattle.rb_values.specs.Fitting.{misfits, first, value_of}
 
 -- the spelling of some value begins with these signs, or is just these
 abbrev pub IsSignFront : List Sign → Type 0
-IsSignFront before = (t : Term) × (more : List Sign) × (before ++ more ≡ spelled t [])
+IsSignFront before = (t : Term) × (more : List Sign) × (before ++ more ≡ term_signs t [])
 
 -- the text spells no value, which shows at byte p
 pub data StopsAt (text : List ℕ) (p : ℕ) : Type 0 where
@@ -27,7 +27,7 @@ pub data StopsAt (text : List ℕ) (p : ℕ) : Type 0 where
   refused : (front text).fault ≡ Some p → IsSignFront (signs (front text).tokens) → StopsAt text p
   -- a value goes on up to the text's end, and is not whole there
   ended : (front text).fault ≡ None → p ≡ length text → IsSignFront (signs (front text).tokens)
-      → ((t : Term) → signs (front text).tokens ≡ spelled t [] → ⊥) → StopsAt text p
+      → ((t : Term) → signs (front text).tokens ≡ term_signs t [] → ⊥) → StopsAt text p
 
 -- the text spells a term of at most so many nodes, which fits the type, and v is the value that it names there
 pub record SpellsValue (types : List DataDecl) (ty : Ty) (limit : ℕ) (text : List ℕ) (v : Value) : Type 0 where

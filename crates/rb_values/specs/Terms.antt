@@ -41,19 +41,19 @@ abbrev mutual
 
 -- the signs of a term, with `rest` behind them
 abbrev mutual
-  pub spelled : Term → List Sign → List Sign
-  spelled (number at n) rest = sign.Number at n ∷ rest
-  spelled (build at name fields) rest = sign.Name at name ∷ in_parens fields rest
+  pub term_signs : Term → List Sign → List Sign
+  term_signs (number at n) rest = sign.Number at n ∷ rest
+  term_signs (build at name fields) rest = sign.Name at name ∷ in_parens fields rest
 
   -- the signs of a name's fields in parentheses, with `rest` behind them; no parentheses where there are no fields
   pub in_parens : Terms → List Sign → List Sign
   in_parens none rest = rest
-  in_parens (also t ts) rest = sign.Open ∷ spelled t (others ts rest)
+  in_parens (also t ts) rest = sign.Open ∷ term_signs t (others ts rest)
 
   -- the signs of a name's fields behind the first, each behind a comma, then the closing parenthesis and `rest`
   pub others : Terms → List Sign → List Sign
   others none rest = sign.Close ∷ rest
-  others (also t ts) rest = sign.Comma ∷ spelled t (others ts rest)
+  others (also t ts) rest = sign.Comma ∷ term_signs t (others ts rest)
 
 -- What a token is to a value.
 
@@ -97,4 +97,4 @@ signs ps = map sign_of ps
 
 -- the text has tokens, and they spell this term
 abbrev pub SpellsTerm : List ℕ → Term → Type 0
-SpellsTerm text t = ((front text).fault ≡ None) × (signs (front text).tokens ≡ spelled t [])
+SpellsTerm text t = ((front text).fault ≡ None) × (signs (front text).tokens ≡ term_signs t [])

@@ -12,7 +12,7 @@ ghost use Rattle.rb_core.specs.declared.types.Ty.{Ty as Type_};
 ghost use Rattle.rb_core.specs.declared.types.DataDecl.{DataDecl as Decl};
 ghost use Rattle.rb_core.specs.Typing as typing;
 ghost use Rattle.rb_values.specs.Fitting as fit;
-ghost use Rattle.rb_values.specs.Terms.{Term, number, build, none};
+ghost use Rattle.rb_values.specs.Terms.{Term, number, build};
 ghost use Rattle.rb_values.specs.inner.States.{State, Wait, expecting, named, complete, waits, whole, step, then_on};
 ghost use Rattle.rb_values.specs.inner.Finishing.{IsSettled};
 ghost use Rattle.rb_values.specs.inner.Typing as keep;
@@ -276,7 +276,7 @@ impl Typing {
     /// Want of memory.
     pub fn settle(&mut self, types: &[DataDecl]) -> Result<(), AllocError>
         ensures { OnOk result ((root : Type_) (s : State) → keep.IsTyped types.now root s self.old
-            → keep.IsTyped types.now root (keep.settled s) self.new) }
+            → keep.IsTyped types.now root (keep.settled_state s) self.new) }
     {
         match self.name {
             None => Ok(()),

@@ -21,6 +21,7 @@ use Rattle.rb_layout.specs.declared.layout.Layout.{Layout}
 use Rattle.rb_lines.specs.Answer.{Due, printed}
 use Rattle.rb_lines.specs.Delivery.{Change}
 use Rattle.rb_rel.specs.Answers as answer
+use Rattle.rb_rel.specs.Answers.{laid_call}
 use Rattle.rb_rel.specs.Placing.{Laid, Fits, Over}
 use Rattle.rb_rel.specs.Relation.{IsCleanlyRepresented}
 use Rattle.rb_run.specs.Calling.{IsCalled, end_over}
@@ -33,7 +34,7 @@ use Rattle.ribbit_tool.specs.Generate.{generated_file}
 use Rattle.ribbit_tool.specs.Headlines.{SaysImage, ImageHeadline, SaysCount, CountHeadline, GenerateHeadline}
 use Rattle.ribbit_tool.specs.Image.{Images, IsImageOf, ShowWhole}
 use Rattle.ribbit_tool.specs.Promise.{Counting, GivesDue, IsPromised}
-use Rattle.ribbit_tool.specs.Run.{answer_due, laid_all, source_answer, answer_of_any_size, whole_answer}
+use Rattle.ribbit_tool.specs.Run.{answer_due, source_answer, answer_of_any_size, whole_answer}
 use Rattle.ribbit_tool.proofs.HeadlineLaws.{Ready, ready_as, of_calls, says}
 
 -- Images ------------------------------------------------------------------------------------
@@ -52,7 +53,7 @@ module _ (agreed : LaidOut) (args : List Value) (limits : Limits) (end : End) (m
     pub show : (v : Value) → a ≡ answer.Shown v → IsImageOf p agreed.layouts limits args v words m
     pub due : due_to end ≡ answer_due (λ v. image_text (memory_image words m)) limits.calls a taken
 
-  at_end : (l : Laid) (e : SourceEnd) → laid_all p agreed.layouts limits args ≡ l
+  at_end : (l : Laid) (e : SourceEnd) → laid_call p agreed.layouts args limits.calls (empty_memory limits.region) ≡ l
       → EndsAs (plan_of agreed) true (result_type p.funs p.main) (empty_memory limits.region) l e (end_over end m) → ShowsEnd (answer_of_any_size l e)
   at_end (Over full) e laid h = record { words = []; show = λ v is. absurd (cc is); due = ap due_to h }
   at_end (Fits blocks next) Spent laid h = record { words = []; show = λ v is. absurd (cc is); due = ap due_to h }
@@ -72,7 +73,7 @@ module _ (agreed : LaidOut) (args : List Value) (limits : Limits) (end : End) (m
       }
 
   pub shows_end : ShowsEnd (whole_answer p agreed.layouts limits args)
-  shows_end = at_end (laid_all p agreed.layouts limits args) (call_of p p.main limits.calls args).end refl called.ends
+  shows_end = at_end (laid_call p agreed.layouts args limits.calls (empty_memory limits.region)) (call_of p p.main limits.calls args).end refl called.ends
 
 abbrev Imaged : Limits → LaidOut → List CodeFun → List Value → Due → Type 0
 Imaged limits agreed code args due = Images agreed code args limits due

@@ -6,9 +6,9 @@ use Rattle.std.proofs.lemmas.Slice.Eq.{bytes_eq-Decides}
 use Rattle.std.specs.List.{list_any, position, position_or_len}
 use Rattle.std.specs.Prelude.{slice_get, nat_lt}
 use Rattle.std.specs.Str.{bytes_eq}
+use Rattle.std.proofs.lemmas.Bool.{and_parts}
 use Rattle.rb_core.specs.WellNumbered.{is_distinct}
 use Rattle.rb_core.specs.declared.program.Fun.{Fun}
-use Rattle.rb_core.proofs.NumberedForms.{both}
 use Rattle.rb_target.specs.declared.code.CodeFun.{CodeFun}
 
 abbrev names_of : List Fun → List (List ℕ)
@@ -54,7 +54,7 @@ module _ (name : List ℕ) where
       (found q qs true ((bytes_eq-Decides q.name name).1 own), omega arith)
   first (x ∷ fs) (q ∷ qs) have distinct (suc k) f at is =
       let h = have 0 x refl in
-      let apart = both (not (list_any (bytes_eq x.name) (names_of fs))) (is_distinct bytes_eq (names_of fs)) distinct in
+      let apart = and_parts (not (list_any (bytes_eq x.name) (names_of fs))) (is_distinct bytes_eq (names_of fs)) distinct in
       let other = other_name x.name (names_of fs) k f.name (is_false (list_any (bytes_eq x.name) (names_of fs)) apart.0) (named_at fs k f at) in
       let own : q.name ≡ x.name = ap (λ (r : CodeFun). r.name) (same_Some q h.0 h.1) ∙ h.2 in
       let fails : named q ≡ false = ap (λ n. bytes_eq n name) own ∙ ap (bytes_eq x.name) (sym is) ∙ other in

@@ -12,12 +12,13 @@ use Rattle.rb_core.specs.declared.value.Value.{Value}
 use Rattle.rb_layout.specs.declared.agreed.LaidOut.{LaidOut}
 use Rattle.rb_layout.specs.declared.layout.Layout.{Layout}
 use Rattle.rb_lines.specs.Answer.{Due}
+use Rattle.rb_rel.specs.Answers.{laid_call}
 use Rattle.rb_show.specs.Lines.{line}
 use Rattle.rb_run.specs.Calling.{IsCounted}
 use Rattle.rb_run.specs.Counting.{IsTally}
 use Rattle.rb_run.specs.declared.count.Tally.{Tally}
 use Rattle.rb_target.specs.declared.code.CodeFun.{CodeFun}
-use Rattle.ribbit_tool.specs.Run.{PreparesFile, answer_due, laid_all, source_answer, value_line}
+use Rattle.ribbit_tool.specs.Run.{PreparesFile, answer_due, source_answer, value_line}
 
 -- Texts -------------------------------------------------------------------------------------
 
@@ -38,7 +39,8 @@ count_text p tally v =
 -- the blocks that were laid, and the bytes from address 64 up to the next one; of another end nothing is said
 abbrev pub IsMainTally : Program → List Layout → Limits → List Value → Tally → Type 0
 IsMainTally p layouts limits args tally =
-    IsTally (laid_all p layouts limits args) (call_of p p.main limits.calls args).end limits.calls tally
+    IsTally (laid_call p layouts args limits.calls (empty_memory limits.region))
+    (call_of p p.main limits.calls args).end limits.calls tally
 
 -- The source's answer is due, its value with what the run did; the switches and the steps are those of the
 -- code's run on words that represent the values.

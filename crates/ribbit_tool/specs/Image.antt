@@ -16,24 +16,25 @@ use Rattle.rb_image_text.specs.Text.{image_text}
 use Rattle.rb_layout.specs.declared.agreed.LaidOut.{LaidOut}
 use Rattle.rb_layout.specs.declared.layout.Layout.{Layout}
 use Rattle.rb_lines.specs.Answer.{Due}
-use Rattle.rb_rel.specs.Answers.{Shown}
+use Rattle.rb_rel.specs.Answers.{Shown, laid_arguments, laid_call}
 use Rattle.rb_rel.specs.Placing.{Fits}
 use Rattle.rb_rel.specs.Relation.{IsCleanlyRepresented}
 use Rattle.rb_run.specs.Calling.{IsCounted}
 use Rattle.rb_target.specs.declared.code.CodeFun.{CodeFun}
-use Rattle.ribbit_tool.specs.Run.{PreparesFile, answer_due, laid_all, laid_values, whole_answer}
+use Rattle.ribbit_tool.specs.Run.{PreparesFile, answer_due, whole_answer}
 
 -- words and a memory that show the value v of `main` on these arguments: the memory has just the blocks that are
 -- asked for
 pub record IsImageOf (p : Program) (layouts : List Layout) (limits : Limits) (args : List Value) (v : Value)
     (words : List ℕ) (m : Memory) : Type 0 where
-  pub asked : laid_all p layouts limits args ≡ Fits m.blocks m.next
+  pub asked : laid_call p layouts args limits.calls (empty_memory limits.region) ≡ Fits m.blocks m.next
   pub whole : AreWhole m m.blocks
   pub good : IsGood m
   -- the words represent the value, with clean free bits
   pub root : IsCleanlyRepresented p.types layouts m (result_type p.funs p.main) v words
   -- some words represent each value that was given, cleanly, over just the blocks that it asks for
-  pub given : (own : List (ℕ × ℕ)) (next : ℕ) → laid_values p layouts limits args ≡ Fits own next
+  pub given : (own : List (ℕ × ℕ)) (next : ℕ)
+      → laid_arguments p layouts args (empty_memory limits.region) ≡ Fits own next
       → (ws : List ℕ) × StandApart p.types layouts m (param_types p.funs p.main) args least_region own next ws
 
 -- the words and the memory are an image of the value that the source answers, if it answers one

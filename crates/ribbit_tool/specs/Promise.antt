@@ -7,7 +7,7 @@ use Rattle.std.specs.Prelude.{◌≡◌, ◌≢◌, ℕ, ◌+◌, ◌⊎◌, Lis
 use Rattle.rb_accept.specs.Reading.{Source, handed_out, ReadsInTurn}
 use Rattle.rb_command.specs.Command.{Parsed, IsParsed}
 use Rattle.rb_edge.specs.Faults.{Rose}
-use Rattle.rb_edge.specs.History.{Reading, missed}
+use Rattle.rb_edge.specs.History.{Reading, missed_reading}
 use Rattle.rb_lines.specs.Answer.{Due, printed, refused, status_of, steps_of, text_of_due}
 use Rattle.rb_lines.specs.Delivery.{Change, Took, CutOff, TriesText, Stood, Delivers}
 use Rattle.rb_lines.specs.Lines.{write_fault_line}
@@ -64,7 +64,7 @@ pub record LastIsAbsent (source : Source) : Type 0 where
   pub name : List ℕ
   pub nothing : source.held name ≡ None
   pub earlier : List Reading
-  pub last : handed_out source ≡ earlier ++ missed name ∷ []
+  pub last : handed_out source ≡ earlier ++ missed_reading name ∷ []
 
 -- what is promised of each command, whatever is read and written
 pub record IsPromised (words : List (List ℕ)) (source : Source) (out err : Change) (steps : Counting)

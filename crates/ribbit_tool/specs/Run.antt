@@ -4,10 +4,10 @@
 -- its region ends: the memory of the run, whose first address is 64. Blocks are laid in it: placed one behind the
 -- other, or one of them is the first that does not fit. The words are texts that spell the arguments of `main`.
 -- `agreed` is a program with its layouts.
-use Rattle.std.specs.Prelude.{◌≡◌, ℕ, List, ◌++◌, map, true}
+use Rattle.std.specs.Prelude.{◌≡◌, ℕ, List, map, true}
 use Rattle.rb_accept.specs.Accepting.{Accepts}
 use Rattle.rb_accept.specs.Arguments.{Spell, IsMisfit}
-use Rattle.rb_bytes.specs.Memory.{empty_memory, least_region}
+use Rattle.rb_bytes.specs.Memory.{empty_memory}
 use Rattle.rb_command.specs.Command.{Limits}
 use Rattle.rb_core.specs.Meaning.{call_of}
 use Rattle.rb_core.specs.Typing.{param_types, result_type}
@@ -24,8 +24,8 @@ use Rattle.rb_lines.specs.ArgumentLines.{node_limit}
 use Rattle.rb_lines.specs.Lines.{spent_line, full_line, large_line}
 use Rattle.rb_lines.specs.declared.status.Status.TheVariants as status
 use Rattle.rb_rel.specs.Answers as answer
-use Rattle.rb_rel.specs.Answers.{all_makings, answer_of}
-use Rattle.rb_rel.specs.Placing.{Laid, Fits, Over, lay, requests_of}
+use Rattle.rb_rel.specs.Answers.{answer_of, laid_call}
+use Rattle.rb_rel.specs.Placing.{Laid, Fits, Over}
 use Rattle.rb_run.specs.Calling.{IsCounted}
 use Rattle.rb_target.specs.declared.code.CodeFun.{CodeFun}
 use Rattle.rb_values.specs.Texts.{text_of}
@@ -67,18 +67,6 @@ answer_due shown calls answer.Spent steps = refused status.Spent (spent_line cal
 answer_due shown calls (answer.Full f) steps = refused status.Full (full_line f) steps
 answer_due shown calls answer.TooLarge steps = refused status.TooLarge (large_line node_limit) steps
 
--- the blocks of the values laid over a fresh region: where they end up, or the first that does not fit
-abbrev pub laid_values : Program → List Layout → Limits → List Value → Laid
-laid_values p layouts limits args =
-    lay limits.region least_region (requests_of layouts (all_makings p.types args (param_types p.funs p.main)))
-
--- the blocks of the values and behind them those of the call of `main` laid over a fresh region: where they end up,
--- or the first that does not fit
-abbrev pub laid_all : Program → List Layout → Limits → List Value → Laid
-laid_all p layouts limits args =
-    lay limits.region least_region (requests_of layouts (all_makings p.types args (param_types p.funs p.main)
-    ++ (call_of p p.main limits.calls args).log))
-
 -- the answer to a call that ends so, its blocks laid like this, however many nodes, numbers and constructions, the
 -- value has
 abbrev pub answer_of_any_size : Laid → SourceEnd → answer.Answer
@@ -89,7 +77,8 @@ answer_of_any_size (Fits blocks next) (Done v left) = answer.Shown v
 -- what the source comes to by the call of `main` on these values, however many nodes the value has
 abbrev pub whole_answer : Program → List Layout → Limits → List Value → answer.Answer
 whole_answer p layouts limits args =
-    answer_of_any_size (laid_all p layouts limits args) (call_of p p.main limits.calls args).end
+    answer_of_any_size (laid_call p layouts args limits.calls (empty_memory limits.region))
+    (call_of p p.main limits.calls args).end
 
 -- Runs --------------------------------------------------------------------------------------
 

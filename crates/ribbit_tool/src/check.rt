@@ -13,7 +13,7 @@ ghost use Rattle.ribbit_tool.specs.Check.{ChecksFile};
 use rb_accept::accepting::{Accepted, accept};
 use rb_accept::reading::{FILE_LIMIT, read_within};
 use rb_edge::source::Source;
-use rb_lines::note::checked;
+use rb_lines::note::check_output;
 use rb_lines::refusal::Refusal;
 use std::alloc::{AllocError, Global};
 
@@ -25,7 +25,7 @@ fn check_accepted(alloc: Global, bytes: &[u8], accepted: &Accepted) -> Result<Ve
 {
     let placed = accepted.placed.as_slice();
     let notes = accepted.agreed.covered().notes();
-    let text = checked(alloc, placed, bytes.len(), notes)?;
+    let text = check_output(alloc, placed, bytes.len(), notes)?;
     Ok(text)
 }
 

@@ -81,7 +81,7 @@ fn show(alloc: Global, program: &Program, counted: &Counted, calls: u64) -> Resu
             let text = counts(alloc, program, value, counted.tally)?;
             return Ok(text);
         }
-        Answer::Spent => (Status::Spent, line::spent(alloc, calls)?),
+        Answer::Spent => (Status::Spent, line::calls_spent(alloc, calls)?),
         Answer::Full(full) => (Status::Full, line::full(alloc, *full)?),
         Answer::TooLarge => (Status::TooLarge, line::large(alloc, NODES)?),
     };

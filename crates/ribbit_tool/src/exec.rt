@@ -46,7 +46,7 @@ fn show(alloc: Global, end: &End, calls: u64) -> Result<Vec<u8>, Refusal>
             let text = line::words(alloc, words.as_slice())?;
             return Ok(text);
         }
-        End::Spent => (Status::Spent, line::spent(alloc, calls)?),
+        End::Spent => (Status::Spent, line::calls_spent(alloc, calls)?),
         End::Full(full) => (Status::Full, line::full(alloc, *full)?),
         End::Trapped(trap) => (Status::Trap, line::trap(alloc, *trap)?),
     };

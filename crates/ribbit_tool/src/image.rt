@@ -57,7 +57,7 @@ fn show(
             let text = image(alloc, words.as_slice(), memory)?;
             return Ok(text);
         }
-        End::Spent => (Status::Spent, line::spent(alloc, calls)?),
+        End::Spent => (Status::Spent, line::calls_spent(alloc, calls)?),
         End::Full(full) => (Status::Full, line::full(alloc, *full)?),
         End::Trapped(_) => unreachable!(),
     };

@@ -106,7 +106,7 @@ fn show(alloc: Global, program: &Program, answer: &Answer, calls: u64) -> Result
             let text = show_value(alloc, program, value)?;
             return Ok(text);
         }
-        Answer::Spent => (Status::Spent, line::spent(alloc, calls)?),
+        Answer::Spent => (Status::Spent, line::calls_spent(alloc, calls)?),
         Answer::Full(full) => (Status::Full, line::full(alloc, *full)?),
         Answer::TooLarge => (Status::TooLarge, line::large(alloc, NODES)?),
     };

@@ -12,6 +12,7 @@ use Rattle.rb_layout.specs.Splits.{Test, Is, IsNone, Route}
 use Rattle.rb_layout.specs.A7.{MeetsTest, MeetsAll}
 use Rattle.rb_agree.specs.declared.passing.Asking.{Asking}
 use Rattle.rb_agree.specs.declared.passing.Span.{Span}
+use Rattle.rb_agree.specs.Lists.{SomeOf}
 use Rattle.rb_agree.specs.inner.Alike.{AreAlike}
 use Rattle.rb_agree.specs.inner.Lists.{EachOf}
 use Rattle.rb_agree.specs.inner.Splits.{literals_in}
@@ -25,10 +26,6 @@ test_at loc arms None = IsNone loc (literals_in arms)
 -- what a split asks, as a test
 abbrev pub test_of : Asking → Test
 test_of a = test_at a.loc.now a.arms.now a.literal
-
--- what a split asks of the leaves below its `else`, as a test: to exclude the literals of all arms
-abbrev pub else_of : Asking → Test
-else_of a = test_at a.loc.now a.arms.now None
 
 -- leaf n has a mark, which is off
 abbrev pub IsOff : List Bool → ℕ → Type 0
@@ -52,10 +49,9 @@ module _ (types : List DataDecl) (layouts : List Layout) (leaves : List Leaf) wh
   MeetsWhereOff marks n test =
       IsOff marks n → (leaf : Leaf) → slice_get leaves n ≡ Some leaf → MeetsTest types layouts leaf test
 
-  -- the leaf with this number, if there are such a number and leaf, meets the test
-  abbrev pub IsPrior : Test → Option ℕ → Type 0
-  IsPrior test None = Unit {0}
-  IsPrior test (Some n) = (leaf : Leaf) → slice_get leaves n ≡ Some leaf → MeetsTest types layouts leaf test
+  -- the leaf with this number, if there is one, meets the test
+  abbrev pub IsPrior : Test → ℕ → Type 0
+  IsPrior test n = (leaf : Leaf) → slice_get leaves n ≡ Some leaf → MeetsTest types layouts leaf test
 
   -- leaf n was asked a test: marks were only put on, and where its mark is off still, it meets the test
   pub record IsAsked (test : Test) (n : ℕ) (old new : List Bool) : Type 0 where
@@ -74,10 +70,10 @@ module _ (types : List DataDecl) (layouts : List Layout) (leaves : List Leaf) wh
     pub keeps : KeepsMarks old new
     pub meet : EachOf (λ (r : Route). EachOf (MeetsWhereOff new r.leaf) r.tests) routes
 
--- a number is given, and the leaf with it is alike, at a location, to this leaf
-abbrev pub IsLike : List DataDecl → List Leaf → Leaf → Loc → Option ℕ → Type 0
-IsLike types leaves leaf loc prior =
-    (n : ℕ) × (one : Leaf) × (prior ≡ Some n) × (slice_get leaves n ≡ Some one) × AreAlike types one leaf loc
+-- the leaf with one of these numbers is alike, at a location, to this leaf
+abbrev pub IsLike : List DataDecl → List Leaf → Leaf → Loc → List ℕ → Type 0
+IsLike types leaves leaf loc priors =
+    SomeOf (λ n. (one : Leaf) × (slice_get leaves n ≡ Some one) × AreAlike types one leaf loc) priors
 
 -- each leaf of a layout whose mark is off passes the tests on each way to it
 abbrev pub PassWhereOff : List DataDecl → List Layout → Layout → List Bool → Type 0

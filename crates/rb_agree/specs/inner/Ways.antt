@@ -26,11 +26,11 @@ added_if (Some false) way next s = record {
 
 -- a search has number `next` found, too, at the end of `way`, if it was not yet and has a mark, as those of the graph
 -- have
-abbrev pub added : List ℕ → ℕ → State → State
-added way next s = added_if (slice_get s.marks next) way next s
+abbrev pub with_found : List ℕ → ℕ → State → State
+with_found way next s = added_if (slice_get s.marks next) way next s
 
 -- a search has each of these numbers found, too, at the end of `way`, one after the other, if it was not yet and has a
 -- mark; one without a mark is passed over
-abbrev pub all_added : List ℕ → List ℕ → State → State
-all_added way [] s = s
-all_added way (next ∷ edges) s = all_added way edges (added way next s)
+abbrev pub with_all_found : List ℕ → List ℕ → State → State
+with_all_found way [] s = s
+with_all_found way (next ∷ edges) s = with_all_found way edges (with_found way next s)

@@ -46,10 +46,10 @@ added_if (Some true) next s = s
 added_if (Some false) next s = record { marks = slice_set s.marks next true; found = s.found ++ next ∷ [] }
 
 -- a search has number `next` found, too, if it was not yet; nothing changes where the graph has no such number
-abbrev pub added : ℕ → State → State
-added next s = added_if (slice_get s.marks next) next s
+abbrev pub with_found : ℕ → State → State
+with_found next s = added_if (slice_get s.marks next) next s
 
 -- a search has each of these numbers found, too, one after the other, if it was not yet
-abbrev pub all_added : List ℕ → State → State
-all_added [] s = s
-all_added (next ∷ edges) s = all_added edges (added next s)
+abbrev pub with_all_found : List ℕ → State → State
+with_all_found [] s = s
+with_all_found (next ∷ edges) s = with_all_found edges (with_found next s)

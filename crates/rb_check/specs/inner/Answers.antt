@@ -3,13 +3,12 @@ use Rattle.std.specs.Prelude.{◌≡◌, ℕ, List, ◌++◌, map, Option, Some,
 use Rattle.rb_core.specs.declared.types.Ty.{Ty}
 use Rattle.rb_core.specs.declared.types.DataDecl.{DataDecl}
 use Rattle.rb_core.specs.declared.layout_decl.Arm.{Arm}
-use Rattle.rb_core.specs.declared.program.Param.{Param}
 use Rattle.rb_core.specs.declared.typing.Binder.{Binder}
 use Rattle.rb_core.specs.declared.typing.TypeFault.{TypeFault}
 use Rattle.rb_core.specs.declared.typing.TypeFault.TheVariants.{Empty, Memory}
 use Rattle.rb_core.specs.Layouts.{arm_provenances}
 use Rattle.rb_core.specs.TypedPrograms.{first_fault, provenance_fault}
-use Rattle.rb_core.specs.Typing.{Typing, and_then, binder_of}
+use Rattle.rb_core.specs.Typing.{Typing, and_then}
 use Rattle.rb_check.specs.declared.expression.Wanted.{Wanted}
 use Rattle.rb_check.specs.declared.expression.Wanted.TheVariants.{Params, Fields}
 
@@ -40,10 +39,6 @@ AnswersFault (Err found) fault = fault ≡ Some found
 -- the first fault in the provenances under an arm of a split
 abbrev pub arm_fault : List DataDecl → ℕ → Arm → Option TypeFault
 arm_fault types ty arm = first_fault (map (provenance_fault types ty) (arm_provenances arm))
-
--- the binders of a list of parameters and variables, in order
-abbrev pub binders_of_params : List Param → List Binder
-binders_of_params = map binder_of
 
 -- the scope of a clause's body: the binders of the match's scope and behind them those that typing gives of the
 -- clause's pattern, or the fault that it gives instead

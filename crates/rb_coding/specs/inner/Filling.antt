@@ -34,7 +34,8 @@ pub record Progress (old new : Memory) (rs : List Request) (bs : List (ℕ × �
   pub before : (qs : List Request) → laid_before old.limit old.next (rs ++ qs) ≡ bs ++ laid_before new.limit new.next qs
   pub grown : Grown old new bs new.next
 
--- one of the requests rs did not fit, as `full` tells, and the memory has grown by the blocks of those before it
+-- one of the requests rs did not fit, as `full` tells, whatever requests qs follow, and the memory has grown by the
+-- blocks bs of those before it
 pub record Stopped (old new : Memory) (rs : List Request) (full : Unplaced) : Type 0 where
   pub bs : List (ℕ × ℕ)
   pub over : (qs : List Request) → lay old.limit old.next (rs ++ qs) ≡ Over full
@@ -61,8 +62,8 @@ ArePlaced subs blocks old new (Ok addresses) =
 ArePlaced subs blocks old new (Err (Full full)) = Stopped old new (map request_of blocks) full
 ArePlaced subs blocks old new (Err NoMemory) = Unit {0}
 
--- the blocks of a leaf are placed and filled, and `ws` are its root words; or one of the
--- blocks does not fit. Want of memory says nothing of it
+-- the blocks of a leaf are placed and filled, and `ws` are its root words; or one of the blocks does not fit. Want of
+-- memory says nothing of it
 abbrev pub IsMade : (List ℕ → List ℕ) → Leaf → Memory → Memory → Result (List ℕ) EncodeFault → Type 0
 IsMade subs leaf old new (Ok ws) =
     (bs : List (ℕ × ℕ)) × Progress old new (map request_of leaf.blocks) bs

@@ -16,7 +16,7 @@ use Rattle.rb_core.specs.Meaning.{Calls, meaning_of}
 use Rattle.rb_target.specs.declared.instr.Instr.{Instr}
 use Rattle.rb_target.specs.declared.instr.Instr.TheVariants.{Alu, Const, Take}
 use Rattle.rb_target.specs.Operators.{alu_op_of}
-use Rattle.rb_target.specs.Sheet.{Sheet, pushed, with_slot}
+use Rattle.rb_target.specs.Sheet.{Sheet, with_more, with_slot}
 use Rattle.rb_fragment.specs.declared.held.Held.{Held}
 use Rattle.rb_fragment.specs.declared.held.Local.{Local}
 use Rattle.rb_fragment.specs.Plan.{Plan, words_needed}
@@ -53,7 +53,7 @@ stated_width t = max 1 (width_of t)
 
 -- one instruction is appended, and its value of type t stands in a new slot
 abbrev pub IsOne : Sheet → Instr → Ty → Sheet → Held → Type 0
-IsOne old i t new held = (new ≡ pushed (with_slot old) i) × (held ≡ record { ty = t; slots = old.slots ∷ [] })
+IsOne old i t new held = (new ≡ with_more (with_slot old) i) × (held ≡ record { ty = t; slots = old.slots ∷ [] })
 
 -- the instruction of an operator on two values of type t that are held, a word each: the result goes to a new slot
 abbrev pub alu_on : Sheet → Op → Ty → Held → Held → Instr

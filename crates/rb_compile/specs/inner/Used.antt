@@ -68,8 +68,8 @@ pruned_step keeps (P.Num at n) = Wild at
 pruned_step keeps (P.Con at c ps) = Con at c ps
 
 -- the pattern with wildcards in place of numbers, and of variables that are not kept
-abbrev pub pruned : (ℕ → Bool) → Pat → Pat
-pruned keeps = fold-Pat Pat (pruned_step keeps)
+abbrev pub pruned_pattern : (ℕ → Bool) → Pat → Pat
+pruned_pattern keeps = fold-Pat Pat (pruned_step keeps)
 
 -- whether variable x is kept: marks say of each of some variables in a row whether it is used, and those before and
 -- behind them are kept
@@ -87,7 +87,7 @@ MarksMore old new = (x : ℕ) → is_kept old x ≡ true → is_kept new x ≡ t
 -- p is the pattern with wildcards in place of numbers and of some variables, none of which the expression uses
 abbrev pub IsPrunedFor : Expr → Pat → Pat → Type 0
 IsPrunedFor body pat p = (keeps : ℕ → Bool) × ((x : ℕ) → Contains (variables_in body) x → keeps x ≡ true)
-    × (p ≡ pruned keeps pat)
+    × (p ≡ pruned_pattern keeps pat)
 
 -- What a clause's body needs of what takes the pattern's place, where the value that is matched is of type s: it
 -- matches where the pattern does, binds the body's variables to the same, and costs no more to bind.

@@ -11,7 +11,7 @@ use Rattle.rb_core.specs.declared.types.Ty.TheVariants.{Int, Named}
 use Rattle.rb_bits.specs.Words.{put_of, take_of}
 use Rattle.rb_target.specs.declared.instr.AluOp.TheVariants.{Or}
 use Rattle.rb_target.specs.declared.instr.Instr.TheVariants as I
-use Rattle.rb_target.specs.Sheet.{Sheet, pushed, with_slot}
+use Rattle.rb_target.specs.Sheet.{Sheet, with_more, with_slot}
 use Rattle.rb_layout.specs.declared.layout.Block.{Block}
 use Rattle.rb_layout.specs.declared.layout.FlatWord.{FlatWord}
 use Rattle.rb_layout.specs.declared.layout.Kind.{Kind}
@@ -22,7 +22,7 @@ use Rattle.rb_layout.specs.Words.{size_of}
 use Rattle.rb_fragment.specs.declared.held.Held.{Held}
 use Rattle.rb_fragment.specs.Reads.{is_range}
 use Rattle.rb_compose.specs.declared.subvalue.Subvalue.{Subvalue}
-use Rattle.rb_compose.specs.Counts.{capped}
+use Rattle.rb_compose.specs.Counts.{capped_bits}
 use Rattle.rb_compose.specs.Subvalues.{held_slots, subvalue_at}
 
 -- Where bits come from -------------------------------------------------------------------------
@@ -39,7 +39,7 @@ shift_of align =
 
 -- code that leaves bits o up to o + l of slot x in a new slot; none where o is 0, as they stand in x from bit 0 on
 abbrev pub taken_code : ℕ → ℕ → ℕ → Sheet → Sheet
-taken_code x o l b = if o == 0 then b else pushed (with_slot b) (I.Take b.slots x o l)
+taken_code x o l b = if o == 0 then b else with_more (with_slot b) (I.Take b.slots x o l)
 
 -- where `taken_code` leaves bits of slot x from bit o on: in the new slot n, or in x itself where o is 0
 abbrev pub taken_slot : ℕ → ℕ → ℕ → ℕ
@@ -66,7 +66,9 @@ field_type xs path = held_type_in (subvalue_at xs path)
 -- part that is no constant, and where the range, so capped, has no bit or ends past bit 63
 abbrev pub with_constant : ℕ → ℕ → ℕ → Kind → ℕ
 with_constant n o l (Const c) =
-    if is_range (capped o) (capped l) then put_of n (capped o) (capped l) (take_of c 0 (capped l)) else n
+    if is_range (capped_bits o) (capped_bits l)
+    then put_of n (capped_bits o) (capped_bits l) (take_of c 0 (capped_bits l))
+    else n
 with_constant n o l (Bits path a) = n
 with_constant n o l (Word path j) = n
 with_constant n o l (Pointer align x) = n
@@ -80,12 +82,13 @@ constants n (p ∷ ps) = constants (with_constant n p.o p.l p.kind) ps
 -- slot d
 abbrev pub put_code : ℕ → ℕ → ℕ → ℕ → Part → Sheet → Sheet
 put_code d x from long p b =
-    pushed (taken_code x from long b) (I.Put d (taken_slot x from b.slots) (capped p.o) (capped p.l))
+    with_more (taken_code x from long b) (I.Put d (taken_slot x from b.slots) (capped_bits p.o) (capped_bits p.l))
 
 -- code that puts what a part holds into its range in slot d; none for a constant, which is there already
 abbrev pub kind_code : List Subvalue → List ℕ → ℕ → Part → Kind → Sheet → Sheet
 kind_code hs blocks d p (Const c) b = b
-kind_code hs blocks d p (Bits path a) b = put_code d (slice_index (field_slots hs path) 0) (capped a) (capped p.l) p b
+kind_code hs blocks d p (Bits path a) b =
+    put_code d (slice_index (field_slots hs path) 0) (capped_bits a) (capped_bits p.l) p b
 kind_code hs blocks d p (Word path j) b = put_code d (slice_index (field_slots hs path) j) 0 64 p b
 kind_code hs blocks d p (Pointer align x) b =
     put_code d (slice_index blocks x) (shift_of align) (64 - shift_of align) p b
@@ -110,7 +113,7 @@ source_slot hs blocks (Pointer align x) = slice_index blocks x
 -- none for a constant, which is there already
 abbrev pub part_code : List Subvalue → List ℕ → ℕ → Part → Sheet → Sheet
 part_code hs blocks d p b =
-    if is_ready hs p.o p.l p.kind then pushed b (I.Alu Or 64 d d (source_slot hs blocks p.kind))
+    if is_ready hs p.o p.l p.kind then with_more b (I.Alu Or 64 d d (source_slot hs blocks p.kind))
     else kind_code hs blocks d p p.kind b
 
 -- code that adds parts to the word in slot d, one after the other; none without parts
@@ -121,11 +124,12 @@ parts_code hs blocks d (p ∷ ps) b = parts_code hs blocks d ps (part_code hs bl
 -- Code that makes, in a new slot, a word of what slot x holds and of parts. Where a slot holds the first part in its
 -- place, it is set beside the other at once; else, and without parts, the word begins as a copy.
 abbrev pub joined_code : List Subvalue → List ℕ → ℕ → List Part → Sheet → Sheet
-joined_code hs blocks x [] b = pushed (with_slot b) (I.Copy b.slots x)
+joined_code hs blocks x [] b = with_more (with_slot b) (I.Copy b.slots x)
 joined_code hs blocks x (p ∷ ps) b =
     if is_ready hs p.o p.l p.kind
-    then parts_code hs blocks b.slots ps (pushed (with_slot b) (I.Alu Or 64 b.slots x (source_slot hs blocks p.kind)))
-    else parts_code hs blocks b.slots (p ∷ ps) (pushed (with_slot b) (I.Copy b.slots x))
+    then parts_code hs blocks b.slots ps
+    (with_more (with_slot b) (I.Alu Or 64 b.slots x (source_slot hs blocks p.kind)))
+    else parts_code hs blocks b.slots (p ∷ ps) (with_more (with_slot b) (I.Copy b.slots x))
 
 -- whether what a part holds is a constant
 abbrev pub is_constant : Kind → Bool
@@ -149,27 +153,27 @@ is_low o (Pointer align x) = false
 -- the first of the bits that a part has of a number; 0 for a part of another kind
 abbrev pub low_bit : Kind → ℕ
 low_bit (Const c) = 0
-low_bit (Bits path a) = capped a
+low_bit (Bits path a) = capped_bits a
 low_bit (Word path j) = 0
 low_bit (Pointer align x) = 0
 
 -- Code that makes, in a new slot, a word whose constants are all 0. It begins as its first part, where a slot holds
 -- that in its place, or where it is bits of a number from bit 0 on; else, and without parts, as 0.
 abbrev pub begun_code : List Subvalue → List ℕ → List Part → Sheet → Sheet
-begun_code hs blocks [] b = pushed (with_slot b) (I.Const b.slots 0)
+begun_code hs blocks [] b = with_more (with_slot b) (I.Const b.slots 0)
 begun_code hs blocks (p ∷ ps) b =
     if is_ready hs p.o p.l p.kind then joined_code hs blocks (source_slot hs blocks p.kind) (after_constants ps) b
     else if is_low p.o p.kind
     then parts_code hs blocks b.slots ps
-    (pushed (with_slot b) (I.Take b.slots (source_slot hs blocks p.kind) (low_bit p.kind) (capped p.l)))
-    else parts_code hs blocks b.slots (p ∷ ps) (pushed (with_slot b) (I.Const b.slots 0))
+    (with_more (with_slot b) (I.Take b.slots (source_slot hs blocks p.kind) (low_bit p.kind) (capped_bits p.l)))
+    else parts_code hs blocks b.slots (p ∷ ps) (with_more (with_slot b) (I.Const b.slots 0))
 
 -- code that makes a word of its parts, in the first slot that is new: it begins as its constants, or as `begun_code`
 -- says where these are all 0, and the other parts are set beside that and put over it
 abbrev pub word_code : List Subvalue → List ℕ → List Part → Sheet → Sheet
 word_code hs blocks parts b =
     if constants 0 parts == 0 then begun_code hs blocks (after_constants parts) b
-    else parts_code hs blocks b.slots parts (pushed (with_slot b) (I.Const b.slots (constants 0 parts)))
+    else parts_code hs blocks b.slots parts (with_more (with_slot b) (I.Const b.slots (constants 0 parts)))
 
 -- Words of fields ------------------------------------------------------------------------------
 
@@ -217,7 +221,7 @@ value_slot (Some x) n = x
 -- copied from there, else composed of its parts
 abbrev pub root_code : Option ℕ → List Subvalue → List ℕ → List Part → Sheet → Sheet
 root_code None hs blocks parts b = word_code hs blocks parts b
-root_code (Some x) hs blocks parts b = pushed (with_slot b) (I.Copy b.slots x)
+root_code (Some x) hs blocks parts b = with_more (with_slot b) (I.Copy b.slots x)
 
 -- code that leaves the root word of these parts in a slot of its own
 abbrev pub root_made : List Subvalue → List ℕ → List Part → Sheet → Sheet
@@ -231,13 +235,13 @@ abbrev pub stores_code : List Subvalue → List ℕ → ℕ → List FlatWord �
 stores_code hs blocks a [] at b = b
 stores_code hs blocks a (f ∷ fs) at b =
     stores_code hs blocks a fs (at + f.width / 8)
-    (pushed (value_made hs blocks f.parts b)
-    (I.Store a at (capped f.width) (value_slot (whole_slot hs f.parts) b.slots)))
+    (with_more (value_made hs blocks f.parts b)
+    (I.Store a at (capped_bits f.width) (value_slot (whole_slot hs f.parts) b.slots)))
 
 -- code that places the block x, with its address in the first slot that is new, and stores its words there
 abbrev pub block_code : List Subvalue → List ℕ → Block → Sheet → Sheet
 block_code hs blocks x b =
-    stores_code hs blocks b.slots x.words 0 (pushed (with_slot b) (I.Place b.slots (size_of x) x.align))
+    stores_code hs blocks b.slots x.words 0 (with_more (with_slot b) (I.Place b.slots (size_of x) x.align))
 
 -- the sheet behind code that places and fills blocks, one after the other, and the slots of all addresses: those in
 -- `blocks`, and behind them those of the new blocks

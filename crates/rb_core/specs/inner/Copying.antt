@@ -10,14 +10,14 @@ use Rattle.rb_core.specs.declared.copying.Turn.TheVariants.{Copied, Next}
 use Rattle.rb_core.specs.Values.{node_count}
 
 -- the construction that a frame becomes with the value v in its hole
-abbrev pub filled : Frame → Value → Value
-filled f v = Con f.con (f.copied ++ v ∷ f.rest.now)
+abbrev pub filled_frame : Frame → Value → Value
+filled_frame f v = Con f.con (f.copied ++ v ∷ f.rest.now)
 
 -- the whole that a stack of frames becomes with the value v in the hole of the innermost; v itself, where
 -- there is no frame
-abbrev pub plugged : List Frame → Value → Value
-plugged [] v = v
-plugged (f ∷ fs) v = filled f (plugged fs v)
+abbrev pub filled_stack : List Frame → Value → Value
+filled_stack [] v = v
+filled_stack (f ∷ fs) v = filled_frame f (filled_stack fs v)
 
 -- how many nodes the subvalues behind a frame's hole have: those that are not copied yet
 abbrev pub nodes_left : Frame → ℕ
@@ -33,7 +33,7 @@ nodes_behind fs = sum (map nodes_left fs)
 abbrev pub Enters : Value → List Frame → List Frame → Turn → Type 0
 Enters v old new (Copied w) = (w ≡ v) × (new ≡ old)
 Enters v old new (Next first) =
-    (plugged new first.now ≡ plugged old v)
+    (filled_stack new first.now ≡ filled_stack old v)
     × (node_count first.now + nodes_behind new < node_count v + nodes_behind old)
 
 -- what going up does with a copy v of what the hole of the stack `old` wants: either w is the copy of the
@@ -41,6 +41,6 @@ Enters v old new (Next first) =
 -- `new` with it is still the same whole, and it and what remains behind holes have no more nodes than what
 -- remained had
 abbrev pub GoesUp : Value → List Frame → List Frame → Turn → Type 0
-GoesUp v old new (Copied w) = w ≡ plugged old v
+GoesUp v old new (Copied w) = w ≡ filled_stack old v
 GoesUp v old new (Next next) =
-    (plugged new next.now ≡ plugged old v) × (node_count next.now + nodes_behind new ≤ nodes_behind old)
+    (filled_stack new next.now ≡ filled_stack old v) × (node_count next.now + nodes_behind new ≤ nodes_behind old)

@@ -7,7 +7,7 @@ use Rattle.rb_decide.specs.declared.clause_matrix.Column.{Column}
 use Rattle.rb_decide.specs.declared.clause_matrix.Row.{Row}
 use Rattle.rb_decide.specs.declared.decision_tree.Tree.{Tree}
 use Rattle.rb_decide.specs.declared.decision_tree.TreeArm.{TreeArm}
-use Rattle.rb_decide.specs.Trees.{size, heads_in, tree_within, test_of, arms_of}
+use Rattle.rb_decide.specs.Trees.{size, count_of_heads, tree_within, test_of, arms_of}
 use Rattle.rb_core.specs.declared.types.Ty.{Ty}
 use Rattle.rb_core.specs.declared.types.DataDecl.{DataDecl}
 
@@ -37,17 +37,18 @@ AreBuilt ts old new (Some xs) = (xs ≡ ts) × (arms_size ts + new ≡ old)
 
 -- the tree of a matrix is built, by any number n of steps that is no less than its heads, or `old` nodes are too few
 abbrev pub IsTreeBuilt : List DataDecl → List Column → List Row → ℕ → ℕ → Option Tree → Type 0
-IsTreeBuilt types cols rows old new r = (n : ℕ) → heads_in rows ≤ n → IsBuilt (tree_within types n cols rows) old new r
+IsTreeBuilt types cols rows old new r =
+    (n : ℕ) → count_of_heads rows ≤ n → IsBuilt (tree_within types n cols rows) old new r
 
 -- the test of the first column of a matrix is built, with branches by n steps, where the matrix has at most n + 1
 -- heads; or `old` nodes are too few
 abbrev pub IsTestBuilt : List DataDecl → List Column → List Row → ℕ → ℕ → Option Tree → Type 0
 IsTestBuilt types cols rows old new r =
-    (n : ℕ) → heads_in rows ≤ suc n → IsBuilt (test_of types (tree_within types n) cols rows) old new r
+    (n : ℕ) → count_of_heads rows ≤ suc n → IsBuilt (test_of types (tree_within types n) cols rows) old new r
 
 -- the arms of a test of column c are built, one for each head of hs, with branches by n steps, where the matrix has
 -- at most n + 1 heads and its columns behind c are cs; or `old` nodes are too few
 abbrev pub AreArmsBuilt : List DataDecl → Column → List Column → List Row → List Head → ℕ → ℕ → Option (List TreeArm)
     → Type 0
 AreArmsBuilt types c cs rows hs old new r =
-    (n : ℕ) → heads_in rows ≤ suc n → AreBuilt (arms_of types (tree_within types n) c cs rows hs) old new r
+    (n : ℕ) → count_of_heads rows ≤ suc n → AreBuilt (arms_of types (tree_within types n) c cs rows hs) old new r

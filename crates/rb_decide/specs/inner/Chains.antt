@@ -8,7 +8,7 @@ use Rattle.rb_core.specs.declared.pattern.Pat.{Pat}
 use Rattle.rb_core.specs.declared.pattern.Pat.TheOpen as P
 use Rattle.rb_core.specs.declared.pattern.Pat.TheOpen.{Pat-F}
 use Rattle.rb_core.specs.declared.pattern.Pat.TheFolds.{fold-Pat}
-use Rattle.rb_matrix.specs.Counts.{head_count, row_heads}
+use Rattle.rb_matrix.specs.Counts.{head_count, row_head_count}
 use Rattle.rb_matrix.specs.declared.matrix.Head.{Head}
 use Rattle.rb_matrix.specs.declared.matrix.Head.TheVariants as H
 use Rattle.rb_decide.specs.declared.clause_matrix.Column.{Column}
@@ -88,4 +88,4 @@ IsPatternChain types p c = IsChained (chain types p c) (head_count p)
 -- each of their heads; the rest is as in `IsChained`
 abbrev pub IsFieldChain : List DataDecl → List Pat → List ℕ → List Ty → List GraphNode → ℕ → List GraphNode → ℕ → Type 0
 IsFieldChain types ps position fields =
-    IsChained (chain_fields (map (chain types) ps) position fields) (row_heads ps)
+    IsChained (chain_fields (map (chain types) ps) position fields) (row_head_count ps)

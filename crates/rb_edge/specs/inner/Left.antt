@@ -2,16 +2,17 @@
 use Rattle.std.specs.Prelude.{◌≡◌, ◌≤◌, ◌+◌, leb, ℕ, List, ◌++◌, length, Bool, IsTrue, Result, Ok, Err, IfOk, if◌then◌else◌}
 use Rattle.std.specs.declared.vec.Vec.{Vec}
 use Rattle.std.specs.declared.alloc.Global.{Global}
-use Rattle.rb_edge.specs.History.{Reading, handed, told_end, broken, on_last}
+use Rattle.rb_edge.specs.History.{Reading, longer_reading, reading_at_end, broken_reading, on_last}
 use Rattle.rb_edge.specs.declared.whole.SourceFault.{SourceFault}
 use Rattle.rb_edge.specs.declared.whole.SourceFault.TheVariants.{Failed, Memory}
 
 -- The file's reading after these bytes more were handed out, by the answer: with bytes, its end was told where they
 -- are within the limit; after a failure of the source a read of it failed; for want of memory it is left as it is.
 abbrev pub goes_on : ℕ → List ℕ → Result (Vec ℕ Global) SourceFault → Reading → Reading
-goes_on limit bytes (Ok _) r = if leb (length bytes) limit then told_end (handed bytes r) else handed bytes r
-goes_on limit bytes (Err Failed) r = broken (handed bytes r)
-goes_on limit bytes (Err Memory) r = handed bytes r
+goes_on limit bytes (Ok _) r =
+    if leb (length bytes) limit then reading_at_end (longer_reading bytes r) else longer_reading bytes r
+goes_on limit bytes (Err Failed) r = broken_reading (longer_reading bytes r)
+goes_on limit bytes (Err Memory) r = longer_reading bytes r
 
 -- Between the sources `old` and `new`, of any type S, some bytes more of the opened file were handed out, at most one
 -- over the limit. `tells` says whether a source tells its bytes, `left` which are left of the opened file, `readings`

@@ -21,7 +21,7 @@ use Rattle.rb_target.specs.declared.instr.Instr.{Instr}
 use Rattle.rb_target.specs.declared.instr.Instr.TheVariants.{Jump}
 use Rattle.rb_target.specs.Growth.{Grows, Nowhere}
 use Rattle.rb_target.specs.Meaning.{slots_at}
-use Rattle.rb_target.specs.Sheet.{Sheet, pushed}
+use Rattle.rb_target.specs.Sheet.{Sheet, with_more}
 use Rattle.rb_layout.specs.declared.agreed.LaidOut.{LaidOut}
 use Rattle.rb_layout.specs.declared.layout.Layout.{Layout}
 use Rattle.rb_layout.specs.declared.layout.Leaf.{Leaf}
@@ -178,7 +178,7 @@ pub record IsEndOf (agreed : LaidOut) (t n : ℕ) (xs : List Subvalue) (old new 
   pub is_leaf : leaf_at agreed.layouts t n ≡ Some leaf
   pub opens : HasOpens (opens_of agreed.covered.program.types leaf.prov (Named t)) [] xs
   pub is_way : way ≡ record { pc = length old.code; leaf = n; fields = xs }
-  pub code : new ≡ pushed old (Jump (length old.code + 1))
+  pub code : new ≡ with_more old (Jump (length old.code + 1))
 
 -- the way's leaf is one of the layout, and the way has parts at all its open positions, in slots below n
 abbrev pub IsWayOf : Plan → Layout → ℕ → Way → Type 0

@@ -24,7 +24,7 @@ use Rattle.rb_fragment.specs.declared.held.Held.{Held}
 use Rattle.rb_fragment.specs.Adding.{Adds}
 use Rattle.rb_fragment.specs.Arms.{ArmsAre, ArmsIn, AreShared, whole_match}
 use Rattle.rb_fragment.specs.Plan.{Plan, words_needed}
-use Rattle.rb_fragment.specs.Slots.{copies, joining}
+use Rattle.rb_fragment.specs.Slots.{copies, with_join}
 use Rattle.rb_compose.specs.Making.{MakesValue}
 use Rattle.rb_compose.specs.Subvalues.{ArePartsHeld}
 use Rattle.rb_fetch.specs.declared.choice.Choices.{Choices}
@@ -49,32 +49,32 @@ NoneFor con leaves n = (i : ℕ) (x : Leaf) → i < n → slice_get leaves i ≡
 -- Where arms meet ------------------------------------------------------------------------------
 
 -- the slots to which an arm copies its words: those that the arms before it share; none for the first arm
-abbrev pub moved_to : Option (List ℕ) → List ℕ
-moved_to None = []
-moved_to (Some xs) = xs
+abbrev pub move_targets : Option (List ℕ) → List ℕ
+move_targets None = []
+move_targets (Some xs) = xs
 
 -- the slots from which an arm copies its words: its own; none for the first arm, whose words stay where they are
-abbrev pub moved_from : Option (List ℕ) → List ℕ → List ℕ
-moved_from None slots = []
-moved_from (Some xs) slots = slots
+abbrev pub move_sources : Option (List ℕ) → List ℕ → List ℕ
+move_sources None slots = []
+move_sources (Some xs) slots = slots
 
 -- the slots that hold an arm's words in the end: those that the arms before it share, or its own for the first arm
-abbrev pub met_in : Option (List ℕ) → List ℕ → List ℕ
-met_in None slots = slots
-met_in (Some xs) slots = xs
+abbrev pub meeting_slots : Option (List ℕ) → List ℕ → List ℕ
+meeting_slots None slots = slots
+meeting_slots (Some xs) slots = xs
 
 -- the code b with copies of an arm's words from `slots` to the slots that arms share; b itself where none are shared
-abbrev pub moved : Sheet → Option (List ℕ) → List ℕ → Sheet
-moved b None slots = b
-moved b (Some xs) slots = record b { code = b.code ++ copies xs slots }
+abbrev pub with_moves : Sheet → Option (List ℕ) → List ℕ → Sheet
+with_moves b None slots = b
+with_moves b (Some xs) slots = record b { code = b.code ++ copies xs slots }
 
 -- Behind the code c of an arm's value its words stay in their slots, or go to those of the arms before it; and
 -- a jump is open.
 pub record IsMet (into : Option (List ℕ)) (slots : List ℕ) (c d : Sheet) (r : Met) : Type 0 where
-  pub shared : r.into ≡ met_in into slots
-  pub code : d ≡ joining c (moved_to into) (moved_from into slots)
+  pub shared : r.into ≡ meeting_slots into slots
+  pub code : d ≡ with_join c (move_targets into) (move_sources into slots)
   pub join : r.join ≡ record {
-    pc = length c.code + length (copies (moved_to into) (moved_from into slots));
+    pc = length c.code + length (copies (move_targets into) (move_sources into slots));
     arm = None;
     leaf = 0;
   }
@@ -134,7 +134,7 @@ pub record ArmsAreMade (plan : Plan) (t : ℕ) (layout : Layout) (ways : List Wa
     (into : Option (List ℕ)) (joins : List Hole) (starts : List ℕ) : Type 0 where
   pub adds : Adds plan e q
   pub shared : IsShared plan e.slots q.slots t into
-  pub arms : ArmsIn i e q joins starts (MakesNumber plan t layout ways e.slots (moved_to into))
+  pub arms : ArmsIn i e q joins starts (MakesNumber plan t layout ways e.slots (move_targets into))
 
 -- in every typed program whose layouts agree, and where type t has these leaves, the code from e to q is the arms of
 -- the first i ways

@@ -21,7 +21,7 @@ use Rattle.rb_fragment.specs.Reads.{mean, meant_of, joined_over, fits, fits_shar
 use Rattle.rb_fragment.specs.WordReads.{AreMeant, AllFit, IsSlotOf}
 use Rattle.rb_fetch.specs.declared.span.Span.{Span}
 use Rattle.rb_fetch.specs.declared.place.Wanted.TheVariants.{UnitOf}
-use Rattle.rb_compose.specs.Counts.{capped}
+use Rattle.rb_compose.specs.Counts.{capped_bits}
 use Rattle.rb_fetch.specs.Finding.{leaf_within}
 use Rattle.rb_fetch.specs.inner.Reads.{Spans}
 use Rattle.rb_fetch.specs.inner.Placing.{NoSpot}
@@ -72,7 +72,12 @@ is_whole width p = (p.l == width) && (first_bit p.kind == 0)
 
 -- `len` bits of a range behind its first `skip` ones, as a share that stands from bit a on
 abbrev pub share_of : Span → ℕ → ℕ → ℕ → Share
-share_of span skip len a = record { read = span.read; o = capped span.o + capped skip; l = capped len; a = capped a }
+share_of span skip len a = record {
+  read = span.read;
+  o = capped_bits span.o + capped_bits skip;
+  l = capped_bits len;
+  a = capped_bits a;
+}
 
 -- the leaf holds each of the first so many bits of the integer at a path
 abbrev pub HoldsInt : Leaf → List ℕ → ℕ → Type 0

@@ -9,7 +9,7 @@ use Rattle.rb_bits.specs.Words.{IsRange, take_of}
 use Rattle.rb_bytes.specs.Memory.{Memory}
 use Rattle.rb_fragment.specs.Reads.{mean, fits}
 use Rattle.rb_fragment.specs.declared.reads.Read.{Read, Slot, Number, Address, Loaded}
-use Rattle.rb_compose.specs.Counts.{capped}
+use Rattle.rb_compose.specs.Counts.{capped_bits}
 use Rattle.rb_fetch.specs.declared.span.Span.{Span}
 
 -- w has at most so many bits as the width says; any number where no width is given
@@ -52,7 +52,8 @@ reach width o l = if is_all width o l then 64 else l
 -- and which bits of it are taken
 abbrev pub step_span : Span → Step → Span
 step_span p s = record {
-  read = Loaded (Address p.read (capped p.o) (capped (reach p.width p.o p.l)) s.align) s.byte (capped s.width);
+  read = Loaded (Address p.read (capped_bits p.o) (capped_bits (reach p.width p.o p.l)) s.align) s.byte
+      (capped_bits s.width);
   width = Some s.width;
   o = s.o;
   l = s.l;

@@ -2,7 +2,7 @@
 use Rattle.std.specs.Prelude.{◌≡◌, ℕ, true}
 use Rattle.rb_target.specs.declared.instr.AluOp.TheVariants.{Mul}
 use Rattle.rb_target.specs.declared.instr.Instr.TheVariants.{Const, Alu}
-use Rattle.rb_target.specs.Sheet.{Sheet, pushed, with_slot}
+use Rattle.rb_target.specs.Sheet.{Sheet, with_more, with_slot}
 use Rattle.rb_fragment.specs.declared.reads.Read.{Read, Address}
 use Rattle.rb_fragment.specs.Plan.{Plan}
 use Rattle.rb_fragment.specs.Reads.{fits, MakesReadIn}
@@ -17,5 +17,5 @@ MakesAddress from o l align old new slot =
 -- the sheet `old`, and behind it code that leaves the word of slot `from` times a number in the second new slot
 abbrev pub multiple : ℕ → ℕ → Sheet → Sheet
 multiple from unit old =
-    let one = pushed (with_slot old) (Const old.slots unit) in
-    pushed (with_slot one) (Alu Mul 64 one.slots from old.slots)
+    let one = with_more (with_slot old) (Const old.slots unit) in
+    with_more (with_slot one) (Alu Mul 64 one.slots from old.slots)

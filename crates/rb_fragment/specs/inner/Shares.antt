@@ -10,7 +10,9 @@ use Rattle.rb_fragment.specs.Adding.{Adds}
 use Rattle.rb_fragment.specs.Pieces.{Straight}
 use Rattle.rb_fragment.specs.Reads.{joined_over, meant_of, fits_share}
 
--- the appended code puts a share into the slot d, over what stands there; the slots below d are kept
+-- the appended code puts the share p into the slot d, over what stands there. So where p and then the shares `rest`,
+-- each of which instructions can make over slots below k, put over what d holds, come to x, it leaves in d a number
+-- over which `rest` alone come to x. The slots below d are kept
 pub record PutsOne (plan : Plan) (p : Share) (k d : ℕ) (old new : Sheet) : Type 0 where
   pub adds : Adds plan old new
   pub runs : (rest : List Share) → list_all (λ b. b) (map (fits_share k) rest) ≡ true → (x : ℕ)

@@ -53,7 +53,9 @@ abbrev pub AreNoted : Looking → List Step → Type 0
 AreNoted look [] = Unit {0}
 AreNoted look (s ∷ ss) = IsNoted look s ss × AreNoted look ss
 
--- a descent that has found the places `known` sound and has `todo` still to do finds what is so from `root` on
+-- a descent from `root` stands so: the places `known` are sound; if all that `todo` is to look at is sound, the root
+-- is; the first fault of `todo` is the root's; and each place that `todo` is to note is sound once those are that the
+-- steps behind it are to look at
 pub record DescentStands (look : Looking) (root : At) (known : List At) (todo : List Step) : Type 0 where
   pub found : AllByRecursion (IsSound look) known
   pub sound : AreSound look todo → IsSound look root

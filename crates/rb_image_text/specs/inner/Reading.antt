@@ -30,8 +30,8 @@ digit_of b = if nat_le 48 b && nat_le b 57 then Some (b - 48) else None
 
 -- the move of byte b within a fixed word of which `read` bytes are read: to `next` where b is the word's next byte,
 -- else refused
-abbrev pub keyed : List ℕ → ℕ → ℕ → Spot → Move
-keyed word read b next = if b == slice_index word read then move.To next else move.Refused
+abbrev pub key_move : List ℕ → ℕ → ℕ → Spot → Move
+key_move word read b next = if b == slice_index word read then move.To next else move.Refused
 
 -- the move of a byte behind the word `root`: a blank leads to a root word, a line feed to a line, any other is
 -- refused
@@ -41,7 +41,7 @@ root_end b = if b == 32 then move.To (Prefix 0) else (if b == 10 then move.To (L
 -- the move of byte b where `read` bytes of the word `root` are read; behind all four a blank or a line feed must
 -- stand
 abbrev pub root_step : ℕ → ℕ → Move
-root_step read b = if nat_lt read 4 then keyed (codes "root") read b (Root (read + 1)) else root_end b
+root_step read b = if nat_lt read 4 then key_move (codes "root") read b (Root (read + 1)) else root_end b
 
 -- the move by the first digit of a root word; refused at None, a byte that is no digit
 abbrev pub first_hex : Option ℕ → Move
@@ -51,7 +51,7 @@ first_hex (Some d) = move.To (Word d)
 -- the move of byte b where `read` bytes of the `0x` of a root word are read; behind both the word's first digit must
 -- stand
 abbrev pub prefix_step : ℕ → ℕ → Move
-prefix_step read b = if nat_lt read 2 then keyed (codes "0x") read b (Prefix (read + 1)) else first_hex (hex_of b)
+prefix_step read b = if nat_lt read 2 then key_move (codes "0x") read b (Prefix (read + 1)) else first_hex (hex_of b)
 
 -- the move by one more digit of a root word, behind digits of the number w; refused at None, a byte that is no digit,
 -- behind a 0, and where the word would have more than 64 bits
@@ -73,7 +73,8 @@ first_address (Some d) = move.To (Address d)
 -- the move of byte b where `read` bytes of a line's `block ` are read; behind all six the first digit of an address
 -- must stand
 abbrev pub line_step : ℕ → ℕ → Move
-line_step read b = if nat_lt read 6 then keyed (codes "block ") read b (Line (read + 1)) else first_address (digit_of b)
+line_step read b =
+    if nat_lt read 6 then key_move (codes "block ") read b (Line (read + 1)) else first_address (digit_of b)
 
 -- the move by one more digit of a block's address, behind digits of the number n; refused at None, a byte that is no
 -- digit, behind a 0, and where the address would have more than 64 bits
@@ -162,15 +163,15 @@ abbrev pub start : Reader
 start = record { root = []; blocks = []; spot = Root 0 }
 
 -- the reader behind a move, with the root word or the block that the move makes whole; None where the move is refused
-abbrev pub moved : Reader → Move → Option Reader
-moved r (move.To spot) = Some (record r { spot = spot })
-moved r (move.Word w spot) = Some (record r { root = r.root ++ w ∷ []; spot = spot })
-moved r (move.Block block) = Some (record r { blocks = r.blocks ++ block ∷ []; spot = Line 0 })
-moved r move.Refused = None
+abbrev pub reader_behind : Reader → Move → Option Reader
+reader_behind r (move.To spot) = Some (record r { spot = spot })
+reader_behind r (move.Word w spot) = Some (record r { root = r.root ++ w ∷ []; spot = spot })
+reader_behind r (move.Block block) = Some (record r { blocks = r.blocks ++ block ∷ []; spot = Line 0 })
+reader_behind r move.Refused = None
 
 -- the reader after one byte more, or None where no text goes on so
 abbrev pub feed : Reader → ℕ → Option Reader
-feed r b = moved r (step r.spot b)
+feed r b = reader_behind r (step r.spot b)
 
 -- the reader after one byte more; None where there was none, or the byte is refused
 abbrev pub then_feed : Option Reader → ℕ → Option Reader

@@ -21,25 +21,25 @@ turns types layouts es None = false
 turns types layouts es (Some e) = not e.barred && goal_barred (knows es) types layouts e.goal
 
 -- the entries with entry i marked, where e is that entry; unchanged where there is none
-abbrev pub marked : List Entry → ℕ → Option Entry → List Entry
-marked es i None = es
-marked es i (Some e) = slice_set es i (record { goal = e.goal; barred = true })
+abbrev pub with_mark : List Entry → ℕ → Option Entry → List Entry
+with_mark es i None = es
+with_mark es i (Some e) = slice_set es i (record { goal = e.goal; barred = true })
 
 -- the entries after a look at entry i, which is marked where its goal holds by one step from the marked ones;
 -- unchanged where there is no such entry, or it is marked already
-abbrev pub looked : List DataDecl → List Layout → ℕ → List Entry → List Entry
-looked types layouts i es = if turns types layouts es (slice_get es i) then marked es i (slice_get es i) else es
+abbrev pub after_look : List DataDecl → List Layout → ℕ → List Entry → List Entry
+after_look types layouts i es = if turns types layouts es (slice_get es i) then with_mark es i (slice_get es i) else es
 
 -- the entries after a look at each of the first n, from the last of these to the first
-abbrev pub passed : List DataDecl → List Layout → ℕ → List Entry → List Entry
-passed types layouts zero es = es
-passed types layouts (suc n) es = passed types layouts n (looked types layouts n es)
+abbrev pub after_looks : List DataDecl → List Layout → ℕ → List Entry → List Entry
+after_looks types layouts zero es = es
+after_looks types layouts (suc n) es = after_looks types layouts n (after_look types layouts n es)
 
 -- a pass over the first n entries, from the last of these to the first, marks at least one
 abbrev pub changes : List DataDecl → List Layout → ℕ → List Entry → Bool
 changes types layouts zero es = false
 changes types layouts (suc n) es =
-    turns types layouts es (slice_get es n) || changes types layouts n (looked types layouts n es)
+    turns types layouts es (slice_get es n) || changes types layouts n (after_look types layouts n es)
 
 -- how many entries are not marked
 abbrev pub entries_left : List Entry → ℕ

@@ -9,7 +9,8 @@
 -- with layouts that agree with its types; a plan of it has these, and the switches that its matches may cost. `clean`
 -- asks that bits that no part of a value takes are 0. A memory is good where it is one that can come to be. A look is
 -- code that finds the leaf of a part.
-use Rattle.std.specs.Prelude.{◌≡◌, ℕ, ◌+◌, ◌<◌, ◌≤◌, ◌&&◌, ◌⊎◌, List, [], ◌∷◌, map, length, Bool, true, false, Some, slice_get}
+use Rattle.std.specs.Prelude.{◌≡◌, ℕ, ◌+◌, ◌<◌, ◌≤◌, ◌⊎◌, List, [], ◌∷◌, map, length, Bool, true, false, Some, slice_get}
+use Rattle.std.specs.List.{list_all}
 use Rattle.rb_core.specs.declared.value.Value.{Value}
 use Rattle.rb_core.specs.declared.types.Ty.{Ty}
 use Rattle.rb_core.specs.declared.types.Ty.TheVariants.{Named}
@@ -20,7 +21,7 @@ use Rattle.rb_core.specs.declared.pattern.Pat.TheOpen as P
 use Rattle.rb_core.specs.declared.pattern.Pat.TheOpen.{Pat-F}
 use Rattle.rb_core.specs.declared.pattern.Pat.TheFolds.{fold-Pat}
 use Rattle.rb_core.specs.Inference.{binders, all_binders}
-use Rattle.rb_core.specs.Matching.{all_bound, all_pass, bindings, matches_of}
+use Rattle.rb_core.specs.Matching.{all_bindings, all_pass, bindings, matches_of}
 use Rattle.rb_core.specs.Typing.{field_types}
 use Rattle.rb_core.specs.Values.{part_at}
 use Rattle.rb_bytes.specs.Memory.{IsGood}
@@ -64,17 +65,12 @@ IsOnly agreed t p leaf count = (n : ℕ) → n < count → (n ≡ leaf) ⊎ IsLe
 abbrev pub IsOnlyLeaf : LaidOut → ℕ → Pat → ℕ → Type 0
 IsOnlyLeaf agreed t p leaf = IsOnly agreed t p leaf (leaf_count agreed t)
 
--- whether none of some subpatterns has a variable, where that is given of each; so it is of no subpatterns
-abbrev pub all_unbound : List Bool → Bool
-all_unbound [] = true
-all_unbound (b ∷ bs) = b && all_unbound bs
-
 -- whether a pattern has no variable, where that is given of each of its subpatterns
 abbrev pub unbound_step : Pat-F Bool → Bool
 unbound_step (P.Wild at) = true
 unbound_step (P.Var at x) = false
 unbound_step (P.Num at n) = true
-unbound_step (P.Con at c bs) = all_unbound bs
+unbound_step (P.Con at c bs) = list_all (λ b. b) bs
 
 -- whether a pattern has no variable
 abbrev pub is_unbound : Pat → Bool
@@ -99,7 +95,7 @@ pub record BindsParts (plan : Plan) (most t leaf : ℕ) (words : List ℕ) (scop
 abbrev pub FieldsMatch : List Pat → ℕ → Value → List Binding → Type 0
 FieldsMatch subs i v bs =
     (vs : List Value) × ((j : ℕ) → part_at v ((i + j) ∷ []) ≡ slice_get vs j)
-    × (all_pass (map matches_of subs) vs ≡ true) × (bs ≡ all_bound (map bindings subs) vs)
+    × (all_pass (map matches_of subs) vs ≡ true) × (bs ≡ all_bindings (map bindings subs) vs)
 
 -- the switches that bind the variables of the patterns of some fields, at most, once the fields' words stand in slots
 abbrev pub fields_bound : Plan → List Pat → List Ty → ℕ

@@ -146,8 +146,8 @@ pub record IsGiven (job : Job) (s : List ℕ) (m : Memory) (clean : Bool) (v : V
 abbrev pub Run : Type 1
 Run = List Instr → Next → List ℕ → World → Bool → Value → Type 0
 
--- `Does` is so of each run over a value that is given to the job, in any finished code, whatever the open targets
--- become
+-- `Does` holds of each run over a value that is given to the job, from its first slots and world on, in any finished
+-- code that has the sheet `new` in its place, whatever the targets of the open `edges` become
 abbrev pub Runs : Job → Sheet → List Edge → Run → Type 0
 Runs job new edges Does =
     (final : List Instr) (callee : Callee) (next : Next) → Law final callee next
@@ -230,8 +230,10 @@ pub record AreClauseHoles (nodes : List GraphNode) (count : ℕ) (edges : List E
   pub each : (k : ℕ) (e : Edge) (h : Hole) → slice_get edges k ≡ Some e → slice_get holes k ≡ Some h
       → IsClauseHole nodes count e.hole h
 
--- the run leaves by a hole of clause k, after looks at the places of one way through the graph, and keeps the slots
--- below the job's base
+-- There are places whose positions are one way through the graph, from its root to a clause, and at each of which some
+-- clause has a number or a constructor; the run, from where the job's first code ends, leaves by a hole of clause k,
+-- with at most the switches of one look at each of these places, and keeps the slots below the job's base, the memory
+-- and the calls that are left.
 pub record LeavesOn (job : Job) (final : List Instr) (next : Next) (holes : List Hole) (s : List ℕ) (w : World)
     (k : ℕ) : Type 0 where
   pub path : List TypedPosition

@@ -37,7 +37,7 @@ use Rattle.rb_fetch.specs.Finding.{IsPlanOf, leaf_within}
 use Rattle.rb_match.specs.declared.knowledge.Known.{Known}
 use Rattle.rb_match.specs.declared.knowledge.Spot.{Spot}
 use Rattle.rb_match.specs.declared.saving.Source.{Source}
-use Rattle.rb_match.specs.Bounding.{rebuilding}
+use Rattle.rb_match.specs.Bounding.{rebuilding_bound}
 use Rattle.rb_match.specs.inner.Knowing.{AreKnown, view_of}
 use Rattle.rb_match.specs.inner.Asking.{AreSpots}
 
@@ -250,4 +250,4 @@ SavesSome agreed source path i = LearnsOf agreed (λ layouts t leaf. mends_at la
 abbrev pub SavesFields : LaidOut → ℕ → ℕ → List ℕ → List Spot → List ℕ → List Known → List Known → Sheet → Sheet
     → Type 0
 SavesFields agreed t leaf words spots position =
-    Learns agreed (λ plan. rebuilding plan.layouts (Named t)) t leaf words spots position
+    Learns agreed (λ plan. rebuilding_bound plan.layouts (Named t)) t leaf words spots position

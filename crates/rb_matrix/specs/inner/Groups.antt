@@ -12,16 +12,16 @@ use Rattle.rb_matrix.specs.declared.groups.Groups.{Groups}
 use Rattle.rb_matrix.specs.Heads.{row_head}
 use Rattle.rb_matrix.specs.Specialize.{special}
 
--- two ascending lists, of which the first begins with n and goes on as `rest` merges it with another: the numbers up
--- to n in ms, then n, and then the rest with what is left of ms
-abbrev pub beside : ℕ → (List ℕ → List ℕ) → List ℕ → List ℕ
-beside n rest [] = n ∷ rest []
-beside n rest (m ∷ ms) = if nat_lt n m then n ∷ rest (m ∷ ms) else m ∷ beside n rest ms
+-- the number n in its place in an ascending list, where `rest` says what becomes of the numbers behind it: the
+-- numbers up to n, then n, and then what `rest` makes of those above n
+abbrev pub insertion : ℕ → (List ℕ → List ℕ) → List ℕ → List ℕ
+insertion n rest [] = n ∷ rest []
+insertion n rest (m ∷ ms) = if nat_lt n m then n ∷ rest (m ∷ ms) else m ∷ insertion n rest ms
 
 -- two ascending lists of numbers as one that ascends
 abbrev pub merged : List ℕ → List ℕ → List ℕ
 merged [] ms = ms
-merged (n ∷ ns) ms = beside n (merged ns) ms
+merged (n ∷ ns) ms = insertion n (merged ns) ms
 
 -- the numbers with key k; none where no number has it
 abbrev pub numbers_with : Groups → ℕ → List ℕ

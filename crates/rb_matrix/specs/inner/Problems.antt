@@ -16,7 +16,7 @@ use Rattle.rb_matrix.specs.declared.matrix.Head.TheVariants as H
 use Rattle.rb_matrix.specs.declared.problem.Step.{Step}
 use Rattle.rb_matrix.specs.declared.problem.Step.TheVariants.{Front, Fold}
 use Rattle.rb_matrix.specs.declared.problem.Problem.{Problem}
-use Rattle.rb_matrix.specs.Counts.{rows_heads}
+use Rattle.rb_matrix.specs.Counts.{rows_head_count}
 use Rattle.rb_matrix.specs.Heads.{begins}
 use Rattle.rb_matrix.specs.Search.{AreTypesIn, useful_by, RowIsFound, AreUseless}
 
@@ -78,7 +78,7 @@ fields_bound types = sum (map decl_fields types)
 
 -- how many numbers and constructors stand in the rows of a problem, wanted and unwanted, at any depth
 abbrev pub heads_of : Problem → ℕ
-heads_of p = rows_heads p.wanted + rows_heads p.unwanted
+heads_of p = rows_head_count p.wanted + rows_head_count p.unwanted
 
 -- the weight of a problem: it is more than that of each of its parts, since a part has a column less and no more
 -- heads, or a head less and, for the column taken off, at most a constructor's fields as columns

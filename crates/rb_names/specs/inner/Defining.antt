@@ -11,15 +11,15 @@ use Rattle.rb_names.specs.declared.fault.NameFault.{NameFault}
 use Rattle.rb_names.specs.declared.tables.Tables.{Tables}
 use Rattle.rb_names.specs.declared.tables.Defining.{Defining}
 use Rattle.rb_names.specs.Tables.{Name, Table, meaning}
-use Rattle.rb_names.specs.Definitions.{TableKind, OfType, OfConstructor, OfFunction, OfLayout, Definition, same_kind, first_again, numbered_from, constructors_of, type_names, types_in, function_names}
+use Rattle.rb_names.specs.Definitions.{TableKind, OfType, OfConstructor, OfFunction, OfLayout, Definition, same_kind, first_again, numbered_names, constructors_of, type_names, types_in, function_names}
 use Rattle.rb_names.specs.Answers.{AnswersNumbering}
 use Rattle.rb_names.specs.Programs.{no_twice}
 
 -- a table after name is defined as x, given what name stood for before: it stays where that was something, and else
 -- has a new entry at its end
-abbrev pub defined : {A : Type 0} → Table A → Name → A → Option A → Table A
-defined table name x (Some before) = table
-defined table name x None = table ++ (name, x) ∷ []
+abbrev pub with_definition : {A : Type 0} → Table A → Name → A → Option A → Table A
+with_definition table name x (Some before) = table
+with_definition table name x None = table ++ (name, x) ∷ []
 
 -- whether this name is among these definitions as one of kind k, that is, in the table of that kind
 abbrev pub is_defined : TableKind → Name → List Definition → Bool
@@ -50,8 +50,8 @@ IsAgain before more fault =
     → AnswersNumbering {A = Unit {0}} (Err fault) (no_twice (first_again before (more ++ rest)))
 
 -- the name, where it is there already, that is, defined in its table before; none where it is new
-abbrev pub made_again : Bool → NameTree → Option NameTree
-made_again there name = if there then Some name else None
+abbrev pub repeated_name : Bool → NameTree → Option NameTree
+repeated_name there name = if there then Some name else None
 
 -- the table has exactly these names, whatever they stand for
 abbrev pub HasNames : {A : Type 0} → Table A → List Name → Type 0
@@ -61,7 +61,7 @@ HasNames table names = (name : Name) → is_some (meaning table name) ≡ list_a
 -- follow those of t
 abbrev pub with_rest : Tables → List ItemTree → Tables
 with_rest t items = record {
-  types = t.types ++ numbered_from (length t.types) (type_names items);
+  types = t.types ++ numbered_names (length t.types) (type_names items);
   constructors = t.constructors ++ constructors_of (length t.types) (types_in items);
-  functions = t.functions ++ numbered_from (length t.functions) (function_names items);
+  functions = t.functions ++ numbered_names (length t.functions) (function_names items);
 }

@@ -48,17 +48,17 @@ abbrev pub begins_with : Symbol → List Token → Bool
 begins_with s ts = at_front (λ t. is_symbol s t) ts
 
 -- takes the first token if it passes a test; else it is stuck there, behind the last where none is left
-unfoldable pub passing : (Token → Bool) → Reader (Unit {0})
-passing test [] = Err (stuck 0)
-passing test (t ∷ ts) = if test t then Ok (tt, ts) else Err (stuck (suc (length ts)))
+unfoldable pub passing_token : (Token → Bool) → Reader (Unit {0})
+passing_token test [] = Err (stuck 0)
+passing_token test (t ∷ ts) = if test t then Ok (tt, ts) else Err (stuck (suc (length ts)))
 
 -- takes symbol `s`; else it is stuck where another token stands, or none
 abbrev pub expect : Symbol → Reader (Unit {0})
-expect s = passing (λ t. is_symbol s t)
+expect s = passing_token (λ t. is_symbol s t)
 
 -- takes the reserved word `w`; else it is stuck where another token stands, or none
 abbrev pub expect_word : ReservedWord → Reader (Unit {0})
-expect_word w = passing (λ t. is_word w t)
+expect_word w = passing_token (λ t. is_word w t)
 
 -- what is read of a list, with the parts `xs` in front of it; a fault stays
 abbrev pub with_all : {A : Type 0} → List A → ReadOutcome (List A) → ReadOutcome (List A)

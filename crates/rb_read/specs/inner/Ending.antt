@@ -12,11 +12,11 @@ abbrev pub IsPrefix : List Token → Type 0
 IsPrefix ts = BeginsSome IsSpelled ts
 
 -- the file of the items that were read; it is stuck where a token is left behind them
-unfoldable pub ended : List ItemTree → List Token → Result FileTree Fault
-ended items [] = Ok (record { items = items })
-ended items (t ∷ ts) = Err (stuck (suc (length ts)))
+unfoldable pub finished_file : List ItemTree → List Token → Result FileTree Fault
+finished_file items [] = Ok (record { items = items })
+finished_file items (t ∷ ts) = Err (stuck (suc (length ts)))
 
 -- the file of what reading its items gives; it is stuck where a token is left behind them, and a fault stays
 unfoldable pub whole_file : ReadOutcome (List ItemTree) → Result FileTree Fault
-whole_file (Ok x) = ended x.0 x.1
+whole_file (Ok x) = finished_file x.0 x.1
 whole_file (Err e) = Err e

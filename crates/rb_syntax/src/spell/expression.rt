@@ -2,7 +2,7 @@
 //! follows it: to put a part is to add its tokens to `out`, the last of them first. The comments
 //! name them in the order of the text.
 
-ghost use Rattle.std.specs.Prelude.{◌≡◌, ◌∷◌, ℕ, suc, map, OnOk};
+ghost use Rattle.std.specs.Prelude.{◌≡◌, ◌∷◌, ℕ, map, OnOk};
 ghost use Rattle.rb_core.specs.declared.expression.Op.{Op};
 ghost use Rattle.rb_syntax.specs.declared.token.Symbol.TheVariants as symbol;
 ghost use Rattle.rb_syntax.specs.declared.token.ReservedWord.TheVariants as word;
@@ -10,7 +10,7 @@ ghost use Rattle.rb_syntax.specs.inner.Backward.{Wrote};
 ghost use Rattle.rb_syntax.specs.Written as written;
 ghost use Rattle.rb_syntax.specs.Written.{any_with, some_with};
 ghost use Rattle.rb_syntax.specs.Spelling as spelling;
-ghost use Rattle.rb_syntax.specs.Spelling.{expr_written, clause_written, fields_written, at_level, comma, op_word, lower_written, ty_written};
+ghost use Rattle.rb_syntax.specs.Spelling.{expr_written, clause_written, fields_written, at_level, comma, op_word, lower_written, ty_written, uint_written};
 
 use crate::spell::pattern::put_pat;
 use crate::spell::{put_lower, put_num, put_symbol, put_ty, put_uint, put_upper, put_word};
@@ -56,14 +56,7 @@ pub(crate) fn put_expr(
             Ok(())
         }
         ExprTree::Binary(_, op, a, b) => put_binary(alloc, out, *op, a.get(), b.get()),
-        ExprTree::To(_, bits, a) => {
-            put_symbol(out, Symbol::CloseParen)?;
-            put_expr(alloc, out, a.get())?;
-            put_symbol(out, Symbol::OpenParen)?;
-            put_uint(out, *bits)?;
-            put_word(out, ReservedWord::To)?;
-            Ok(())
-        }
+        ExprTree::To(_, bits, a) => put_conversion(alloc, out, *bits, a.get()),
         ExprTree::Let(_, name, ty, a, b) => put_let(alloc, out, name, ty, a.get(), b.get()),
         ExprTree::Match(_, scrutinee, clauses) => {
             put_match(alloc, out, scrutinee.get(), clauses.as_slice())?;
@@ -110,6 +103,26 @@ fn put_binary(
     put_expr(alloc, out, a)?;
     put_symbol(out, Symbol::OpenParen)?;
     put_word(out, word_of_op(op))?;
+    Ok(())
+}
+
+// Puts a conversion to another width, as `to u8(a)`.
+#[cycle(expression)]
+fn put_conversion(
+    alloc: Global,
+    out: &mut Vec<Token>,
+    bits: u8,
+    a: &ExprTree,
+) -> Result<(), AllocError>
+    ensures { OnOk result ((l : ℕ) → Wrote (λ rest. spelling.word_token word.To
+        ∷ uint_written bits (spelling.sym symbol.OpenParen ∷ expr_written a.now l
+        (spelling.sym symbol.CloseParen ∷ rest))) out.old.items out.new.items) }
+{
+    put_symbol(out, Symbol::CloseParen)?;
+    put_expr(alloc, out, a)?;
+    put_symbol(out, Symbol::OpenParen)?;
+    put_uint(out, bits)?;
+    put_word(out, ReservedWord::To)?;
     Ok(())
 }
 

@@ -5,7 +5,6 @@ ghost use Rattle.rb_core.specs.declared.types.Auto.{Auto};
 ghost use Rattle.rb_syntax.specs.declared.token.Symbol.TheVariants as symbol;
 ghost use Rattle.rb_syntax.specs.declared.token.ReservedWord.TheVariants as word;
 ghost use Rattle.rb_syntax.specs.inner.Backward.{Wrote};
-ghost use Rattle.rb_syntax.specs.Written.{each};
 ghost use Rattle.rb_syntax.specs.Spelling as spelling;
 ghost use Rattle.rb_syntax.specs.Spelling.{ty_written, upper_written, con_written, type_written, width_written, layout_written, param_written, fun_written, auto_word, item_written, fields_written, spell};
 

@@ -1,6 +1,6 @@
 //! Lists of parts that hold no part of their own kind.
 
-ghost use Rattle.std.specs.Prelude.{ℕ, map, OnOk};
+ghost use Rattle.std.specs.Prelude.{map, OnOk};
 ghost use Rattle.rb_syntax.specs.declared.token.Token.TheVariants as tok;
 ghost use Rattle.rb_syntax.specs.inner.Backward.{Wrote};
 ghost use Rattle.rb_syntax.specs.Written.{Writing, each, each_behind, any_with};

@@ -1,11 +1,11 @@
 //! Provenances and the trees of layouts.
 
-ghost use Rattle.std.specs.Prelude.{◌≡◌, ◌∷◌, ℕ, suc, map, OnOk};
+ghost use Rattle.std.specs.Prelude.{◌≡◌, ◌∷◌, ℕ, map, OnOk};
 ghost use Rattle.rb_core.specs.declared.layout_decl.LayItem.{LayItem};
 ghost use Rattle.rb_syntax.specs.declared.token.Symbol.TheVariants as symbol;
 ghost use Rattle.rb_syntax.specs.declared.token.ReservedWord.TheVariants as word;
 ghost use Rattle.rb_syntax.specs.inner.Backward.{Wrote};
-ghost use Rattle.rb_syntax.specs.Written.{each, any_with, some_with};
+ghost use Rattle.rb_syntax.specs.Written.{each, some_with};
 ghost use Rattle.rb_syntax.specs.Spelling as spelling;
 ghost use Rattle.rb_syntax.specs.Spelling.{below_written, prov_written, fields_written, at_level, comma, loc_written, lay_item_written, split_written, arm_written};
 

@@ -208,31 +208,31 @@ other_in (Some (Number n)) = Some n
 other_in o = None
 
 -- the arms with n behind them, where that is an arm's number, or its target if the arm's number was read before
-abbrev pub paired_by : List SwitchArm → Option ℕ → ℕ → Arms
-paired_by arms None n = record { arms = arms; number = Some n }
-paired_by arms (Some m) n = record { arms = arms ++ record { number = m; target = n } ∷ []; number = None }
+abbrev pub arms_with_number : List SwitchArm → Option ℕ → ℕ → Arms
+arms_with_number arms None n = record { arms = arms; number = Some n }
+arms_with_number arms (Some m) n = record { arms = arms ++ record { number = m; target = n } ∷ []; number = None }
 
 -- the arms read so far, with one word more: the number of an arm, or the target behind it
-abbrev pub paired : Arms → LineWord → Arms
-paired a w = paired_by a.arms a.number (value_of w)
+abbrev pub arms_with_word : Arms → LineWord → Arms
+arms_with_word a w = arms_with_number a.arms a.number (value_of w)
 
 -- the arms that words spell, each a number and its target; a last number without a target is left out
 abbrev pub arms_in : List LineWord → List SwitchArm
-arms_in ws = (fold paired (record { arms = []; number = None }) ws).arms
+arms_in ws = (fold arms_with_word (record { arms = []; number = None }) ws).arms
 
 -- the two lists of a call with one number more, at the end of the second where `of` was read, else of the first
-abbrev pub listed_by : Bool → Lists → ℕ → Lists
-listed_by true l n = record l { froms = l.froms ++ n ∷ [] }
-listed_by false l n = record l { dests = l.dests ++ n ∷ [] }
+abbrev pub lists_with_number : Bool → Lists → ℕ → Lists
+lists_with_number true l n = record l { froms = l.froms ++ n ∷ [] }
+lists_with_number false l n = record l { dests = l.dests ++ n ∷ [] }
 
 -- the two lists of a call with one word more: `of` begins the second, and once more it changes nothing
-abbrev pub listed : Lists → LineWord → Lists
-listed l Of = record l { behind = true }
-listed l w = listed_by l.behind l (value_of w)
+abbrev pub lists_with_word : Lists → LineWord → Lists
+lists_with_word l Of = record l { behind = true }
+lists_with_word l w = lists_with_number l.behind l (value_of w)
 
 -- the two lists that words spell, the first before `of` and the second behind it; without `of` the second is empty
 abbrev pub lists_in : List LineWord → Lists
-lists_in ws = fold listed (record { dests = []; froms = []; behind = false }) ws
+lists_in ws = fold lists_with_word (record { dests = []; froms = []; behind = false }) ws
 
 -- the instruction that a key and the words of a whole line behind it spell; for words of no whole line, 0 stands for
 -- a number that is missing and Add for an operation

@@ -39,36 +39,36 @@ line_next f l g =
     then To (Starting (record f { body = f.body ++ instruction_of l.key l.words ∷ [] })) else Refused)
 
 -- the move behind the word `end` of the function f, by the gap g, which must be a line's end
-abbrev pub closing : CodeFun → ℕ → Move
-closing f g = if g == 10 then Closed f else Refused
+abbrev pub end_move : CodeFun → ℕ → Move
+end_move f g = if g == 10 then Closed f else Refused
 
 -- the move behind a line's first word in the function f, by the gap g and the key that the word is; refused where
 -- it is none
-abbrev pub started : CodeFun → ℕ → Option Key → Move
-started f g None = Refused
-started f g (Some k) = line_next f (first_line k) g
+abbrev pub start_move : CodeFun → ℕ → Option Key → Move
+start_move f g None = Refused
+start_move f g (Some k) = line_next f (first_line k) g
 
 -- the move behind one word more of the line l in the function f, by the gap g; refused where no word was read
 -- that may stand there
-abbrev pub worded : CodeFun → Line → ℕ → Option LineWord → Move
-worded f l g None = Refused
-worded f l g (Some w) = line_next f (after_word l w) g
+abbrev pub word_move : CodeFun → Line → ℕ → Option LineWord → Move
+word_move f l g None = Refused
+word_move f l g (Some w) = line_next f (after_word l w) g
 
 -- the move behind one of the three counts of the function f, t saying which, by the gap g: a blank, or a line's
 -- end behind the third; refused where the word is no number
-abbrev pub headed : CodeFun → Turn → ℕ → Option ℕ → Move
-headed f t g None = Refused
-headed f First g (Some n) = if g == 32 then To (Heading (record f { params = n }) Second) else Refused
-headed f Second g (Some n) = if g == 32 then To (Heading (record f { results = n }) Third) else Refused
-headed f Third g (Some n) = if g == 10 then To (Starting (record f { slots = n })) else Refused
+abbrev pub count_move : CodeFun → Turn → ℕ → Option ℕ → Move
+count_move f t g None = Refused
+count_move f First g (Some n) = if g == 32 then To (Heading (record f { params = n }) Second) else Refused
+count_move f Second g (Some n) = if g == 32 then To (Heading (record f { results = n }) Third) else Refused
+count_move f Third g (Some n) = if g == 10 then To (Starting (record f { slots = n })) else Refused
 
 -- the move of a word w and the gap g behind it, from a spot; an empty word is refused everywhere
 abbrev pub step : Spot → List ℕ → ℕ → Move
 step Outside w g = if (g == 32) && pointwise nat_eq w (codes "fun") then To Naming else Refused
 step Naming w g = if (g == 32) && nat_lt 0 (length w) then To (Heading (named w) First) else Refused
-step (Heading f t) w g = headed f t g (number_of_word w)
-step (Starting f) w g = if pointwise nat_eq w (codes "end") then closing f g else started f g (key_of_word w)
-step (Within f l) w g = worded f l g (word_in (next_field l.rest) w)
+step (Heading f t) w g = count_move f t g (number_of_word w)
+step (Starting f) w g = if pointwise nat_eq w (codes "end") then end_move f g else start_move f g (key_of_word w)
+step (Within f l) w g = word_move f l g (word_in (next_field l.rest) w)
 
 -- a byte of a word ------------------------------------------------------------------------------
 
@@ -98,18 +98,19 @@ abbrev pub start : Progress
 start = record { funs = []; spot = Outside; word = [] }
 
 -- the progress behind a move, where these functions were whole before; None where it is refused
-abbrev pub moved : List CodeFun → Move → Option Progress
-moved funs (To spot) = Some (record { funs = funs; spot = spot; word = [] })
-moved funs (Closed f) = Some (record { funs = funs ++ f ∷ []; spot = Outside; word = [] })
-moved funs Refused = None
+abbrev pub progress_behind : List CodeFun → Move → Option Progress
+progress_behind funs (To spot) = Some (record { funs = funs; spot = spot; word = [] })
+progress_behind funs (Closed f) = Some (record { funs = funs ++ f ∷ []; spot = Outside; word = [] })
+progress_behind funs Refused = None
 
 -- the progress with one byte more of a word, or None where no word begins so
-abbrev pub spelled_on : Progress → ℕ → Option Progress
-spelled_on p b = if goes_on p.spot (p.word ++ b ∷ []) b then Some (record p { word = p.word ++ b ∷ [] }) else None
+abbrev pub progress_with_byte : Progress → ℕ → Option Progress
+progress_with_byte p b =
+    if goes_on p.spot (p.word ++ b ∷ []) b then Some (record p { word = p.word ++ b ∷ [] }) else None
 
 -- the progress with one byte more, or None where it is refused
 abbrev pub feed : Progress → ℕ → Option Progress
-feed p b = if is_gap b then moved p.funs (step p.spot p.word b) else spelled_on p b
+feed p b = if is_gap b then progress_behind p.funs (step p.spot p.word b) else progress_with_byte p b
 
 -- the progress with one byte more, or None where there is none or the byte is refused
 abbrev pub then_feed : Option Progress → ℕ → Option Progress

@@ -252,8 +252,8 @@ pub struct Arms {
 }
 
 // The arms with one word more: the number of an arm, or the target behind it.
-fn paired(read: Arms, word: LineWord) -> Result<Arms, AllocError>
-    ensures { IfOk result (λ a. a ≡ spec.paired read word) }
+fn arms_with(read: Arms, word: LineWord) -> Result<Arms, AllocError>
+    ensures { IfOk result (λ a. a ≡ spec.arms_with_word read word) }
 {
     let Arms { mut arms, number } = read;
     let value = value_of(word);
@@ -280,7 +280,7 @@ fn arms_in(alloc: Global, words: &[LineWord]) -> Result<Seq<SwitchArm>, AllocErr
         number: None,
     };
     for word in words {
-        read = paired(read, *word)?;
+        read = arms_with(read, *word)?;
     }
     let Arms { arms, .. } = read;
     Ok(arms)
@@ -296,8 +296,8 @@ pub struct Lists {
 }
 
 // The lists with one word more: `of` begins the second, and once more it changes nothing.
-fn listed(read: Lists, word: LineWord) -> Result<Lists, AllocError>
-    ensures { IfOk result (λ l. l ≡ spec.listed read word) }
+fn lists_with(read: Lists, word: LineWord) -> Result<Lists, AllocError>
+    ensures { IfOk result (λ l. l ≡ spec.lists_with_word read word) }
 {
     let Lists {
         mut dests,
@@ -337,7 +337,7 @@ fn lists_in(alloc: Global, words: &[LineWord]) -> Result<Lists, AllocError>
         behind: false,
     };
     for word in words {
-        read = listed(read, *word)?;
+        read = lists_with(read, *word)?;
     }
     Ok(read)
 }

@@ -90,8 +90,8 @@ fn with_instr(fun: CodeFun, instr: Instr) -> Result<CodeFun, AllocError>
 }
 
 // The move behind a function's `end`, by the byte behind it, which must be a line's end.
-fn closing(fun: CodeFun, gap: u8) -> Move
-    ensures { result ≡ spec.closing fun gap }
+fn end_move(fun: CodeFun, gap: u8) -> Move
+    ensures { result ≡ spec.end_move fun gap }
 {
     if gap == b'\n' {
         Move::Closed(fun)
@@ -102,11 +102,11 @@ fn closing(fun: CodeFun, gap: u8) -> Move
 
 // The move behind the first word of a line within a function, a key or `end`, by the byte behind
 // it; refused for any other word.
-fn starting(alloc: Global, fun: CodeFun, word: &[u8], gap: u8) -> Result<Move, AllocError>
+fn start_move(alloc: Global, fun: CodeFun, word: &[u8], gap: u8) -> Result<Move, AllocError>
     ensures { IfOk result (λ m. m ≡ spec.step (Spot.Starting fun) word.now gap) }
 {
     if word == b"end".as_slice() {
-        return Ok(closing(fun, gap));
+        return Ok(end_move(fun, gap));
     }
     match key_of_word(word) {
         Some(key) => line_next(alloc, fun, Line::first(alloc, key)?, gap),
@@ -116,8 +116,8 @@ fn starting(alloc: Global, fun: CodeFun, word: &[u8], gap: u8) -> Result<Move, A
 
 // The move behind a count of a function's first line, `turn` saying which, by the byte behind it:
 // a blank, or a line's end behind the third.
-fn headed(fun: CodeFun, turn: Turn, gap: u8, count: usize) -> Move
-    ensures { result ≡ spec.headed fun turn gap (Some count) }
+fn count_move(fun: CodeFun, turn: Turn, gap: u8, count: usize) -> Move
+    ensures { result ≡ spec.count_move fun turn gap (Some count) }
 {
     let CodeFun {
         name,
@@ -150,7 +150,7 @@ fn headed(fun: CodeFun, turn: Turn, gap: u8, count: usize) -> Move
 
 // The move behind a function's name, by the byte behind it, which must be a blank; an empty name
 // is refused. That the bytes are a name's was seen as they were read.
-fn named(alloc: Global, name: &[u8], gap: u8) -> Result<Move, AllocError>
+fn name_move(alloc: Global, name: &[u8], gap: u8) -> Result<Move, AllocError>
     ensures { IfOk result (λ m. m ≡ spec.step Spot.Naming name.now gap) }
 {
     if gap != b' ' || name.len() == 0 {
@@ -185,12 +185,12 @@ fn step(alloc: Global, spot: Spot, word: &[u8], gap: u8) -> Result<Move, AllocEr
 {
     match spot {
         Spot::Outside => Ok(outside(word, gap)),
-        Spot::Naming => named(alloc, word, gap),
+        Spot::Naming => name_move(alloc, word, gap),
         Spot::Heading(fun, turn) => match number_of_word(word) {
-            Some(count) => Ok(headed(fun, turn, gap, count as usize)),
+            Some(count) => Ok(count_move(fun, turn, gap, count as usize)),
             None => Ok(Move::Refused),
         },
-        Spot::Starting(fun) => starting(alloc, fun, word, gap),
+        Spot::Starting(fun) => start_move(alloc, fun, word, gap),
         Spot::Within(fun, line) => match line.field().word(word) {
             Some(next) => line_next(alloc, fun, line.with_word(next)?, gap),
             None => Ok(Move::Refused),
@@ -235,7 +235,7 @@ impl Reader {
     // of no use then.
     fn feed_gap(&mut self, gap: u8) -> Result<bool, AllocError>
         ensures { IfOk result (λ fed. spec.IsFed
-            (spec.moved self.old.funs (spec.step self.old.spot self.old.word gap)) self.new fed) }
+            (spec.progress_behind self.old.funs (spec.step self.old.spot self.old.word gap)) self.new fed) }
     {
         let spot = mem::replace(&mut self.spot, Spot::Outside);
         let next = step(self.alloc, spot, self.word.as_slice(), gap)?;
@@ -251,7 +251,7 @@ impl Reader {
     // Reads a byte of a word, or says by false that no word there begins so; the reader is of no
     // use then.
     fn feed_word(&mut self, byte: u8) -> Result<bool, AllocError>
-        ensures { IfOk result (λ fed. spec.IsFed (spec.spelled_on self.old byte) self.new fed) }
+        ensures { IfOk result (λ fed. spec.IsFed (spec.progress_with_byte self.old byte) self.new fed) }
     {
         self.word.push(byte)?;
         Ok(goes_on(&self.spot, self.word.as_slice(), byte))

@@ -46,13 +46,13 @@ pub record IsLoaded (facts : List Fact) (base offset width : ℕ) : Type 0 where
 
 -- the fact that an instruction makes of the slot that it writes, told by the slots before it; None for a put, and for
 -- what places or stores, jumps, switches, calls or returns
-abbrev pub made_of : Instr → Option Fact
-made_of (Const d c) = Some (record { slot = d; content = Number c })
-made_of (Copy d a) = Some (record { slot = d; content = Same a })
-made_of (Alu op n d a b) = Some (record { slot = d; content = Computed op n a b })
-made_of (Take d a o l) = Some (record { slot = d; content = Part a o l })
-made_of (Load d a offset width) = Some (record { slot = d; content = Loaded a offset width })
-made_of i = None
+abbrev pub made_fact : Instr → Option Fact
+made_fact (Const d c) = Some (record { slot = d; content = Number c })
+made_fact (Copy d a) = Some (record { slot = d; content = Same a })
+made_fact (Alu op n d a b) = Some (record { slot = d; content = Computed op n a b })
+made_fact (Take d a o l) = Some (record { slot = d; content = Part a o l })
+made_fact (Load d a offset width) = Some (record { slot = d; content = Loaded a offset width })
+made_fact i = None
 
 -- the content is told by the slot k: it names that slot; a number is told by none
 abbrev pub IsToldBy : Content → ℕ → Type 0

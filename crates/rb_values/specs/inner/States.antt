@@ -6,7 +6,7 @@ use Rattle.rb_values.specs.declared.sign.Sign.TheVariants as sign
 use Rattle.rb_values.specs.declared.outline.Mode.{Mode}
 use Rattle.rb_values.specs.declared.outline.Mode.TheVariants as mode
 use Rattle.rb_values.specs.declared.outline.Outline.{Outline}
-use Rattle.rb_values.specs.Terms.{Term, Terms, number, build, none, also, spelled, terms_nodes, term_nodes}
+use Rattle.rb_values.specs.Terms.{Term, Terms, number, build, none, also, term_signs, terms_nodes, term_nodes}
 
 -- a name whose fields have begun, with those that are whole
 pub record Wait : Type 0 where
@@ -98,7 +98,7 @@ answer s (t ∷ ts) = on (step s t) (λ s. answer s ts)
 -- the signs of terms, each with a comma behind it, in front of `rest`
 abbrev pub each : Terms → List Sign → List Sign
 each none rest = rest
-each (also t ts) rest = spelled t (sign.Comma ∷ each ts rest)
+each (also t ts) rest = term_signs t (sign.Comma ∷ each ts rest)
 
 -- the signs of the names that wait, the outermost first, with their whole fields, in front of `rest`
 abbrev pub signs_of_waits : List Wait → List Sign → List Sign
@@ -109,7 +109,7 @@ signs_of_waits (o ∷ os) rest = signs_of_waits os (sign.Name o.at o.name ∷ si
 abbrev pub signs_of_state : State → List Sign → List Sign
 signs_of_state (expecting os) rest = signs_of_waits os rest
 signs_of_state (named at x os) rest = signs_of_waits os (sign.Name at x ∷ rest)
-signs_of_state (complete t os) rest = signs_of_waits os (spelled t rest)
+signs_of_state (complete t os) rest = signs_of_waits os (term_signs t rest)
 
 -- the signs `ss` lead to state s: the state shows just them, and what follows on them is read as from the state
 pub record IsStateOf (ss : List Sign) (s : State) : Type 0 where

@@ -2,7 +2,7 @@
 -- the last; `os` are the names that wait, the innermost first. The frame of a name is what is kept of it: its byte,
 -- its constructor where its type has one, how many fields are whole, and whether all nodes before it fit. A state is
 -- where reading stands.
-use Rattle.std.specs.Prelude.{◌≡◌, ℕ, List, [], ◌∷◌, ◌++◌, Bool, true, false, Option, Some, None, slice_get}
+use Rattle.std.specs.Prelude.{◌≡◌, ℕ, List, [], ◌∷◌, ◌++◌, Bool, true, false, Option, Some, None, slice_get, unwrap_or}
 use Rattle.rb_core.specs.declared.value.Value.{Value}
 use Rattle.rb_core.specs.declared.types.Ty.{Ty}
 use Rattle.rb_core.specs.declared.types.ConRef.{ConRef}
@@ -10,7 +10,7 @@ use Rattle.rb_core.specs.declared.types.DataDecl.{DataDecl}
 use Rattle.rb_values.specs.declared.typing.Frame.{Frame}
 use Rattle.rb_values.specs.declared.typing.Typing.{Typing}
 use Rattle.rb_values.specs.Terms.{Term, build, none, term_count}
-use Rattle.rb_values.specs.Fitting.{con_named, con_fields, misfits, misfits_each, first, or_none, value_of, values_of}
+use Rattle.rb_values.specs.Fitting.{con_named, con_fields, misfits, misfits_each, first, value_of, values_of}
 use Rattle.rb_values.specs.inner.States.{Wait, waits, State, expecting, named, complete, waits_of}
 
 -- What is tried at a type, where one is: below a node that does not fit, and behind the last field, nothing is.
@@ -51,7 +51,7 @@ wait_misfits types (Some ty) o =
 -- the values of the whole fields of a name that waits, where it is tried at this type; no
 -- values where it is not tried
 abbrev pub wait_values : List DataDecl → Option Ty → Wait → List Value
-wait_values types e o = values_of types o.fields (or_none (con_fields types (con_at types e o.name)))
+wait_values types e o = values_of types o.fields (unwrap_or (con_fields types (con_at types e o.name)) [])
 
 -- no node is noted that does not fit
 abbrev pub is_clean : Option ℕ → Bool
@@ -132,7 +132,7 @@ module _ (types : List DataDecl) (root : Ty) where
     pub values_are : fault ≡ None → values ≡ values_of_waits (o ∷ os)
 
 -- the state with a name that stands last taken as whole without fields; any other state as it is
-abbrev pub settled : State → State
-settled (expecting os) = expecting os
-settled (named at x os) = complete (build at x none) os
-settled (complete t os) = complete t os
+abbrev pub settled_state : State → State
+settled_state (expecting os) = expecting os
+settled_state (named at x os) = complete (build at x none) os
+settled_state (complete t os) = complete t os

@@ -1,9 +1,9 @@
-use Rattle.std.proofs.Common.{◌≡◌, ◌++◌}
+use Rattle.std.proofs.Common.{◌++◌}
 use Rattle.std.specs.List.{flat_map}
-use Rattle.rb_core.specs.Layouts.{leaves, leaves_under}
+use Rattle.std.proofs.lemmas.Result.{on_ok_weaker}
+use Rattle.rb_core.specs.Layouts.{leaves_under}
 use Rattle.rb_agree.specs.inner.Leaves.{items_under, shown_leaves}
 use Rattle.rb_agree.proofs.Reading.{arm-added, arms-end, else-added, split-added}
-use Rattle.rb_agree.proofs.Writing.{on-ok}
 use Rattle.rb_agree.proofs.leaves.+reading.Goals as goal
 
 pub add_arms-loop-arm-preserved : goal.add_arms-loop-arm-preserved
@@ -22,7 +22,6 @@ add_tree-returns-in-None t c =
 
 pub add_tree-returns-in-Some : goal.add_tree-returns-in-Some
 add_tree-returns-in-Some t c =
-    on-ok c.add_tree.result (shown_leaves c.add_tree.new.out ≡ shown_leaves c.add_arms.new.out ++ items_under (leaves c.get.result.now))
-    (shown_leaves c.add_tree.new.out ≡ shown_leaves c.args.out.now ++ items_under (leaves c.args.tree.now))
+    on_ok_weaker c.add_tree.result
     (λ rest. else-added c.args.out.now c.add_arms.new.out c.add_tree.new.out c.args.tree.now c.in-Split.field-0 c.in-Split.arms c.as_slice-in-Split.result.now c.in-Split.other c.in-Some.tree c.get.result.now
     c.in-Split.is c.in-Some.is c.as_slice-in-Split.ensures c.get.ensures c.in_ok-add_arms-in-Split.ensures rest) c.add_tree.ensures

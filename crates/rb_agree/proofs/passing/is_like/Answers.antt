@@ -1,16 +1,13 @@
-use Rattle.rb_agree.specs.inner.Alike.{AreAlike}
-use Rattle.rb_agree.specs.inner.Passing.{IsLike}
-use Rattle.rb_agree.proofs.Alikeness.{told}
+use Rattle.std.proofs.Common.{get_or}
+use Rattle.std.proofs.lemmas.Option.{slice_get-get_or}
 use Rattle.rb_agree.proofs.Lists.{at-item}
 use Rattle.rb_agree.proofs.passing.is_like.Goals as goal
 
-pub returns-in-Some-get : goal.returns-in-Some-get
-returns-in-Some-get c =
-    told c.are_alike.result (AreAlike c.args.types.now c.in-Some-get.one.now c.args.leaf.now c.args.loc.now) (IsLike c.args.types.now c.args.leaves.now c.args.leaf.now c.args.loc.now c.args.prior)
-    (λ h. (
-      c.in-Some.n,
-      c.in-Some-get.one.now,
-      c.in-Some.is,
-      at-item c.args.leaves.now c.in-Some.n c.in-Some-get.one.now c.in-Some-get.ensures.lookup.3.0 c.in-Some-get.ensures.lookup.1,
-      h,
-    )) c.are_alike.ensures
+pub returns-then-are_alike : goal.returns-then-are_alike
+returns-then-are_alike c =
+    let n = get_or c.args.priors.now c.loop-n.n-index 0 in (
+      c.loop-n.n-index,
+      n,
+      slice_get-get_or c.args.priors.now c.loop-n.n-index 0 c.loop-n-test.true,
+      (c.in-Some.one.now, at-item c.args.leaves.now n c.in-Some.one.now c.in-Some.ensures.lookup.3.0 c.in-Some.ensures.lookup.1, c.if-are_alike.ensures),
+    )

@@ -27,19 +27,19 @@ returns-in-Holding c = holds-nowhere c.args.ruled.now.program.now c.args.ruled.n
 
 pub returns-in-Values : goal.returns-in-Values
 returns-in-Values c =
-    holds-values c.args.ruled.now.program.now c.args.ruled.now.layouts.now c.args.ruled.now.ty c.args.ruled.now.layout.now c.args.ruled.now.rule c.as_slice.result.now c.sharing.result c.in-Values.is c.as_slice.ensures c.sharing.ensures
+    holds-values c.args.ruled.now.program.now c.args.ruled.now.layouts.now c.args.ruled.now.ty c.args.ruled.now.layout.now c.args.ruled.now.rule c.as_slice.result.now c.sharing_marks.result c.in-Values.is c.as_slice.ensures c.sharing_marks.ensures
 
 pub returns-in-Tests : goal.returns-in-Tests
 returns-in-Tests c =
-    holds-tests c.args.ruled.now.program.now c.args.ruled.now.layouts.now c.args.ruled.now.ty c.args.ruled.now.layout.now c.args.ruled.now.rule c.as_slice-in-Tests.result.now c.failing.result c.in-Tests.is c.as_slice-in-Tests.ensures c.failing.ensures
+    holds-tests c.args.ruled.now.program.now c.args.ruled.now.layouts.now c.args.ruled.now.ty c.args.ruled.now.layout.now c.args.ruled.now.rule c.as_slice-in-Tests.result.now c.failure_marks.result c.in-Tests.is c.as_slice-in-Tests.ensures c.failure_marks.ensures
 
-pub sharing-requires-clause-inhabited : goal.sharing-requires-clause-inhabited
-sharing-requires-clause-inhabited c = inhabited c.args.ruled.now.program.now c.as_slice.result.now c.as_slice.ensures c.requires.ruled.known.typed
+pub sharing_marks-requires-clause-inhabited : goal.sharing_marks-requires-clause-inhabited
+sharing_marks-requires-clause-inhabited c = inhabited c.args.ruled.now.program.now c.as_slice.result.now c.as_slice.ensures c.requires.ruled.known.typed
 
-pub sharing-requires-clause-ty : goal.sharing-requires-clause-ty
-sharing-requires-clause-ty c =
+pub sharing_marks-requires-clause-ty : goal.sharing_marks-requires-clause-ty
+sharing_marks-requires-clause-ty c =
     type-in c.args.ruled.now.program.now c.args.ruled.now.layouts.now c.args.ruled.now.related.now c.as_slice.result.now c.args.ruled.now.ty c.args.ruled.now.layout.now c.as_slice.ensures c.requires.ruled.known c.requires.ruled.layout
 
-pub failing-requires : goal.failing-requires
-failing-requires c = λ n leaf at.
+pub failure_marks-requires : goal.failure_marks-requires
+failure_marks-requires c = λ n leaf at.
     subst (λ (r : Rule). RuleIsReady c.args.ruled.now.layouts.now r) c.in-Tests.is c.requires.ready c.args.ruled.now.ty c.args.ruled.now.layout.now n leaf c.requires.ruled.layout at

@@ -1,5 +1,6 @@
 use Rattle.std.proofs.Common.{Some, None, Option, subst, ◌∙◌, ap}
 use Rattle.std.specs.Prelude.{is_some}
+use Rattle.std.proofs.lemmas.Result.{IfOk-weaker}
 use Rattle.rb_layout.specs.declared.evidence.Why.{Why}
 use Rattle.rb_layout.specs.declared.layout.FlatTree as F
 use Rattle.rb_layout.specs.declared.layout.FlatTree.{FlatTree}
@@ -7,7 +8,7 @@ use Rattle.rb_layout.specs.Splits.{splits_of}
 use Rattle.rb_layout.specs.A8.{SplitsWell}
 use Rattle.rb_agree.specs.inner.Lists.{FindsIn}
 use Rattle.rb_agree.specs.inner.Splits.{FailsSplit}
-use Rattle.rb_agree.proofs.Splitting.{Finds, arm-found, arm-passed, arms-end, split-found, arms-found, other-found, other-ok}
+use Rattle.rb_agree.proofs.Splitting.{Finds, arm-found, arm-passed, arms-end, split-found, arms-found, other-found}
 use Rattle.rb_agree.proofs.splits.+splitting.Goals as goal
 
 pub arms_fault-returns-in-Some : goal.arms_fault-returns-in-Some
@@ -41,7 +42,7 @@ tree_fault-returns-in-None t c =
 
 pub tree_fault-returns-in-Some-other : goal.tree_fault-returns-in-Some-other
 tree_fault-returns-in-Some-other t c =
-    other-ok (FindsIn SplitsWell FailsSplit (splits_of c.get.result.now)) (FindsIn SplitsWell FailsSplit (splits_of c.args.tree.now)) c.tree_fault.result
+    IfOk-weaker c.tree_fault.result (FindsIn SplitsWell FailsSplit (splits_of c.get.result.now)) (FindsIn SplitsWell FailsSplit (splits_of c.args.tree.now))
     (λ (x : Option Why) rest.
     other-found c.args.tree.now c.in-Split.loc c.in-Split.arms (Some c.in-Some-other.tree) (c.in-Split.is ∙ ap (λ (o : Option FlatTree). F.Split c.in-Split.loc c.in-Split.arms o) c.in-Some-other.is)
     c.as_slice.result.now c.as_slice-in-Split.result.now c.is_some.result c.in_ok-why-in-Split.field-0 c.in_ok-why-in-Split-2.field-0 x

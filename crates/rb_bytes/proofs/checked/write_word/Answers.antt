@@ -1,6 +1,6 @@
 use Rattle.std.proofs.Common.{◌≡◌, ◌+◌, ◌-◌, ◌*◌, ◌/◌, ◌%◌, ◌^◌, length, take, drop, ap, ◌∙◌, arith}
 use Rattle.rb_bits.specs.LittleEndian.{to_le_bytes}
-use Rattle.rb_bytes.specs.Starts.{written_in}
+use Rattle.rb_bytes.specs.Starts.{marked_bytes}
 use Rattle.rb_bytes.proofs.CheckedLemmas.{over, part_long, write_is}
 use Rattle.rb_bytes.proofs.checked.write_word.Goals as goal
 
@@ -20,7 +20,7 @@ returns c =
     let count_bytes : length (take (at + n - at) (drop at bytes)) ≡ n = ap (λ k. length (take k (drop at bytes))) e ∙ part_long bytes at n c.requires.within in
     let new_marks : c.store_le.new.bytes ≡ to_le_bytes n (2 ^ (8 * n) - 1) = c.store_le.ensures.value ∙ ap (λ k. to_le_bytes k c.mask.result) count_marks ∙ ap (to_le_bytes n) full in
     let new_bytes : c.store_le-2.new.bytes ≡ to_le_bytes n (word % 2 ^ (8 * n)) = c.store_le-2.ensures.value ∙ ap (λ k. to_le_bytes k c.take.result) count_bytes ∙ ap (to_le_bytes n) low in
-    ap (λ k. written_in (over at k marks c.store_le.new.bytes) (over at k bytes c.store_le-2.new.bytes)) e
-    ∙ ap (λ xs. written_in (over at n marks xs) (over at n bytes c.store_le-2.new.bytes)) new_marks
-    ∙ ap (λ xs. written_in (over at n marks (to_le_bytes n (2 ^ (8 * n) - 1))) (over at n bytes xs)) new_bytes
+    ap (λ k. marked_bytes (over at k marks c.store_le.new.bytes) (over at k bytes c.store_le-2.new.bytes)) e
+    ∙ ap (λ xs. marked_bytes (over at n marks xs) (over at n bytes c.store_le-2.new.bytes)) new_marks
+    ∙ ap (λ xs. marked_bytes (over at n marks (to_le_bytes n (2 ^ (8 * n) - 1))) (over at n bytes xs)) new_bytes
     ∙ write_is marks bytes n at word c.requires.even c.requires.within

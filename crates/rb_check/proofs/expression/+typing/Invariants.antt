@@ -2,8 +2,8 @@ use Rattle.std.proofs.Common.{◌≡◌, ◌+◌, ◌*◌, max, map, drop, lengt
 use denote.Param.Weighed.{most}
 use Rattle.rb_core.specs.declared.expression.Expr.{size-Expr}
 use Rattle.rb_core.specs.declared.expression.Clause.{size-Clause}
-use Rattle.rb_core.specs.Typing.{each_argument, arguments, clauses, clause_rule, rule_of}
-use Rattle.rb_check.specs.inner.Answers.{binders_of_params, wanted_types}
+use Rattle.rb_core.specs.Typing.{each_argument, arguments, clauses_typing, clause_rule, rule_of}
+use Rattle.rb_check.specs.inner.Answers.{wanted_types}
 use Rattle.rb_check.proofs.expression.+typing.Given as goal
 
 abbrev pub decreases-type_expression : goal.decreases-type_expression
@@ -41,13 +41,13 @@ abbrev pub invariant-type_arguments-loop-i : goal.invariant-type_arguments-loop-
 invariant-type_arguments-loop-i l = record {
   same_number : length l.parts ≡ length (wanted_types l.wanted);
   scope : l.scope ≡ l.fn.scope;
-  gives : each_argument (map (rule_of l.program.types l.program.funs) (drop l.i l.parts)) (drop l.i (wanted_types l.wanted)) (binders_of_params l.fn.scope)
-      ≡ arguments l.at (map (rule_of l.program.types l.program.funs) l.parts) (wanted_types l.wanted) (binders_of_params l.fn.scope);
+  gives : each_argument (map (rule_of l.program.types l.program.funs) (drop l.i l.parts)) (drop l.i (wanted_types l.wanted)) l.fn.scope
+      ≡ arguments l.at (map (rule_of l.program.types l.program.funs) l.parts) (wanted_types l.wanted) l.fn.scope;
 }
 
 abbrev pub invariant-type_clauses-loop-case : goal.invariant-type_clauses-loop-case
 invariant-type_clauses-loop-case l = record {
   scope : l.scope ≡ l.fn.scope;
-  gives : clauses (map (clause_rule l.program.types l.program.funs) (drop l.case-index l.cases)) l.scrutinee l.found (binders_of_params l.fn.scope)
-      ≡ clauses (map (clause_rule l.program.types l.program.funs) l.cases) l.scrutinee l.fn.wanted (binders_of_params l.fn.scope);
+  gives : clauses_typing (map (clause_rule l.program.types l.program.funs) (drop l.case-index l.cases)) l.scrutinee l.found l.fn.scope
+      ≡ clauses_typing (map (clause_rule l.program.types l.program.funs) l.cases) l.scrutinee l.fn.wanted l.fn.scope;
 }

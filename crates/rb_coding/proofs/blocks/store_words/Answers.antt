@@ -3,7 +3,7 @@ use Rattle.std.specs.Prelude.{IsOk, slice_index}
 use Rattle.rb_bytes.specs.Memory.{Memory}
 use Rattle.rb_bytes.specs.declared.fault.Trap.{Trap}
 use Rattle.rb_coding.specs.inner.Nodes.{subs_of}
-use Rattle.rb_coding.specs.Packing.{made_of, word_made}
+use Rattle.rb_coding.specs.Packing.{word_of_parts, word_made}
 use Rattle.rb_coding.proofs.GrowLemmas.{begins_more}
 use Rattle.rb_coding.proofs.PlaceLemmas.{got, store_goes, store_fits}
 use Rattle.rb_coding.proofs.blocks.store_words.Goals as goal
@@ -14,7 +14,7 @@ store-requires-clause-unchecked g c =
     let number = word_made (subs_of c.args.table.now c.args.nodes.now c.args.node) (slice_index c.args.addresses.now) in
     let f = c.word-item.result in
     let at = got c.args.words.now c.loop-word.word-index f c.loop-word-test.true c.word-item.is in
-    let n = c.pack-number.ensures ∙ ap (made_of (subs_of c.args.table.now c.args.nodes.now c.args.node) (slice_index c.args.addresses.now)) c.as_slice.ensures in
+    let n = c.pack-number.ensures ∙ ap (word_of_parts (subs_of c.args.table.now c.args.nodes.now c.args.node) (slice_index c.args.addresses.now)) c.as_slice.ensures in
     let goes = store_goes m c.args.base c.args.words.now c.requires.placed number c.loop-word.word-index f at (g.M.ByteMemory.memory c.loop-word.memory) c.loop-word.offset c.pack-number.result c.loop-word.invariant.same c.loop-word.invariant.offset n in
     λ no. subst (λ (x : Result (Unit {0}) Trap × Memory). IsOk x.0) (sym goes) refl
 
@@ -24,7 +24,7 @@ unreachable-requires g c =
     let number = word_made (subs_of c.args.table.now c.args.nodes.now c.args.node) (slice_index c.args.addresses.now) in
     let f = c.word-item.result in
     let at = got c.args.words.now c.loop-word.word-index f c.loop-word-test.true c.word-item.is in
-    let n = c.pack-number.ensures ∙ ap (made_of (subs_of c.args.table.now c.args.nodes.now c.args.node) (slice_index c.args.addresses.now)) c.as_slice.ensures in
+    let n = c.pack-number.ensures ∙ ap (word_of_parts (subs_of c.args.table.now c.args.nodes.now c.args.node) (slice_index c.args.addresses.now)) c.as_slice.ensures in
     let goes = store_goes m c.args.base c.args.words.now c.requires.placed number c.loop-word.word-index f at (g.M.ByteMemory.memory c.loop-word.memory) c.loop-word.offset c.pack-number.result c.loop-word.invariant.same c.loop-word.invariant.offset n in
     let h : ◌≡◌ {A = Result (Unit {0}) Trap} (Err c.in-Err.field-0) (Ok tt) = ap (λ (x : Result (Unit {0}) Trap × Memory). x.0) (c.in-Err.ensures.value ∙ goes) in
     cc
@@ -46,7 +46,7 @@ loop-word-preserved g c =
     let number = word_made (subs_of c.args.table.now c.args.nodes.now c.args.node) (slice_index c.args.addresses.now) in
     let f = c.word-item.result in
     let at = got c.args.words.now c.loop-word.word-index f c.loop-word-test.true c.word-item.is in
-    let n = c.pack-number.ensures ∙ ap (made_of (subs_of c.args.table.now c.args.nodes.now c.args.node) (slice_index c.args.addresses.now)) c.as_slice.ensures in
+    let n = c.pack-number.ensures ∙ ap (word_of_parts (subs_of c.args.table.now c.args.nodes.now c.args.node) (slice_index c.args.addresses.now)) c.as_slice.ensures in
     let goes = store_goes m c.args.base c.args.words.now c.requires.placed number c.loop-word.word-index f at (g.M.ByteMemory.memory c.loop-word.memory) c.loop-word.offset c.pack-number.result c.loop-word.invariant.same c.loop-word.invariant.offset n in
     record {
       offset = (let more = begins_more c.args.words.now c.loop-word.word-index f at in let o = c.loop-word.invariant.offset in omega (arith, more, o));

@@ -1,6 +1,6 @@
 use Rattle.std.proofs.Common.{ap, sym, ◌∙◌, refl, arith}
 use Rattle.rb_decide.specs.ClauseMatrices.{first_test, is_complete}
-use Rattle.rb_decide.specs.Trees.{heads_in}
+use Rattle.rb_decide.specs.Trees.{count_of_heads}
 use Rattle.rb_decide.proofs.Building.{split-rest, moved-column, moved-less, built-moved, arms-over, full-built, rest-over, rest-built, arm-less, arm-over, arm-sum, arm-done, get-same, all-done}
 use Rattle.rb_decide.proofs.Weights.{default-less}
 use Rattle.rb_decide.proofs.build.+building.Goals as goal
@@ -66,7 +66,7 @@ pub build_test-build-requires : goal.build_test-build-requires
 build_test-build-requires t c =
     let rest = c.as_slice-3.ensures ∙ c.in_ok-others.ensures in
     let less = default-less c.args.rows.now c.requires.heads in
-    let same = ap heads_in rest in
+    let same = ap count_of_heads rest in
     omega (arith, less, c.decreases, same)
 
 pub build_test-returns-in_default-3 : goal.build_test-returns-in_default-3

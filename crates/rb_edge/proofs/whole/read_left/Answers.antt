@@ -1,9 +1,9 @@
 use Rattle.std.proofs.Common.{rules, ◌≡◌, ◌≤◌, ◌+◌, ◌++◌, ℕ, List, [], take, length, Err, refl, sym, ap, ◌∙◌, arith, append_assoc, length-append, length-take}
 use Rattle.std.proofs.lemmas.Result.{err_from_is_err_and}
-use Rattle.rb_edge.specs.History.{handed, on_last}
+use Rattle.rb_edge.specs.History.{longer_reading, on_last}
 use Rattle.rb_edge.specs.declared.whole.SourceFault.TheVariants.{Memory, Failed}
 use Rattle.rb_edge.proofs.Histories.{on_last_id, handed_none}
-use Rattle.rb_edge.proofs.LeftLemmas.{stopped_by_fault, then_broken, then_more, then_ended, some_taken, take_front}
+use Rattle.rb_edge.proofs.LeftLemmas.{stopped_by_fault, then_broken, then_more, then_ended, some_taken, front_added}
 use Rattle.rb_edge.proofs.whole.read_left.Goals as goal
 
 pub loop-turn-init : goal.loop-turn-init
@@ -13,7 +13,7 @@ loop-turn-init g c = record {
   later = omega arith;
   same = record { tells_the_same = refl; holds_the_same = λ name. refl };
   read = λ t. rw c.new-bytes.ensures.items refl;
-  on = rw c.new-bytes.ensures.items (on_last_id (handed []) handed_none (g.S.Source.readings c.args.source.now));
+  on = rw c.new-bytes.ensures.items (on_last_id (longer_reading []) handed_none (g.S.Source.readings c.args.source.now));
 }
 
 pub returns-in_err-count-clause-on : goal.returns-in_err-count-clause-on
@@ -39,7 +39,7 @@ returns-then-count-eq0-clause-on g c =
           ∙ ap (λ (n : ℕ). take n c.read.new.buf ++ g.S.Source.left c.read.new.self) c.if-count-eq0.true);
       on = then_ended c.args.limit bytes (g.S.Source.readings c.args.source.now) _ _ c.loop-turn.invariant.on c.loop-turn.bytes _ c.in_ok-count.count c.read.new.buf
           c.in_ok-count.ensures.handed c.if-count-eq0.true short (search rules);
-      given = refl;
+      given = refl {A = List ℕ};
     }
 
 pub returns-in_err-extend_from_slice-clause-on : goal.returns-in_err-extend_from_slice-clause-on
@@ -64,7 +64,7 @@ loop-turn-preserved g c =
     let more = take c.in_ok-count.count c.read.new.buf in
     let inside : c.in_ok-count.count ≤ length c.read.new.buf = search rules in
     let longer : c.extend_from_slice.new.self.items ≡ c.loop-turn.bytes.items ++ take c.in_ok-count.count c.read.new.buf =
-    c.in_ok-extend_from_slice.ensures.items ∙ ap (λ (xs : List ℕ). bytes ++ xs) (take_front c.in_ok-count.count c.read.new.buf _ inside) in
+    front_added c.in_ok-count.count _ bytes c.read.new.buf _ c.in_ok-extend_from_slice.ensures.items inside in
     record {
       room = search rules;
       turns = search rules;
@@ -76,5 +76,5 @@ loop-turn-preserved g c =
       read = λ t. c.loop-turn.invariant.read t ∙ ap (λ (xs : List ℕ). bytes ++ xs) (c.in_ok-count.ensures.bytes (rw c.loop-turn.invariant.same.tells_the_same t)).bytes
           ∙ sym (append_assoc bytes more (g.S.Source.left c.read.new.self)) ∙ ap (λ (xs : List ℕ). xs ++ g.S.Source.left c.read.new.self) (sym longer);
       on = then_more c.args.limit bytes (g.S.Source.readings c.args.source.now) _ _ c.loop-turn.invariant.on _ more c.in_ok-count.ensures.handed
-          (some_taken c.in_ok-count.count c.read.new.buf c.if-count-eq0.false inside) ∙ ap (λ (xs : List ℕ). on_last (handed xs) (g.S.Source.readings c.args.source.now)) (sym longer);
+          (some_taken c.in_ok-count.count c.read.new.buf c.if-count-eq0.false inside) ∙ ap (λ (xs : List ℕ). on_last (longer_reading xs) (g.S.Source.readings c.args.source.now)) (sym longer);
     }

@@ -1,11 +1,12 @@
 use Rattle.std.proofs.Common.{◌≡◌, inl, inr, suc, ◌+◌, ◌-◌, ◌≤◌, ◌∷◌, length, sym, subst, ap, ◌∙◌, drop, take, arith}
+use Rattle.std.proofs.lemmas.Bool.{and_parts}
 use Rattle.rb_target.proofs.Growing.{Grows-append, Grows-refl, Grows-trans}
 use Rattle.rb_target.specs.Growth.{Grows}
 use Rattle.rb_fragment.specs.declared.reads.Read.{Bits, Joined}
 use Rattle.rb_fragment.specs.declared.reads.Share.{Share}
 use Rattle.rb_fragment.specs.Reads.{MakesReadIn, fits}
 use Rattle.rb_fragment.proofs.Moves.{drop_item}
-use Rattle.rb_fragment.proofs.ReadForms.{both, fits-Bits, fits-Address, fits-Joined, fits-Loaded, fits-Share}
+use Rattle.rb_fragment.proofs.ReadForms.{fits-Bits, fits-Address, fits-Joined, fits-Loaded, fits-Share}
 use Rattle.rb_fragment.proofs.Making.{Begins, made_slot, made_number, made_bits, made_loaded, put_share, drop_past, puts_none, puts_more, puts_all, begins_zero, begins_taken, joined_all, share_bits}
 use Rattle.rb_fragment.proofs.MakingAll.{take_all}
 use Rattle.rb_fragment.proofs.make.+making.Goals as goal
@@ -25,7 +26,7 @@ pub make-returns-in_ok-slot-in-Bits-clause-makes : goal.make-returns-in_ok-slot-
 make-returns-in_ok-slot-in-Bits-clause-makes t c plan k le fit =
     let r = c.in-Bits in
     let fit1 = rw r.is at fit in
-    let inner = (rw c.get.ensures at c.in_ok-from-in-Bits.ensures.makes) plan k le (both _ _ (sym (fits-Bits k r.inner r.o r.l) ∙ fit1)).0 in
+    let inner = (rw c.get.ensures at c.in_ok-from-in-Bits.ensures.makes) plan k le (and_parts _ _ (sym (fits-Bits k r.inner r.o r.l) ∙ fit1)).0 in
     rw (r.is, c.in_ok-slot-in-Bits.ensures.code, c.in_ok-slot-in-Bits.ensures.slot) (made_bits plan r.inner r.o r.l c.args.body.now c.make.new.body c.in_ok-from-in-Bits.from k fit1 inner)
 
 pub make-returns-in_ok-slot-in-Bits-clause-grows : goal.make-returns-in_ok-slot-in-Bits-clause-grows
@@ -36,7 +37,7 @@ pub make-returns-in_ok-slot-in-Address-clause-makes : goal.make-returns-in_ok-sl
 make-returns-in_ok-slot-in-Address-clause-makes t c plan k le fit =
     let r = c.in-Address in
     let fit1 = rw r.is at fit in
-    let inner = (rw c.get-in-Address.ensures at c.in_ok-from-in-Address.ensures.makes) plan k le (both _ _ (sym (fits-Address k r.inner r.o r.l r.align) ∙ fit1)).0 in
+    let inner = (rw c.get-in-Address.ensures at c.in_ok-from-in-Address.ensures.makes) plan k le (and_parts _ _ (sym (fits-Address k r.inner r.o r.l r.align) ∙ fit1)).0 in
     rw r.is (c.in_ok-slot-in-Address.ensures.makes plan r.inner c.args.body.now k fit1 inner)
 
 pub make-returns-in_ok-slot-in-Address-clause-grows : goal.make-returns-in_ok-slot-in-Address-clause-grows
@@ -47,7 +48,7 @@ pub make-returns-in_ok-slot-in-Loaded-clause-makes : goal.make-returns-in_ok-slo
 make-returns-in_ok-slot-in-Loaded-clause-makes t c plan k le fit =
     let r = c.in-Loaded in
     let fit1 = rw r.is at fit in
-    let inner = (rw c.get-in-Loaded.ensures at c.in_ok-base-in-Loaded.ensures.makes) plan k le (both _ _ (sym (fits-Loaded k r.inner r.byte r.width) ∙ fit1)).0 in
+    let inner = (rw c.get-in-Loaded.ensures at c.in_ok-base-in-Loaded.ensures.makes) plan k le (and_parts _ _ (sym (fits-Loaded k r.inner r.byte r.width) ∙ fit1)).0 in
     rw (r.is, c.in_ok-slot-in-Loaded.ensures.code, c.in_ok-slot-in-Loaded.ensures.slot) (made_loaded plan r.inner r.byte r.width c.args.body.now c.make-in-Loaded.new.body c.in_ok-base-in-Loaded.base k fit1 inner)
 
 pub make-returns-in_ok-slot-in-Loaded-clause-grows : goal.make-returns-in_ok-slot-in-Loaded-clause-grows
@@ -60,7 +61,7 @@ make-returns-in_ok-slot-in-Joined-clause-makes t c = rw (c.in-Joined.is, ← c.a
 pub make_share-returns-clause-puts : goal.make_share-returns-clause-puts
 make_share-returns-clause-puts t c plan k le lt fit =
     let p = c.args.share.now in
-    let inner = c.in_ok-from.ensures.makes plan k (omega (arith, le, lt)) (both _ _ (sym (fits-Share k p) ∙ fit)).0 in
+    let inner = c.in_ok-from.ensures.makes plan k (omega (arith, le, lt)) (and_parts _ _ (sym (fits-Share k p) ∙ fit)).0 in
     rw (c.in_ok-push.ensures.ok, c.in_ok-part.ensures.code, c.in_ok-part.ensures.slot) (put_share plan p c.args.body.now c.make.new.body c.in_ok-from.from k c.args.slot le lt fit inner)
 
 pub make_share-returns-clause-grows : goal.make_share-returns-clause-grows

@@ -1,6 +1,6 @@
 use Rattle.std.proofs.Common.{◌+◌, None, ap, subst, ◌∙◌, drop}
 use Rattle.rb_target.specs.declared.body.Hole.{Hole}
-use Rattle.rb_fragment.specs.Arms.{closed, ArePatchable}
+use Rattle.rb_fragment.specs.Arms.{with_targets, ArePatchable}
 use Rattle.rb_fragment.proofs.Moves.{drop_item}
 use Rattle.rb_fragment.proofs.Patching.{patchable_patched}
 use Rattle.rb_fragment.proofs.Matches.{patch_step}
@@ -14,6 +14,6 @@ loop-hole-preserved c =
     let inv = c.loop-hole.invariant in
     let patchable = subst (λ hs. ArePatchable c.loop-hole.body.code hs c.args.targets.now) item inv.patchable in
     record {
-      same = inv.same ∙ ap (λ hs. closed c.loop-hole.body hs c.args.targets.now) item ∙ patch_step c.loop-hole.body c.patch.new.self _ _ rest c.args.targets.now c.patch.ensures c.target_of-target.ensures;
+      same = inv.same ∙ ap (λ hs. with_targets c.loop-hole.body hs c.args.targets.now) item ∙ patch_step c.loop-hole.body c.patch.new.self _ _ rest c.args.targets.now c.patch.ensures c.target_of-target.ensures;
       patchable = rw c.patch.ensures (patchable_patched c.loop-hole.body _ _ rest c.args.targets.now patchable.3);
     }

@@ -1,9 +1,10 @@
 use Rattle.std.proofs.Common.{length, refl, sym, ap, ◌∙◌}
 use Rattle.std.specs.Prelude.{slice_get}
 use Rattle.std.proofs.lemmas.Option.{slice_get_read}
+use Rattle.std.proofs.lemmas.Result.{IfOk-weaker}
 use Rattle.rb_image.specs.Walks.{seen_of}
 use Rattle.rb_image.specs.inner.Checking.{is_kept_at}
-use Rattle.rb_image.proofs.CheckLemmas.{if_ok, words_last, words_next}
+use Rattle.rb_image.proofs.CheckLemmas.{words_last, words_next}
 use Rattle.rb_image.proofs.check.words_of.Goals as goal
 
 pub add_seen-requires-clause-passed : goal.add_seen-requires-clause-passed
@@ -26,4 +27,4 @@ returns c =
     let i = c.loop-passed.passed-index in
     let all = c.loop-passed.invariant
     ∙ words_last c.args.agreed.now.layouts c.args.image.now.blocks items (seen_of c.args.walk.now.last) i c.loop-passed-test.false c.loop-passed.found.items c.add_seen-2.new.found.items c.in_ok-add_seen-2.ensures in
-    if_ok c.of.result _ _ (λ found h base place. h base place ∙ ap (λ ks. is_kept_at ks base place) (c.as_slice-2.ensures.value ∙ sym all)) c.of.ensures
+    IfOk-weaker c.of.result _ _ (λ found h base place. h base place ∙ ap (λ ks. is_kept_at ks base place) (c.as_slice-2.ensures.value ∙ sym all)) c.of.ensures

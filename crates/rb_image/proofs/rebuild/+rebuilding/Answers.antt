@@ -5,7 +5,7 @@ use Rattle.std.proofs.lemmas.Option.{slice_get_read}
 use Rattle.rb_layout.specs.declared.layout.Leaf.{Leaf}
 use Rattle.rb_layout.specs.Positions.{layout_of, open_positions}
 use Rattle.rb_image.specs.declared.pack.FieldWords.{FieldWords}
-use Rattle.rb_image.specs.Rebuilds.{leaf_chosen, fields_at, words_of_leaf, rebuilt_within}
+use Rattle.rb_image.specs.Rebuilds.{leaf_chosen, fields_at, words_of_leaf, rebuilding_within}
 use Rattle.rb_image.specs.Splits.{and_then}
 use Rattle.rb_layout.specs.Opens.{opens_at}
 use Rattle.rb_image.specs.inner.Standing.{position_shown}
@@ -30,7 +30,7 @@ rebuild_within-returns-in_err-leaf t c =
     let l = c.in-Some.ensures.lookup in
     let is : layout_of layouts ty ≡ Some layout = ap (λ xs. slice_get xs ty) (sym c.layouts.ensures.same) ∙ slice_get_read ls (length ls) ty layout refl l.3.0 l.1 in
     let some : 0 < c.args.depth = omega (arith, c.if-depth-eq0.false) in
-    let due = rebuilt_within types layouts m c.args.depth ty x in
+    let due = rebuilding_within types layouts m c.args.depth ty x in
     given_on (λ (ws : List ℕ). ws) due c.from_residual.result _ c.from_residual.ensures.0 c.from_residual.ensures.1
     (first_err (λ (leaf : Bor Leaf). leaf.now) (λ (ws : List ℕ). ws) due (leaf_chosen types layouts m layout.leaves x) (in_leaf types layouts m ty x (c.args.depth - 1)) _
     (rebuilt_more types layouts m ty x c.args.depth some layout is) (rw c.as_slice.ensures at c.in_err-leaf.ensures))
@@ -47,11 +47,11 @@ rebuild_within-returns-in_err-fields t c =
     let l = c.in-Some.ensures.lookup in
     let is : layout_of layouts ty ≡ Some layout = ap (λ xs. slice_get xs ty) (sym c.layouts.ensures.same) ∙ slice_get_read ls (length ls) ty layout refl l.3.0 l.1 in
     let some : 0 < c.args.depth = omega (arith, c.if-depth-eq0.false) in
-    let due = rebuilt_within types layouts m c.args.depth ty x in
+    let due = rebuilding_within types layouts m c.args.depth ty x in
     let leaf = c.in_ok-leaf.leaf.now in
     let same : c.as_slice-types.result.now ≡ types = c.as_slice-types.ensures ∙ ap (λ q. q.types) (c.program.ensures.same ∙ ap (λ k. k.program) c.covered.ensures.same) in
     let opens : opens_at c.as_slice-2.result.now ≡ open_positions types leaf.prov = ap opens_at c.as_slice-2.ensures ∙ c.in_ok-opens.ensures ∙ ap (λ ts. open_positions ts leaf.prov) same in
-    let fields = fields_at types layouts m (rebuilt_within types layouts m (c.args.depth - 1)) x in
+    let fields = fields_at types layouts m (rebuilding_within types layouts m (c.args.depth - 1)) x in
     let go = λ (found : List FieldWords). Ok (words_of_leaf leaf found) in
     given_on (λ (ws : List ℕ). ws) due c.from_residual-in_err-fields.result _ c.from_residual-in_err-fields.ensures.0 c.from_residual-in_err-fields.ensures.1
     (first_err (λ (found : List FieldWords). found) (λ (ws : List ℕ). ws) due (fields (opens_at c.as_slice-2.result.now)) go _
@@ -71,11 +71,11 @@ rebuild_within-returns t c =
     let l = c.in-Some.ensures.lookup in
     let is : layout_of layouts ty ≡ Some layout = ap (λ xs. slice_get xs ty) (sym c.layouts.ensures.same) ∙ slice_get_read ls (length ls) ty layout refl l.3.0 l.1 in
     let some : 0 < c.args.depth = omega (arith, c.if-depth-eq0.false) in
-    let due = rebuilt_within types layouts m c.args.depth ty x in
+    let due = rebuilding_within types layouts m c.args.depth ty x in
     let leaf = c.in_ok-leaf.leaf.now in
     let same : c.as_slice-types.result.now ≡ types = c.as_slice-types.ensures ∙ ap (λ q. q.types) (c.program.ensures.same ∙ ap (λ k. k.program) c.covered.ensures.same) in
     let opens : opens_at c.as_slice-2.result.now ≡ open_positions types leaf.prov = ap opens_at c.as_slice-2.ensures ∙ c.in_ok-opens.ensures ∙ ap (λ ts. open_positions ts leaf.prov) same in
-    let fields = fields_at types layouts m (rebuilt_within types layouts m (c.args.depth - 1)) x in
+    let fields = fields_at types layouts m (rebuilding_within types layouts m (c.args.depth - 1)) x in
     let go = λ (found : List FieldWords). Ok (words_of_leaf leaf found) in
     given_ok (λ (ws : List ℕ). ws) due (words_of_leaf leaf c.in_ok-fields.fields) c.in_ok-words.words
     (rebuilt_more types layouts m ty x c.args.depth some layout is

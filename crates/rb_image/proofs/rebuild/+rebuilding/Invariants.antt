@@ -1,5 +1,5 @@
 use Rattle.std.proofs.Common.{◌≡◌, ◌+◌, ◌*◌, drop}
-use Rattle.rb_image.specs.Rebuilds.{fields_at, rebuilt_within}
+use Rattle.rb_image.specs.Rebuilds.{fields_at, rebuilding_within}
 use Rattle.rb_layout.specs.Opens.{opens_at}
 use Rattle.rb_image.specs.inner.Standing.{position_shown, with_fields}
 use Rattle.rb_image.proofs.rebuild.+rebuilding.Given as goal
@@ -21,5 +21,5 @@ invariant-fields_at-loop-open l =
     let types = l.agreed.covered.program.types in
     let layouts = l.agreed.layouts in
     let m = l.image.blocks in
-    let go = fields_at types layouts m (rebuilt_within types layouts m l.depth) (position_shown l.view) in
+    let go = fields_at types layouts m (rebuilding_within types layouts m l.depth) (position_shown l.view) in
     go (opens_at l.opens) ≡ with_fields l.fields (go (opens_at (drop l.open-index l.opens)))

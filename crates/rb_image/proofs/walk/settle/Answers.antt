@@ -6,7 +6,7 @@ use Rattle.rb_rel.specs.Relation.{word_count}
 use Rattle.rb_image.specs.Orders.{order_of}
 use Rattle.rb_image.specs.Parts.{field_word}
 use Rattle.rb_image.specs.Sites.{kept_of}
-use Rattle.rb_image.specs.Walks.{IsPassed, arrived, seen_of, settled, where_of}
+use Rattle.rb_image.specs.Walks.{IsPassed, where_at_root, seen_of, where_settled, where_of}
 use Rattle.rb_image.proofs.GatheredFields.{words_long}
 use Rattle.rb_image.proofs.LookLemmas.{given_ok, given_on}
 use Rattle.rb_image.proofs.WayLemmas.{all_more, settled_err, settled_ok, words_found}
@@ -32,7 +32,7 @@ returns-in_err-next-clause-walk g c =
     let count = c.word_count-count.ensures ∙ ap (λ ls. word_count ls (Named c.args.ty)) c.layouts.ensures.same in
     let words = words_found layouts image c.args.walk.last c.requires.passed.last c.args.ty c.word_count-count.result c.as_slice-at.result.now c.as_slice.result.now c.in_ok-sites.sites.items
     c.as_slice-at.ensures c.as_slice.ensures.value count c.in_ok-sites.ensures.reached (c.in_ok-sites.ensures.sites image c.requires.placed) in
-    given_on where_of (settled layouts image.blocks w (Some c.args.ty)) c.from_residual-in_err-next.result _ c.from_residual-in_err-next.ensures.0 c.from_residual-in_err-next.ensures.1
+    given_on where_of (where_settled layouts image.blocks w (Some c.args.ty)) c.from_residual-in_err-next.result _ c.from_residual-in_err-next.ensures.0 c.from_residual-in_err-next.ensures.1
     (settled_err layouts image w c.args.ty (map (kept_of image) c.in_ok-sites.sites.items) _ words c.in_err-next.ensures.seen)
 
 pub returns-clause-walk : goal.returns-clause-walk
@@ -45,9 +45,9 @@ returns-clause-walk g c =
     let words = words_found layouts image c.args.walk.last c.requires.passed.last c.args.ty c.word_count-count.result c.as_slice-at.result.now c.as_slice.result.now c.in_ok-sites.sites.items
     c.as_slice-at.ensures c.as_slice.ensures.value count c.in_ok-sites.ensures.reached (c.in_ok-sites.ensures.sites image c.requires.placed) in
     let is = settled_ok layouts image w c.args.ty (map (kept_of image) c.in_ok-sites.sites.items) next words c.in_ok-next.ensures.seen in
-    given_ok where_of (settled layouts image.blocks w (Some c.args.ty)) _ c.arrive.result is
+    given_ok where_of (where_settled layouts image.blocks w (Some c.args.ty)) _ c.arrive.result is
     (c.arrive.ensures.walk
-    ∙ ap (λ bs. arrived bs (seen_of next)) (ap (map seen_of) c.in_ok-push.ensures.items ∙ map-append seen_of c.args.walk.before.items (c.args.walk.last ∷ [])))
+    ∙ ap (λ bs. where_at_root bs (seen_of next)) (ap (map seen_of) c.in_ok-push.ensures.items ∙ map-append seen_of c.args.walk.before.items (c.args.walk.last ∷ [])))
 
 pub returns-clause-passed : goal.returns-clause-passed
 returns-clause-passed g c =

@@ -2,7 +2,7 @@ use Rattle.std.proofs.Common.{◌≡◌, Result, Some, sym, subst, ap, ◌∙◌
 use Rattle.rb_image_text.specs.declared.fault.ImageFault.{ImageFault}
 use Rattle.rb_image.specs.Fields.{field_of, position_of}
 use Rattle.rb_image.specs.Given.{IsGiven}
-use Rattle.rb_image.specs.Walks.{Where, settled, where_of}
+use Rattle.rb_image.specs.Walks.{Where, where_settled, where_of}
 use Rattle.rb_image.proofs.WayLemmas.{field_small, step_some}
 use Rattle.rb_image.proofs.walk.step.Goals as goal
 
@@ -27,4 +27,4 @@ returns-in-Some-open_data-clause-walk g c =
     let is = step_some types layouts m c.args.number w c.args.field pos (Some t) (ap (λ ts. field_of ts p c.args.field) (sym same) ∙ sym c.in-Some.ensures) (sym c.in-Some-open_data.ensures) in
     let there = ap (λ at. record { before = w.before; last = record w.last { at = at }; here = pos }) c.in_ok-push.ensures.ok in
     subst (λ (d : Result Where ImageFault). IsGiven where_of d c.settle.result) (sym is)
-    (subst (λ (v : Where). IsGiven where_of (settled layouts m v (Some t)) c.settle.result) there c.settle.ensures.walk)
+    (subst (λ (v : Where). IsGiven where_of (where_settled layouts m v (Some t)) c.settle.result) there c.settle.ensures.walk)

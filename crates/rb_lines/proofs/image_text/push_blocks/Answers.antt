@@ -1,7 +1,7 @@
 use Rattle.std.proofs.Common.{◌≡◌, ◌<◌, ◌++◌, ◌∙◌, ℕ, length, map, take, sym, ap, arith, Some}
 use Rattle.std.specs.Prelude.{slice_get}
 use Rattle.std.proofs.lemmas.Option.{same_Some, slice_get-get_or}
-use Rattle.rb_target.proofs.Texts.{appended}
+use Rattle.rb_core.proofs.TextLemmas.{appended}
 use Rattle.rb_image_text.specs.MemoryImages.{block_over}
 use Rattle.rb_image_text.specs.Text.{block_text, blocks_text}
 use Rattle.rb_lines.proofs.ImageTexts.{block_within, next_block, parted_next}

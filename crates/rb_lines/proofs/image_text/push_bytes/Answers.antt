@@ -1,6 +1,6 @@
 use Rattle.std.proofs.Common.{◌++◌, ap, sym, ◌∙◌}
 use Rattle.std.specs.Prelude.{unwrap_or}
-use Rattle.rb_target.proofs.Texts.{appended}
+use Rattle.rb_core.proofs.TextLemmas.{appended}
 use Rattle.rb_image_text.specs.MemoryImages.{bytes_over}
 use Rattle.rb_image_text.specs.Text.{byte_text, bytes_text}
 use Rattle.rb_lines.proofs.ImageTexts.{bytes_next}

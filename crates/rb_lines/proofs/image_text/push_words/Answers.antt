@@ -1,4 +1,4 @@
-use Rattle.rb_target.proofs.Texts.{appended}
+use Rattle.rb_core.proofs.TextLemmas.{appended}
 use Rattle.rb_image_text.specs.Text.{root_word_text}
 use Rattle.rb_lines.proofs.TextLaws.{flat_map_next}
 use Rattle.rb_lines.proofs.image_text.push_words.Goals as goal

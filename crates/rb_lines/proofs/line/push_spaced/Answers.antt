@@ -1,4 +1,4 @@
-use Rattle.rb_target.proofs.Texts.{appended}
+use Rattle.rb_core.proofs.TextLemmas.{appended}
 use Rattle.rb_lines.proofs.WordTexts.{spaced_more}
 use Rattle.rb_lines.proofs.line.push_spaced.Goals as goal
 

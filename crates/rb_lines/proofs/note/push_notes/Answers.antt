@@ -1,4 +1,4 @@
-use Rattle.rb_target.proofs.Texts.{appended}
+use Rattle.rb_core.proofs.TextLemmas.{appended}
 use Rattle.rb_lines.specs.Notes.{note_text}
 use Rattle.rb_lines.proofs.TextLaws.{flat_map_next}
 use Rattle.rb_lines.proofs.note.push_notes.Goals as goal

@@ -1,9 +1,9 @@
 use Rattle.std.proofs.Common.{◌≡◌, ◌+◌, ◌-◌, ◌∙◌, refl, ap, arith, subst}
 use Rattle.rb_target.specs.Meaning.{CallEnd, World, over, run_of}
 use Rattle.rb_target.specs.declared.outcome.End.TheVariants.{Spent}
+use Rattle.rb_target.proofs.Calling.{enter_none}
 use Rattle.rb_machine.specs.Runs.{IsNotTrapped}
 use Rattle.rb_machine.specs.inner.Turns.{rest_of, world_of}
-use Rattle.rb_machine.proofs.Rest.{enter_none}
 use Rattle.rb_machine.proofs.run.run.Goals as goal
 
 pub returns-then-calls-eq0 : goal.returns-then-calls-eq0

@@ -1,6 +1,6 @@
 use Rattle.std.proofs.Common.{[]}
 use Rattle.rb_core.specs.declared.types.Ty.TheVariants.{Named}
-use Rattle.rb_match.specs.Bounding.{rebuilding}
+use Rattle.rb_match.specs.Bounding.{rebuilding_bound}
 use Rattle.rb_match.specs.inner.Saving.{mend_below}
 use Rattle.rb_match.proofs.Bindings.{mends_in}
 use Rattle.rb_match.proofs.Mending.{mend_within}
@@ -11,5 +11,5 @@ pub returns-clause-saves : goal.returns-clause-saves
 returns-clause-saves c =
     let mends = mends_in c.args.agreed.now c.covered.ensures.agree c.layouts-flat.ensures.flat in
     let s = c.args.source.now in
-    learns-less c.args.agreed.now (λ plan. mend_below plan.layouts s.ty s.leaf []) (λ plan. rebuilding plan.layouts (Named s.ty)) s.ty s.leaf s.words.now s.spots.now s.position.now c.args.known c.in_ok-known.known c.args.body.now c.save_below.new.body
+    learns-less c.args.agreed.now (λ plan. mend_below plan.layouts s.ty s.leaf []) (λ plan. rebuilding_bound plan.layouts (Named s.ty)) s.ty s.leaf s.words.now s.spots.now s.position.now c.args.known c.in_ok-known.known c.args.body.now c.save_below.new.body
     (λ plan of. mend_within plan.layouts s.ty (mends plan of s.ty) s.leaf) c.in_ok-known.ensures.saves

@@ -9,6 +9,6 @@ returns c =
     record {
       pc = refl;
       arm = refl;
-      known = λ at of all. c.carried-known.ensures at of (c.in_ok-leaf.ensures.known at of (subst (λ k. AreKnown at k) (sym same) all));
+      known = λ at of all. c.carried_facts-known.ensures at of (c.in_ok-leaf.ensures.known at of (subst (λ k. AreKnown at k) (sym same) all));
       leads = subst (λ k. LeadsOn c.args.agreed.now c.args.ty c.args.pats.now c.args.nodes.now k c.args.edge.now.hole.leaf c.in_ok-leaf.leaf) same c.in_ok-leaf.ensures.leads;
     }

@@ -3,7 +3,7 @@ use Rattle.rb_read.proofs.FileLemmas.{given-file, given-stuck, given-deep}
 use Rattle.rb_read.proofs.read.read_limited.Goals as goal
 
 pub returns-in-Ok : goal.returns-in-Ok
-returns-in-Ok c = c.checked.ensures (tokens c.args.placed.now) (given-file _ _ c.in-Ok.ensures)
+returns-in-Ok c = c.limited_file.ensures (tokens c.args.placed.now) (given-file _ _ c.in-Ok.ensures)
 
 pub returns-in-Err-Deep : goal.returns-in-Err-Deep
 returns-in-Err-Deep c = rw c.place.ensures (given-deep _ c.in-Err-Deep.left (rw c.in-Err-Deep.field-0-is at c.in-Err-Deep.ensures))

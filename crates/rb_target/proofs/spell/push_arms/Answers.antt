@@ -1,4 +1,5 @@
-use Rattle.rb_target.proofs.Texts.{appended, pairs_more}
+use Rattle.rb_core.proofs.TextLemmas.{appended}
+use Rattle.rb_target.proofs.Texts.{pairs_more}
 use Rattle.rb_target.proofs.spell.push_arms.Goals as goal
 
 pub loop-arm-preserved : goal.loop-arm-preserved

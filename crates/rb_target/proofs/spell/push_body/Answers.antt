@@ -1,6 +1,7 @@
 use Rattle.std.proofs.Common.{◌∙◌, ◌++◌, ap, sym, take}
 use Rattle.rb_target.specs.Text.{body_text, instr_text}
-use Rattle.rb_target.proofs.Texts.{appended, body_text_more}
+use Rattle.rb_core.proofs.TextLemmas.{appended}
+use Rattle.rb_target.proofs.Texts.{body_text_more}
 use Rattle.rb_target.proofs.spell.push_body.Goals as goal
 
 pub loop-instr-preserved : goal.loop-instr-preserved

@@ -1,4 +1,5 @@
-use Rattle.rb_target.proofs.Texts.{appended, spaced_text_more}
+use Rattle.rb_core.proofs.TextLemmas.{appended}
+use Rattle.rb_target.proofs.Texts.{spaced_text_more}
 use Rattle.rb_target.proofs.spell.push_words.Goals as goal
 
 pub loop-word-preserved : goal.loop-word-preserved

@@ -4,4 +4,4 @@ use Rattle.rb_trim.proofs.telling.told_made.Goals as goal
 
 pub returns : goal.returns
 returns c =
-    told_made c.args.facts.now c.args.instr.now c.in-Some.made c.resolved-content.result (sym c.in-Some.ensures) c.resolved-content.ensures
+    told_made c.args.facts.now c.args.instr.now c.in-Some.made c.resolve-content.result (sym c.in-Some.ensures) c.resolve-content.ensures

@@ -1,5 +1,5 @@
 use Rattle.std.proofs.Common.{◌≡◌, ◌+◌, ◌%◌, ◌++◌, ap, ◌∙◌, arith}
-use Rattle.rb_target.proofs.Texts.{appended}
+use Rattle.rb_core.proofs.TextLemmas.{appended}
 use Rattle.ribbit_tool.specs.Generate.{sum_line, sum_lines}
 use Rattle.ribbit_tool.proofs.GenerateLaws.{sums_next}
 use Rattle.ribbit_tool.proofs.generate.push_sums.Goals as goal

@@ -1,8 +1,8 @@
 use Rattle.std.proofs.Common.{◌≡◌, ◌∷◌, map, drop, arith}
 use Rattle.rb_syntax.specs.declared.token.Symbol.TheVariants as symbol
 use Rattle.rb_syntax.specs.declared.token.ReservedWord.TheVariants as word
-use Rattle.rb_syntax.specs.Written.{token, each_behind, any_with}
-use Rattle.rb_syntax.specs.Spelling.{expr_written, clause_written, lower_written, ty_written, at_level, comma, sym, word_token}
+use Rattle.rb_syntax.specs.Written.{token, each_behind, any_with, some_with}
+use Rattle.rb_syntax.specs.Spelling.{expr_written, clause_written, lower_written, ty_written, uint_written, at_level, comma, sym, word_token}
 use Rattle.rb_syntax.proofs.ListLemmas.{fields-some}
 use Rattle.rb_syntax.proofs.spell.expression.+expression.Goals as goal
 
@@ -23,6 +23,14 @@ put_binary-returns t c l rest h =
     (c.in_ok-put_expr.ensures l closed (c.in_ok-put_symbol.ensures rest h))))) in
     rw (← c.word_of_op.ensures) all
 
+pub put_conversion-returns : goal.put_conversion-returns
+put_conversion-returns t c l rest h =
+    let closed = sym symbol.CloseParen ∷ rest in
+    let inner = expr_written c.args.a.now l closed in
+    let opened = sym symbol.OpenParen ∷ inner in
+    c.in_ok-put_word.ensures (uint_written c.args.bits opened) (c.in_ok-put_uint.ensures opened (c.in_ok-put_symbol-2.ensures inner
+    (c.in_ok-put_expr.ensures l closed (c.in_ok-put_symbol.ensures rest h))))
+
 pub put_let-returns : goal.put_let-returns
 put_let-returns t c l rest h =
     let body = expr_written c.args.b.now l rest in
@@ -33,6 +41,14 @@ put_let-returns t c l rest h =
     (c.in_ok-put_ty.ensures (sym symbol.Equals ∷ value) (c.in_ok-put_symbol.ensures value
     (c.in_ok-put_expr-2.ensures l (word_token word.In ∷ body) (c.in_ok-put_word.ensures body
     (c.in_ok-put_expr.ensures l rest h)))))))
+
+pub put_match-returns : goal.put_match-returns
+put_match-returns t c l rest h =
+    let closed = sym symbol.CloseBrace ∷ rest in
+    let clauses = some_with comma (at_level l (map clause_written c.args.clauses.now)) closed in
+    let matched = expr_written c.args.scrutinee.now l (sym symbol.OpenBrace ∷ clauses) in
+    c.in_ok-put_word.ensures matched (c.in_ok-put_expr.ensures l (sym symbol.OpenBrace ∷ clauses) (c.in_ok-put_symbol-2.ensures clauses
+    (c.in_ok-put_clauses.ensures l closed (c.in_ok-put_symbol.ensures rest h))))
 
 pub put_fields-returns-in_ok-put_symbol-in-len1-up-2 : goal.put_fields-returns-in_ok-put_symbol-in-len1-up-2
 put_fields-returns-in_ok-put_symbol-in-len1-up-2 t c l rest h =

@@ -12,6 +12,9 @@ decreases-put_expr l = 4 * size-ExprTree l.expr.now + 1
 abbrev pub decreases-put_binary : goal.decreases-put_binary
 decreases-put_binary l = 4 * max (size-ExprTree l.a.now) (size-ExprTree l.b.now) + 2
 
+abbrev pub decreases-put_conversion : goal.decreases-put_conversion
+decreases-put_conversion l = 4 * size-ExprTree l.a.now + 2
+
 abbrev pub decreases-put_let : goal.decreases-put_let
 decreases-put_let l = 4 * max (size-ExprTree l.a.now) (size-ExprTree l.b.now) + 2
 

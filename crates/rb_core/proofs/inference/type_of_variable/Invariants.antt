@@ -1,7 +1,0 @@
-use Rattle.std.proofs.Common.{◌≡◌, take}
-use Rattle.rb_core.specs.Typing.{variable_type}
-use Rattle.rb_core.proofs.inference.type_of_variable.Given as goal
-
--- no binder further in has the number
-abbrev pub invariant-loop-i : goal.invariant-loop-i
-invariant-loop-i l = variable_type l.var (take l.i l.scope) ≡ variable_type l.var l.scope

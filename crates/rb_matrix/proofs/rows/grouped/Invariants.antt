@@ -1,5 +1,0 @@
-use Rattle.rb_matrix.proofs.Grouping.{AreFirst}
-use Rattle.rb_matrix.proofs.rows.grouped.Given as goal
-
-abbrev pub invariant-loop-number : goal.invariant-loop-number
-invariant-loop-number l = AreFirst l.rows l.number l.groups
