@@ -151,6 +151,23 @@ def niches(n):
     )
 
 
+def turns(n):
+    """40 n literals beside an `else` and 40 n leaves below it, whose fields have one of two types of 256 constructors in turn."""
+    one, other, half = names("A", n), names("B", 40), names("C", 20)
+    arms = "\n".join(numbered((f"D({a},{b})" for a, b in itertools.product(one, other)), 64))
+    held = ""
+    for name, first in ("S", 100000), ("T", 200000):
+        cons = names(name, 256)
+        far = "".join(f"{first + i}=>{con}:{{word 32{{[0:32]={first + i}}}}}\n" for i, con in enumerate(cons))
+        held += f"type {name}={'|'.join(cons)};\nlayout {name}<32>=split 0[0:32]{{\n{far}}};\n"
+    pairs_ = (f"{con}({a},{c},_)" for a, c in itertools.product(one, half) for con in "EF")
+    under = "\n".join(f"{k}=>{prov}:{{word 64{{[0:32].2,[32:32]={k}}}}}" for k, prov in enumerate(pairs_))
+    return (
+        MAIN + enumeration("A", one) + enumeration("B", other) + enumeration("C", half) + held
+        + f"type D=D(A,B)|E(A,C,S)|F(A,C,T);\nlayout D<64>=split 0[0:32]{{\n{arms}\nelse=>split 0[32:32]{{\n{under}\n}}}};\n"
+    )
+
+
 def bits(n):
     """A leaf with 512 n open bits, each held by a part of its own."""
     low = comma(f"[{i}:1].{i}" for i in range(16))
@@ -559,7 +576,7 @@ def sought_image(n):
 
 AGREEING = [
     (words, 200), (blocks, 140), (leaves, 24), (many, 1000), (pairs, 64), (roots, 26), (nested, 34), (below, 56), (others, 64), (niche, 54),
-    (niches, 70), (bits, 24), (chain, 1000), (flat, 1000), (steps, 60), (fields, 256),
+    (niches, 70), (turns, 66), (bits, 24), (chain, 1000), (flat, 1000), (steps, 60), (fields, 256),
 ]
 REFUSED = [(closed, 300), (twice, 64), (ring, 900)]
 MATCHES = [
