@@ -45,7 +45,7 @@ use Rattle.rb_fetch.specs.Finding.{IsPlanOf}
 use Rattle.rb_match.specs.Bounding.{binding_bound}
 use Rattle.rb_match.specs.Choosing.{Binds, BindsPattern}
 use Rattle.rb_compile.specs.inner.Ready.{ExprIsReady, SitesAreReady}
-use Rattle.rb_compile.specs.inner.Forms.{EmitsExpr, meant}
+use Rattle.rb_compile.specs.inner.Forms.{EmitsExpr, meaning_within}
 use Rattle.rb_compile.specs.inner.Used.{Serves}
 use Rattle.rb_compile.proofs.Agreeing.{same_meaning, same_sites, same_typing}
 use Rattle.rb_compile.specs.inner.Arms.{ArmIsDone, ClauseIsReady, DoesClause, DoesNumber, EmitsArm, EmitsArms, GroundIsReady, IsShared, Reaches, wanted_in}
@@ -116,7 +116,7 @@ module _ (plan : Plan) (f : ℕ) (c : Clause) (wanted : Option Ty) (ls : List Lo
         ready_sites = subst (λ k. SitesAreReady plan f k) (same_sites types funs c.body all less (served.scopes (scope_of ls)) ∙ ap (sites types funs c.body) (sym scope)) ready.ready_sites;
       }
 
-  module _ (q d : Sheet) (hy : Held) (r : Joined) (t : Ty) (body : Emits plan (meant plan f c.body wanted (ls ++ bound)) (ls ++ bound) b q t hy.slots) where
+  module _ (q d : Sheet) (hy : Held) (r : Joined) (t : Ty) (body : Emits plan (meaning_within plan f c.body wanted (ls ++ bound)) (ls ++ bound) b q t hy.slots) where
     outside : (x : ℕ) → IsOneOf x hy.slots → (x < n) ⊎ (a.slots ≤ x)
     outside x i = elim (body.origin x i) [
       | inl le ↦ inr (omega (arith, le, B.adds.more))
@@ -130,7 +130,7 @@ module _ (plan : Plan) (f : ℕ) (c : Clause) (wanted : Option Ty) (ls : List Lo
     ]
 
     abbrev Done : Type 0
-    Done = IsArm plan t n a b q d inner hy r (meant plan f c.body wanted inner) own ground.low B.adds body outside Case (λ i. i.0) env_of Before bound_runs
+    Done = IsArm plan t n a b q d inner hy r (meaning_within plan f c.body wanted inner) own ground.low B.adds body outside Case (λ i. i.0) env_of Before bound_runs
 
     clause_of : Done → DoesClause plan f c wanted ls s t held.slots n r.into.slots a d r.join.pc
     clause_of x = record {
@@ -147,10 +147,10 @@ module _ (plan : Plan) (f : ℕ) (c : Clause) (wanted : Option Ty) (ls : List Lo
 
     done : hy.ty ≡ t → (o : Option Held) → JoinedIs o hy q d r → IsShared plan n a.slots t o → ArmIsDone plan f c wanted ls s t held.slots n o a d r
     done same None j shared =
-        let x = arm_first plan t n a b q d inner hy r (meant plan f c.body wanted inner) own ground.low B.adds body outside Case (λ i. i.0) env_of Before bound_runs j in
+        let x = arm_first plan t n a b q d inner hy r (meaning_within plan f c.body wanted inner) own ground.low B.adds body outside Case (λ i. i.0) env_of Before bound_runs j in
         record { shared = (ap (λ (h : Held). h.ty) j.shared ∙ same, x.shared); same = λ h e. cc e; clause = clause_of x }
     done same (Some h) j shared =
-        let x = arm_later plan t n a b q d inner hy r (meant plan f c.body wanted inner) own ground.low B.adds body outside Case (λ i. i.0) env_of Before bound_runs h shared.1 j in
+        let x = arm_later plan t n a b q d inner hy r (meaning_within plan f c.body wanted inner) own ground.low B.adds body outside Case (λ i. i.0) env_of Before bound_runs h shared.1 j in
         record { shared = (ap (λ (k : Held). k.ty) j.shared ∙ shared.0, x.shared); same = λ k e. j.shared ∙ same_Some h k e; clause = clause_of x }
 
 -- where the scrutinee's slots are ready the pattern is bound

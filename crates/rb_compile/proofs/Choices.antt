@@ -56,7 +56,7 @@ use Rattle.rb_match.specs.Bounding.{binding_bound, choosing_bound}
 use Rattle.rb_match.proofs.Sharing.{bound_shared}
 use Rattle.rb_match.specs.Choosing.{ChoosesClause, WordsChoose, PatternsAreTyped}
 use Rattle.rb_compile.specs.inner.Ready.{SiteIsReady}
-use Rattle.rb_compile.specs.inner.Forms.{EmitsExpr, meant}
+use Rattle.rb_compile.specs.inner.Forms.{EmitsExpr, meaning_within}
 use Rattle.rb_compile.specs.inner.Arms.{ArmsDone, ClausesAreReady, DoesNumber, EmitsArms, GroundIsReady, IsSubject}
 use Rattle.rb_compile.proofs.Forms.{same_emits}
 use Rattle.rb_compile.proofs.Sites.{ready-Match}
@@ -243,17 +243,17 @@ module _ (agreed : LaidOut) (plan : Plan) (of_agreed : IsPlanOf agreed plan) (f 
       let adds = choice_adds plan f at cs wanted ls b c q held holes joins starts s t subject.slots sound sites.0 given1 A.1.given choice holes_are ways are done in
       let goes = λ (calls : Calls) (env : List Binding) (v : Value) (rest : ℕ). after (Matched f at ∷ []) (first_of types s (map (clause_meaning plan.program calls f) cs) wanted (Some t) scope v rest env) in (
         done.shared.0,
-        same_emits plan (meant plan f (X.Match at e cs) wanted ls) (λ calls left env. then_do (meant plan f e None ls calls left env) (goes calls env)) ls a whole t held.slots
+        same_emits plan (meaning_within plan f (X.Match at e cs) wanted ls) (λ calls left env. then_do (meaning_within plan f e None ls calls left env) (goes calls env)) ls a whole t held.slots
             (λ calls left env. meaning-Match plan.program calls f wanted scope left env at e cs
-            ∙ ap (λ u. then_do (meant plan f e None ls calls left env) (λ v rest. after (Matched f at ∷ []) (first_of types (inferred_type types funs e None scope) (map (clause_meaning plan.program calls f) cs) wanted (Some u) scope v rest env))) tm.3
-            ∙ ap (λ u. then_do (meant plan f e None ls calls left env) (λ v rest. after (Matched f at ∷ []) (first_of types u (map (clause_meaning plan.program calls f) cs) wanted (Some t) scope v rest env))) tm.2)
+            ∙ ap (λ u. then_do (meaning_within plan f e None ls calls left env) (λ v rest. after (Matched f at ∷ []) (first_of types (inferred_type types funs e None scope) (map (clause_meaning plan.program calls f) cs) wanted (Some u) scope v rest env))) tm.3
+            ∙ ap (λ u. then_do (meaning_within plan f e None ls calls left env) (λ v rest. after (Matched f at ∷ []) (first_of types u (map (clause_meaning plan.program calls f) cs) wanted (Some t) scope v rest env))) tm.2)
             (record {
               adds = Adds-trans plan a b whole A.1.adds adds;
               given = subst (λ n. AllBelow n held.slots) (sym slots) done.shared.1.below;
               count = done.shared.1.count;
               origin = λ x h. inl (let le = one-from b.slots x held.slots done.shared.1.from h in omega (arith, le, A.1.adds.more));
               does = λ calls clean env. seq plan clean calls a b whole s t subject.slots held.slots (λ sl m. Holds plan clean sl m ls env) (λ v sl m. Rep plan m clean s v (slots_at sl subject.slots) × Holds plan clean sl m ls env)
-                  (λ left. meant plan f e None ls calls left env) (goes calls env) A.1.adds adds (A.1.does calls clean env)
+                  (λ left. meaning_within plan f e None ls calls left env) (goes calls env) A.1.adds adds (A.1.does calls clean env)
                   (λ v. choice_fragment plan f at cs wanted ls b c q held holes joins starts s t subject.slots sound sites.0 given1 A.1.given choice holes_are ways are done calls clean env v)
                   (λ v sl sl' m m' ext keeps rep pre. (rep, Holds-kept plan clean m m' ext a.slots sl sl' keeps ls env ready.given pre));
             }),

@@ -17,7 +17,7 @@ use Rattle.rb_fragment.specs.Plan.{Plan, words_needed}
 use Rattle.rb_fragment.specs.declared.held.Local.{Local}
 use Rattle.rb_fragment.proofs.Laying.{does_map}
 use Rattle.rb_fragment.proofs.Functions.{calls_fit, params_hold, params_scope}
-use Rattle.rb_compile.specs.inner.Forms.{meant}
+use Rattle.rb_compile.specs.inner.Forms.{meaning_within}
 use Rattle.rb_compile.specs.inner.Tails.{EmitsTail, IsReturn}
 
 -- a function's code before its first instruction
@@ -25,7 +25,7 @@ abbrev pub empty_sheet : Plan → Fun → Sheet
 empty_sheet plan f = record { code = []; params = param_words plan f; slots = param_words plan f }
 
 module _ (plan : Plan) (g : ℕ) (f : Fun) (b : Sheet) (named : IsLower f.name)
-    (e : EmitsTail plan (meant plan g f.body (Some f.result) (param_locals plan 0 f.params)) (param_locals plan 0 f.params) (empty_sheet plan f) b f.result) where
+    (e : EmitsTail plan (meaning_within plan g f.body (Some f.result) (param_locals plan 0 f.params)) (param_locals plan 0 f.params) (empty_sheet plan f) b f.result) where
   abbrev ls : List Local
   ls = param_locals plan 0 f.params
 

@@ -32,7 +32,7 @@ use Rattle.rb_fragment.proofs.Adding.{Adds-one, Adds-trans}
 use Rattle.rb_fragment.proofs.Fragments.{one, seq}
 use Rattle.rb_fragment.proofs.Holds.{AreGiven-append, AreGiven-more, Holds-append, Holds-kept, IsOfLocal-append}
 use Rattle.rb_compile.specs.inner.Ready.{SitesAreReady}
-use Rattle.rb_compile.specs.inner.Forms.{EmitsExpr, IsOne, meant}
+use Rattle.rb_compile.specs.inner.Forms.{EmitsExpr, IsOne, meaning_within}
 use Rattle.rb_compile.proofs.Sites.{ready-Let}
 
 -- the same by another name of the meaning
@@ -84,8 +84,8 @@ number_expr plan f at n wanted ls a b held small is =
     let h = typed-Num plan.program.types plan.program.funs at n wanted (scope_of ls) t small ready.typed in
     let e = number_emits plan a n h.0 small h.2 ls in (
       h.3,
-      subst (λ u. Emits plan (meant plan f (X.Num at n) wanted ls) ls a (with_more (with_slot a) (Const a.slots n)) u (a.slots ∷ [])) (sym h.1)
-          (same_emits plan (meant plan f (X.Num at n) wanted ls) (λ calls left env. value_outcome (Num n) left) ls a (with_more (with_slot a) (Const a.slots n)) (Int h.0) (a.slots ∷ [])
+      subst (λ u. Emits plan (meaning_within plan f (X.Num at n) wanted ls) ls a (with_more (with_slot a) (Const a.slots n)) u (a.slots ∷ [])) (sym h.1)
+          (same_emits plan (meaning_within plan f (X.Num at n) wanted ls) (λ calls left env. value_outcome (Num n) left) ls a (with_more (with_slot a) (Const a.slots n)) (Int h.0) (a.slots ∷ [])
           (λ calls left env. meaning-Num plan.program calls f wanted (scope_of ls) left env at n) e),
     ))
 
@@ -143,8 +143,8 @@ module _ (plan : Plan) (f : ℕ) (at x : ℕ) (u : Ty) (ea eb : Expr) (wanted : 
         ready_sites = subst (λ k. SitesAreReady plan f (Rattle.rb_core.specs.Coverage.sites types funs eb k)) (sym inner_scope) sites.1;
       }) in (
         B.0,
-        same_emits plan (meant plan f (X.Let at x u ea eb) wanted ls) (λ calls left env. then_do (meant plan f ea (Some u) ls calls left env) (λ v rest. meant plan f eb wanted inner calls rest (with_value env x v))) ls a c t hy.slots
+        same_emits plan (meaning_within plan f (X.Let at x u ea eb) wanted ls) (λ calls left env. then_do (meaning_within plan f ea (Some u) ls calls left env) (λ v rest. meaning_within plan f eb wanted inner calls rest (with_value env x v))) ls a c t hy.slots
             (λ calls left env. meaning-Let plan.program calls f wanted (scope_of ls) left env at x u ea eb
-            ∙ ap (λ k. then_do (meant plan f ea (Some u) ls calls left env) (λ v rest. meaning_of plan.program calls f eb wanted k rest (with_value env x v))) (sym inner_scope))
-            (let_emits plan (meant plan f ea (Some u) ls) (meant plan f eb wanted inner) x ls a b c u t hx.slots hy.slots ready.given A.1 B.1),
+            ∙ ap (λ k. then_do (meaning_within plan f ea (Some u) ls calls left env) (λ v rest. meaning_of plan.program calls f eb wanted k rest (with_value env x v))) (sym inner_scope))
+            (let_emits plan (meaning_within plan f ea (Some u) ls) (meaning_within plan f eb wanted inner) x ls a b c u t hx.slots hy.slots ready.given A.1 B.1),
       )

@@ -39,7 +39,7 @@ use Rattle.rb_fragment.proofs.Adding.{Adds-one, Adds-trans}
 use Rattle.rb_fragment.proofs.Fragments.{one, seq, weaken}
 use Rattle.rb_fragment.proofs.Holds.{AreGiven-more, Holds-kept, slots_at-kept}
 use Rattle.rb_fragment.proofs.Represented.{Rep-int, Rep-kept}
-use Rattle.rb_compile.specs.inner.Forms.{EmitsExpr, IsOne, meant, stated_width}
+use Rattle.rb_compile.specs.inner.Forms.{EmitsExpr, IsOne, meaning_within, stated_width}
 use Rattle.rb_compile.proofs.Forms.{one_is, same_emits}
 use Rattle.rb_compile.proofs.Sites.{ready-Binary, ready-To}
 
@@ -152,14 +152,14 @@ module _ (plan : Plan) (f at : ℕ) (op : Op) (ea eb : Expr) (wanted : Option Ty
       let typed1 = subst (λ u. type_of types funs eb (Some u) (scope_of ls) ≡ Ok (Int n)) (sym is) p.3 in
       let given1 = AreGiven-more plan a.slots b.slots ls A.1.adds.more given in
       let B = second (Int n) (record { sound = ready.sound; typed = typed1; within = ready.within; numbered = wn.1; given = given1; ready_sites = sites.1 }) in
-      let second1 = subst (λ u. Emits plan (meant plan f eb (Some u) ls) ls b c (Int n) hy.slots) is B.1 in
-      let all = operator_emits plan (meant plan f ea (operand_wanted op wanted) ls) (meant plan f eb (Some (Int n)) ls) op n t ls a b c hx.slots hy.slots p.5 given A.1 second1 in
-      let named = same_emits plan (meant plan f (X.Binary at op ea eb) wanted ls) (λ calls left env. then_do (meant plan f ea (operand_wanted op wanted) ls calls left env) (λ v rest. then_do (meant plan f eb (Some (Int n)) ls calls rest env) (operation_outcome op (width_of (Int n)) v)))
-      ls a (after plan (meant plan f ea (operand_wanted op wanted) ls) (meant plan f eb (Some (Int n)) ls) op n t ls a b c hx.slots hy.slots p.5) t (c.slots ∷ [])
+      let second1 = subst (λ u. Emits plan (meaning_within plan f eb (Some u) ls) ls b c (Int n) hy.slots) is B.1 in
+      let all = operator_emits plan (meaning_within plan f ea (operand_wanted op wanted) ls) (meaning_within plan f eb (Some (Int n)) ls) op n t ls a b c hx.slots hy.slots p.5 given A.1 second1 in
+      let named = same_emits plan (meaning_within plan f (X.Binary at op ea eb) wanted ls) (λ calls left env. then_do (meaning_within plan f ea (operand_wanted op wanted) ls calls left env) (λ v rest. then_do (meaning_within plan f eb (Some (Int n)) ls calls rest env) (operation_outcome op (width_of (Int n)) v)))
+      ls a (after plan (meaning_within plan f ea (operand_wanted op wanted) ls) (meaning_within plan f eb (Some (Int n)) ls) op n t ls a b c hx.slots hy.slots p.5) t (c.slots ∷ [])
       (λ calls left env. meaning-Binary plan.program calls f wanted (scope_of ls) left env at op ea eb
-      ∙ ap (λ u. then_do (meant plan f ea (operand_wanted op wanted) ls calls left env) (λ v rest. then_do (meant plan f eb (Some u) ls calls rest env) (operation_outcome op (width_of u) v))) p.1) all in (
+      ∙ ap (λ u. then_do (meaning_within plan f ea (operand_wanted op wanted) ls calls left env) (λ v rest. then_do (meaning_within plan f eb (Some u) ls calls rest env) (operation_outcome op (width_of u) v))) p.1) all in (
         ap (operator_type op) is ∙ p.5,
-        subst (λ u. Emits plan (meant plan f (X.Binary at op ea eb) wanted ls) ls a (with_more (with_slot c) (Alu (alu_op_of op) (stated_width u) c.slots (slice_index hx.slots 0) (slice_index hy.slots 0))) t (c.slots ∷ [])) (sym is) named,
+        subst (λ u. Emits plan (meaning_within plan f (X.Binary at op ea eb) wanted ls) ls a (with_more (with_slot c) (Alu (alu_op_of op) (stated_width u) c.slots (slice_index hx.slots 0) (slice_index hy.slots 0))) t (c.slots ∷ [])) (sym is) named,
       ))
 
 -- Low bits
@@ -214,9 +214,9 @@ to_expr plan f at bits ea wanted ls a b d hx held first it =
     let range = between 1 64 bits wn.0 in
     let p = typed-To types funs at bits ea wanted (scope_of ls) t ready.typed in
     let A = first (Int p.0) (record { sound = ready.sound; typed = p.1; within = ready.within; numbered = wn.1; given = ready.given; ready_sites = ready-To plan f at bits ea (scope_of ls) ready.ready_sites }) in
-    let all = cut_emits plan (meant plan f ea None ls) p.0 bits ls a b hx.slots range.0 range.1 ready.given A.1 in (
+    let all = cut_emits plan (meaning_within plan f ea None ls) p.0 bits ls a b hx.slots range.0 range.1 ready.given A.1 in (
       p.2,
-      subst (λ u. Emits plan (meant plan f (X.To at bits ea) wanted ls) ls a (with_more (with_slot b) i) u (b.slots ∷ [])) p.2
-          (same_emits plan (meant plan f (X.To at bits ea) wanted ls) (λ calls left env. then_do (meant plan f ea None ls calls left env) (cut_to bits)) ls a (with_more (with_slot b) i) (Int bits) (b.slots ∷ [])
+      subst (λ u. Emits plan (meaning_within plan f (X.To at bits ea) wanted ls) ls a (with_more (with_slot b) i) u (b.slots ∷ [])) p.2
+          (same_emits plan (meaning_within plan f (X.To at bits ea) wanted ls) (λ calls left env. then_do (meaning_within plan f ea None ls calls left env) (cut_to bits)) ls a (with_more (with_slot b) i) (Int bits) (b.slots ∷ [])
           (λ calls left env. meaning-To plan.program calls f wanted (scope_of ls) left env at bits ea) all),
     ))

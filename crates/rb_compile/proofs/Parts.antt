@@ -32,7 +32,7 @@ use Rattle.rb_fetch.specs.Finding.{IsPlanOf}
 use Rattle.rb_build.specs.Building.{Builds}
 use Rattle.rb_fetch.specs.Fetching.{PlanIsSound}
 use Rattle.rb_compile.specs.inner.Ready.{AreReady, ExprIsReady}
-use Rattle.rb_compile.specs.inner.Forms.{EmitsExpr, EmitsFirst, meant}
+use Rattle.rb_compile.specs.inner.Forms.{EmitsExpr, EmitsFirst, meaning_within}
 use Rattle.rb_compile.proofs.Forms.{same_emits}
 use Rattle.rb_compile.proofs.Showing.{emits_any, ends_shown, more_shown, none_shown}
 use Rattle.rb_compile.specs.inner.Shown.{shown_of}
@@ -72,7 +72,7 @@ module _ (plan : Plan) (f : ℕ) (es : List Expr) (ts : List Ty) (ls : List Loca
       } in
       let E = second r.0 here in
       let wanted : slice_get ts i ≡ Some h.ty = r.1 ∙ ap Some (sym E.0) in
-      let e1 = subst (λ u. Emits plan (meant plan f e (slice_get ts i) ls) ls b c u h.slots) (sym E.0) E.1 in
+      let e1 = subst (λ u. Emits plan (meaning_within plan f e (slice_get ts i) ls) ls b c u h.slots) (sym E.0) E.1 in
       let e2 = subst (λ w. Emits plan (λ calls left env. mf calls e w (scope_of ls) left env) ls b c h.ty h.slots) wanted e1 in
       let at_hs : slice_get ts (length hs) ≡ Some h.ty = ap (λ n. slice_get ts n) long ∙ wanted in
       let more = more_shown plan ts ls (λ calls. map (mf calls) (take i es)) (λ calls. map (mf calls) (take (i + 1) es)) (λ calls. mf calls e) (map shown_of (take i es)) (shown_of e) a b c hs h
@@ -131,8 +131,8 @@ module _ (plan : Plan) (f at g : ℕ) (es : List Expr) (wanted : Option Ty) (ls 
       let result : fun.result ≡ t = sym (ap result_of is) ∙ tc.2 in
       let e = applied plan (types_of fun) ls AnyValues (λ calls. map (meaning_of plan.program calls f) es) (λ calls vs left. calls g left vs) a b (with_call plan b g fun hs) hs fun.result ds all (call_applies plan b g fun hs is kinds all.given) in (
         result,
-        subst (λ u. Emits plan (meant plan f (X.Call at g es) wanted ls) ls a (with_call plan b g fun hs) u ds) result
-            (same_emits plan (meant plan f (X.Call at g es) wanted ls) (λ calls left env. then_with (all_of (map (meaning_of plan.program calls f) es) (types_of fun) (scope_of ls) [] left env) (λ vs rest. calls g rest vs)) ls a (with_call plan b g fun hs) fun.result ds
+        subst (λ u. Emits plan (meaning_within plan f (X.Call at g es) wanted ls) ls a (with_call plan b g fun hs) u ds) result
+            (same_emits plan (meaning_within plan f (X.Call at g es) wanted ls) (λ calls left env. then_with (all_of (map (meaning_of plan.program calls f) es) (types_of fun) (scope_of ls) [] left env) (λ vs rest. calls g rest vs)) ls a (with_call plan b g fun hs) fun.result ds
             (λ calls left env. meaning-Call plan.program calls f wanted (scope_of ls) left env at g es
             ∙ ap (λ ts. then_with (all_of (map (meaning_of plan.program calls f) es) ts (scope_of ls) [] left env) (λ vs rest. calls g rest vs)) params_are) e),
       )))
@@ -154,8 +154,8 @@ build_expr agreed plan f at con es wanted ls fields a b c hs held of_agreed is f
     let done = builds plan of_agreed fields is kinds all.given in
     let e = applied plan fields ls (AreAsShown (map shown_of es)) (λ calls. map (meaning_of plan.program calls f) es) (λ calls. construction_outcome con) a b c hs (Named con.ty) held.slots all done.1 in (
       done.0 ∙ tc.2,
-      subst (λ u. Emits plan (meant plan f (X.Build at con es) wanted ls) ls a c u held.slots) tc.2
-          (same_emits plan (meant plan f (X.Build at con es) wanted ls) (λ calls left env. then_with (all_of (map (meaning_of plan.program calls f) es) fields (scope_of ls) [] left env) (construction_outcome con)) ls a c (Named con.ty) held.slots
+      subst (λ u. Emits plan (meaning_within plan f (X.Build at con es) wanted ls) ls a c u held.slots) tc.2
+          (same_emits plan (meaning_within plan f (X.Build at con es) wanted ls) (λ calls left env. then_with (all_of (map (meaning_of plan.program calls f) es) fields (scope_of ls) [] left env) (construction_outcome con)) ls a c (Named con.ty) held.slots
           (λ calls left env. meaning-Build plan.program calls f wanted (scope_of ls) left env at con es
           ∙ ap (λ ts. then_with (all_of (map (meaning_of plan.program calls f) es) ts (scope_of ls) [] left env) (construction_outcome con)) fields_are) e),
     )

@@ -21,7 +21,7 @@ use Rattle.rb_fragment.specs.Owing.{Does, GivesValue}
 use Rattle.rb_fragment.specs.Slots.{AllFrom}
 use Rattle.rb_fetch.specs.Finding.{IsPlanOf}
 use Rattle.rb_match.specs.Choosing.{Binds, BindsPattern}
-use Rattle.rb_compile.specs.inner.Forms.{meant}
+use Rattle.rb_compile.specs.inner.Forms.{meaning_within}
 use Rattle.rb_compile.specs.inner.Used.{Serves}
 use Rattle.rb_compile.specs.inner.Arms.{GroundIsReady}
 use Rattle.rb_compile.specs.inner.Tails.{DoesTailArm, DoesTailNumber, EmitsReturn, EmitsTail, EmitsTailArm, EmitsTailArms, TailArmIn, TailArmsAre, TailArmsIn}
@@ -33,7 +33,7 @@ use Rattle.rb_compile.proofs.Returning.{bound_then_tail, is_tail_behind, tail_no
 module _ (plan : Plan) (f : ℕ) (c : Clause) (t : Ty) (ls : List Local) (held : Held) (a b d : Sheet) (bound : List Local) (s : Ty) (n : ℕ)
     (q1 : Pat) (served : Serves plan.program.types plan.layouts c.body c.pat q1 s)
     (ground : GroundIsReady plan ls held s n a.slots) (B : Binds plan q1 s held.slots a b bound)
-    (body : EmitsTail plan (meant plan f c.body (Some t) (ls ++ bound)) (ls ++ bound) b d t) where
+    (body : EmitsTail plan (meaning_within plan f c.body (Some t) (ls ++ bound)) (ls ++ bound) b d t) where
   clause_returns : DoesTailArm plan f c ls s t held.slots a d
   clause_returns = record {
     tail = is_tail_behind plan t a b d B.adds body.tail;
@@ -41,7 +41,7 @@ module _ (plan : Plan) (f : ℕ) (c : Clause) (t : Ty) (ls : List Local) (held :
         let i : (clean : Bool) × (env : List Binding) × (v : Value) × (matches_of c.pat v ≡ true) = (clean, env, v, matches) in
         let extra = own plan f c (Some t) ls held a b bound s n q1 served ground B in
         let k = bound_then_tail plan clean calls n t a b d (ls ++ bound) (Before plan f c (Some t) ls held a b bound s n q1 served ground B i) (env_of plan f c (Some t) ls held a b bound s n q1 served ground B i)
-        (meant plan f c.body (Some t) (ls ++ bound)) extra (bound_runs plan f c (Some t) ls held a b bound s n q1 served ground B i) body in
+        (meaning_within plan f c.body (Some t) (ls ++ bound)) extra (bound_runs plan f c (Some t) ls held a b bound s n q1 served ground B i) body in
         record {
           runs = λ final callee next law rel agrees sl w long good pre.
               let out = next (length a.code) sl w in

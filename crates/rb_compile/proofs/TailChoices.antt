@@ -51,7 +51,7 @@ use Rattle.rb_match.proofs.Sharing.{bound_shared}
 use Rattle.rb_match.specs.Choosing.{ChoosesClause, WordsChoose}
 use Rattle.rb_rel.proofs.Lists.{get-mapped}
 use Rattle.rb_compile.specs.inner.Ready.{SiteIsReady}
-use Rattle.rb_compile.specs.inner.Forms.{EmitsExpr, meant}
+use Rattle.rb_compile.specs.inner.Forms.{EmitsExpr, meaning_within}
 use Rattle.rb_compile.specs.inner.Arms.{GroundIsReady, IsSubject}
 use Rattle.rb_compile.specs.inner.Tails.{AddsTail, DoesTailNumber, EmitsReturn, EmitsTailArms, IsTail, Tail, TailArmIn, TailArmsAre, TailArmsDone, TailArmsIn, TailsAreReady}
 use Rattle.rb_compile.proofs.Choices.{chosen_is, patterns_are, rep_typed, some_at, some_of}
@@ -326,14 +326,14 @@ module _ (agreed : LaidOut) (plan : Plan) (of_agreed : IsPlanOf agreed plan) (f 
       let sound = ready.sound in
       let tail = choice_is plan f at cs ls b c q holes starts s t subject.slots sound sites.0 given1 A.1.given choice holes_are ways are done some in
       let goes = λ (calls : Calls) (env : List Binding) (v : Value) (rest : ℕ). after (Matched f at ∷ []) (first_of types s (map (clause_meaning plan.program calls f) cs) wanted (Some t) scope v rest env) in
-      same_tail plan (meant plan f (X.Match at e cs) wanted ls) (λ calls left env. then_do (meant plan f e None ls calls left env) (goes calls env)) ls a returned t
+      same_tail plan (meaning_within plan f (X.Match at e cs) wanted ls) (λ calls left env. then_do (meaning_within plan f e None ls calls left env) (goes calls env)) ls a returned t
       (λ calls left env. meaning-Match plan.program calls f wanted scope left env at e cs
-      ∙ ap (λ u. then_do (meant plan f e None ls calls left env) (λ v rest. after (Matched f at ∷ []) (first_of types (inferred_type types funs e None scope) (map (clause_meaning plan.program calls f) cs) wanted (Some u) scope v rest env))) tm.3
-      ∙ ap (λ u. then_do (meant plan f e None ls calls left env) (λ v rest. after (Matched f at ∷ []) (first_of types u (map (clause_meaning plan.program calls f) cs) wanted (Some t) scope v rest env))) tm.2)
+      ∙ ap (λ u. then_do (meaning_within plan f e None ls calls left env) (λ v rest. after (Matched f at ∷ []) (first_of types (inferred_type types funs e None scope) (map (clause_meaning plan.program calls f) cs) wanted (Some u) scope v rest env))) tm.3
+      ∙ ap (λ u. then_do (meaning_within plan f e None ls calls left env) (λ v rest. after (Matched f at ∷ []) (first_of types u (map (clause_meaning plan.program calls f) cs) wanted (Some t) scope v rest env))) tm.2)
       (record {
         tail = is_tail_behind plan t a b returned A.1.adds tail;
         does = λ calls clean env. value_then_tail plan clean calls a b returned s t subject.slots (λ sl m. Holds plan clean sl m ls env) (λ v sl m. Rep plan m clean s v (slots_at sl subject.slots) × Holds plan clean sl m ls env)
-            (λ left. meant plan f e None ls calls left env) (goes calls env) A.1.adds tail.adds (A.1.does calls clean env)
+            (λ left. meaning_within plan f e None ls calls left env) (goes calls env) A.1.adds tail.adds (A.1.does calls clean env)
             (λ v. choice_returns plan f at cs ls b c q holes starts s t subject.slots sound sites.0 given1 A.1.given choice holes_are ways are done some calls clean env v)
             (λ v sl sl' m m' ext keeps rep pre. (rep, Holds-kept plan clean m m' ext a.slots sl sl' keeps ls env ready.given pre));
       })

@@ -22,14 +22,14 @@ use Rattle.rb_fragment.specs.Holding.{AreGiven, Holds, binder_in, scope_of}
 use Rattle.rb_fragment.specs.Plan.{Plan}
 use Rattle.rb_fragment.proofs.Holds.{AreGiven-append, AreGiven-more, Holds-append, Holds-kept}
 use Rattle.rb_compile.specs.inner.Ready.{SitesAreReady}
-use Rattle.rb_compile.specs.inner.Forms.{EmitsExpr, meant}
+use Rattle.rb_compile.specs.inner.Forms.{EmitsExpr, meaning_within}
 use Rattle.rb_compile.specs.inner.Tails.{EmitsReturn, EmitsTail}
 use Rattle.rb_compile.proofs.Sites.{ready-Let}
 use Rattle.rb_compile.proofs.Returning.{is_tail_behind, same_tail, value_returns, value_then_tail}
 
 -- a value, and its return
 pub return_expr : (plan : Plan) (f : ℕ) (e : Expr) (t : Ty) (ls : List Local) (a b : Sheet) (held : Held) → EmitsExpr plan f e (Some t) ls a b held → EmitsReturn plan f e t ls a (with_more b (Return held.slots))
-return_expr plan f e t ls a b held emits = λ ready. value_returns plan (meant plan f e (Some t) ls) ls a b t held.slots (emits t ready).1
+return_expr plan f e t ls a b held emits = λ ready. value_returns plan (meaning_within plan f e (Some t) ls) ls a b t held.slots (emits t ready).1
 
 -- Bindings
 
@@ -73,7 +73,7 @@ module _ (plan : Plan) (f : ℕ) (at x : ℕ) (u : Ty) (ea eb : Expr) (t : Ty) (
         given = given1;
         ready_sites = subst (λ k. SitesAreReady plan f (sites types funs eb k)) (sym inner_scope) parts.1;
       }) in
-      same_tail plan (meant plan f (X.Let at x u ea eb) wanted ls) (λ calls left env. then_do (meant plan f ea (Some u) ls calls left env) (λ v rest. meant plan f eb wanted inner calls rest (with_value env x v))) ls a c t
+      same_tail plan (meaning_within plan f (X.Let at x u ea eb) wanted ls) (λ calls left env. then_do (meaning_within plan f ea (Some u) ls calls left env) (λ v rest. meaning_within plan f eb wanted inner calls rest (with_value env x v))) ls a c t
       (λ calls left env. meaning-Let plan.program calls f wanted (scope_of ls) left env at x u ea eb
-      ∙ ap (λ k. then_do (meant plan f ea (Some u) ls calls left env) (λ v rest. meaning_of plan.program calls f eb wanted k rest (with_value env x v))) (sym inner_scope))
-      (let_tail plan (meant plan f ea (Some u) ls) (meant plan f eb wanted inner) x ls a b c u t hx.slots ready.given A.1 B)
+      ∙ ap (λ k. then_do (meaning_within plan f ea (Some u) ls calls left env) (λ v rest. meaning_of plan.program calls f eb wanted k rest (with_value env x v))) (sym inner_scope))
+      (let_tail plan (meaning_within plan f ea (Some u) ls) (meaning_within plan f eb wanted inner) x ls a b c u t hx.slots ready.given A.1 B)

@@ -24,7 +24,7 @@ use Rattle.rb_fragment.specs.Holding.{AreGiven, Holds, IsOfLocal, binder_in, sco
 use Rattle.rb_fragment.specs.Fragments.{Emits}
 use Rattle.rb_fragment.proofs.Adding.{Adds-refl}
 use Rattle.rb_fragment.proofs.Fragments.{nothing, one}
-use Rattle.rb_compile.specs.inner.Forms.{EmitsExpr, VariableIs, held_or, meant, IsHeldOrZero}
+use Rattle.rb_compile.specs.inner.Forms.{EmitsExpr, VariableIs, held_or, meaning_within, IsHeldOrZero}
 use Rattle.rb_compile.proofs.Forms.{number_emits, one_is, same_emits}
 
 module _ (plan : Plan) (x : ℕ) where
@@ -70,7 +70,7 @@ module _ (plan : Plan) (f : ℕ) (at x : ℕ) (wanted : Option Ty) (ls : List Lo
   abbrev valued : Calls → ℕ → List Binding → Outcome
   valued calls left env = value_outcome (value_in env x) left
 
-  named : (calls : Calls) (left : ℕ) (env : List Binding) → meant plan f (X.Var at x) wanted ls calls left env ≡ valued calls left env
+  named : (calls : Calls) (left : ℕ) (env : List Binding) → meaning_within plan f (X.Var at x) wanted ls calls left env ≡ valued calls left env
   named calls left env = meaning-Var plan.program calls f wanted (scope_of ls) left env at x
 
   -- a bound variable takes no code
@@ -80,7 +80,7 @@ module _ (plan : Plan) (f : ℕ) (at x : ℕ) (wanted : Option Ty) (ls : List Lo
       let st = subst (λ o. Found plan x a.slots ls o (variable_type x (scope_of ls))) is (static ready.given) in
       let ty : h.ty ≡ t = st.0 ∙ same in (
         ty,
-        same_emits plan (meant plan f (X.Var at x) wanted ls) valued ls a a t h.slots named (record {
+        same_emits plan (meaning_within plan f (X.Var at x) wanted ls) valued ls a a t h.slots named (record {
           adds = Adds-refl plan a;
           given = st.1;
           count = st.2 ∙ ap (words_needed plan) ty;
@@ -102,8 +102,8 @@ module _ (plan : Plan) (f : ℕ) (at x : ℕ) (wanted : Option Ty) (ls : List Lo
       let zero_small : 0 < 2 ^ 64 = omega arith in
       let base = number_emits plan a 0 64 zero_small zero_small ls in (
         ty,
-        subst (λ u. Emits plan (meant plan f (X.Var at x) wanted ls) ls a (with_more (with_slot a) (Const a.slots 0)) u (a.slots ∷ [])) ty
-            (same_emits plan (meant plan f (X.Var at x) wanted ls) valued ls a (with_more (with_slot a) (Const a.slots 0)) (Int 64) (a.slots ∷ []) named (record {
+        subst (λ u. Emits plan (meaning_within plan f (X.Var at x) wanted ls) ls a (with_more (with_slot a) (Const a.slots 0)) u (a.slots ∷ [])) ty
+            (same_emits plan (meaning_within plan f (X.Var at x) wanted ls) valued ls a (with_more (with_slot a) (Const a.slots 0)) (Int 64) (a.slots ∷ []) named (record {
               adds = base.adds;
               given = base.given;
               count = refl;

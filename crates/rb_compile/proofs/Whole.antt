@@ -13,7 +13,7 @@ use Rattle.rb_fragment.specs.Plan.{Plan}
 use Rattle.rb_fragment.specs.Functions.{AllCompile, Compiles, HasShapes, param_locals, param_words}
 use Rattle.rb_compile.proofs.Compiled.{empty_sheet}
 use Rattle.rb_fragment.proofs.Functions.{params_given, params_scope}
-use Rattle.rb_compile.specs.inner.Forms.{meant}
+use Rattle.rb_compile.specs.inner.Forms.{meaning_within}
 use Rattle.rb_compile.specs.inner.Functions.{FirstCompile, FunIsReady, ProgramIsReady}
 use Rattle.rb_compile.specs.inner.Ready.{SitesAreReady}
 use Rattle.rb_compile.specs.inner.Tails.{EmitsReturn, EmitsTail}
@@ -21,7 +21,7 @@ use Rattle.rb_compile.proofs.Parts.{get_at}
 
 -- a function's body is ready within its parameters
 pub fun_returns : (plan : Plan) (g : ℕ) (f : Fun) (b : Sheet) → FunIsReady plan g f → EmitsReturn plan g f.body f.result (param_locals plan 0 f.params) (empty_sheet plan f) b
-    → EmitsTail plan (meant plan g f.body (Some f.result) (param_locals plan 0 f.params)) (param_locals plan 0 f.params) (empty_sheet plan f) b f.result
+    → EmitsTail plan (meaning_within plan g f.body (Some f.result) (param_locals plan 0 f.params)) (param_locals plan 0 f.params) (empty_sheet plan f) b f.result
 fun_returns plan g f b ready emits =
     let types = plan.program.types in let funs = plan.program.funs in
     let scope = params_scope plan 0 f.params in

@@ -2,7 +2,6 @@
 
 ghost use Rattle.std.specs.Prelude.{◌≡◌, ◌≤◌, ◌<◌, ◌+◌, [], true, Option, Some, None, MatchOption, IfOk, Ok, Err, drop, length, slice_get};
 ghost use Rattle.std.specs.Option.{option_map};
-ghost use Rattle.rb_edge.specs.History as history;
 ghost use Rattle.rb_edge.specs.Source.{GivesBytes};
 ghost use Rattle.rb_edge.specs.MemSource.{new_source, file_bytes, open_file_bytes, after_open, after_read_into};
 

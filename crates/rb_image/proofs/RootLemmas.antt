@@ -6,10 +6,10 @@ use Rattle.std.proofs.lemmas.Grind.{common_steps}
 use Rattle.std.proofs.lemmas.Option.{slice_get_within}
 use Rattle.rb_core.specs.declared.types.DataDecl.{DataDecl}
 use Rattle.rb_core.specs.declared.types.Ty.{Ty}
-use Rattle.rb_core.specs.declared.types.Ty.TheVariants.{Int, Named}
+use Rattle.rb_core.specs.declared.types.Ty.TheVariants.{Named}
 use Rattle.rb_layout.specs.declared.layout.Layout.{Layout}
 use Rattle.rb_image_text.specs.declared.fault.ImageFault.{ImageFault}
-use Rattle.rb_image_text.specs.declared.fault.ImageFault.TheVariants.{BadRoot, Memory as NoMemory}
+use Rattle.rb_image_text.specs.declared.fault.ImageFault.TheVariants.{Memory as NoMemory}
 use Rattle.rb_image_text.specs.declared.image.Image.{Image}
 use Rattle.rb_image_text.specs.declared.image.ImageBlock.{ImageBlock}
 use Rattle.rb_image_text.specs.Places.{AreInPlace}
@@ -120,37 +120,6 @@ module _ (types : List DataDecl) (layouts : List Layout) (image : Image) (ty : T
     pub fault : IfErr r (λ f. IsFirstImageFault types layouts image ty f ⊎ (f ≡ NoMemory))
     pub fine : IsSoundImage types layouts image ty → IsFineResult r
     pub first : (f : ImageFault) → IsFirstImageFault types layouts image ty f → IsFault f r
-
-  abbrev widths : List ℕ
-  widths = widths_of layouts ty
-
-  same_misfit : (i j : ℕ) → IsFirstMisfit widths image.root i → IsFirstMisfit widths image.root j → i ≡ j
-  same_misfit i j a b = elim (cases_lt i j) [
-    | inl lt ↦ absurd (a.misfit (b.before i lt))
-    | inr le ↦ elim (cases_lt j i) [
-      | inl lt ↦ absurd (b.misfit (a.before j lt))
-      | inr ge ↦ omega (arith, le, ge)
-    ]
-  ]
-
-  -- a root word that does not fit
-  pub misfit_answers : (i : ℕ) → IsFirstMisfit widths image.root i → Answers (Err (BadRoot i))
-  misfit_answers i h = record { sound = tt; fault = inl (inl (i, refl, h)); fine = λ s. absurd (h.misfit (s.fit i)); first = first }
-    where
-      first : (f : ImageFault) → IsFirstImageFault types layouts image ty f → IsFault {A = Unit {0}} f (Err (BadRoot i))
-      first f (inl x) = inl (ap BadRoot (same_misfit i x.0 h x.2) ∙ sym x.1)
-      first f (inr x) = absurd (h.misfit (x.0 i))
-
-  pub memory_answers : Answers (Err NoMemory)
-  memory_answers = record { sound = tt; fault = inr refl; fine = λ s. refl; first = λ f h. inr refl }
-
--- root words that fit an integer
-pub integer_answers : (types : List DataDecl) (layouts : List Layout) (image : Image) (bits : ℕ) → WordsFit (bits ∷ []) image.root → Answers types layouts image (Int bits) (Ok tt)
-integer_answers types layouts image bits fit = record { sound = record { fit = fit; sound = tt }; fault = tt; fine = λ s. tt; first = first }
-  where
-    first : (f : ImageFault) → IsFirstImageFault types layouts image (Int bits) f → IsFault {A = Unit {0}} f (Ok tt)
-    first f (inl x) = x.2.misfit (fit x.0)
-    first f (inr x) = x.1
 
 -- root words that fit a data type
 module _ (types : List DataDecl) (layouts : List Layout) (image : Image) (t : ℕ) (fit : WordsFit (widths_of layouts (Named t)) image.root) where

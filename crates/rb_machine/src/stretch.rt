@@ -7,7 +7,7 @@ ghost use Rattle.rb_target.specs.Meaning.{Callee, from};
 ghost use Rattle.rb_target.specs.Validity.{IsValidFun};
 ghost use Rattle.rb_target.specs.Laws.{Law};
 ghost use Rattle.rb_machine.specs.inner.Turns.{world};
-ghost use Rattle.rb_machine.specs.inner.Stretches.{stop_to, IsStop, IsQuietFrom};
+ghost use Rattle.rb_machine.specs.inner.Stretches.{end_from_stop, IsStop, IsQuietFrom};
 
 use crate::state::{Flow, Stop};
 use crate::step::step;
@@ -35,7 +35,7 @@ pub fn stretch<'a, M: ByteMemory, L: Ledger>(
     requires checks { M.CHECKS ≡ false → IsQuietFrom fun.now.body start slots.old (M.memory memory.old) switches.old }
     ensures same { (callee : Callee) (left taken : ℕ) →
         from fun.now.body callee start slots.old (world left (M.memory memory.old) switches.old taken)
-        ≡ stop_to fun.now.body callee result slots.new
+        ≡ end_from_stop fun.now.body callee result slots.new
         (world left (M.memory memory.new) switches.new (taken + (steps.new.taken - steps.old.taken))) }
     ensures stop { IsStop fun.now.body start result (steps.new.taken - steps.old.taken) (switches.new - switches.old) }
     ensures ticks { steps.old.taken ≤ steps.new.taken }
@@ -81,7 +81,7 @@ pub fn stretch_above<'a, M: ByteMemory, L: Ledger>(
     ensures below { take base stack.new ≡ take base stack.old }
     ensures same { (callee : Callee) (left taken : ℕ) →
         from fun.now.body callee start (drop base stack.old) (world left (M.memory memory.old) switches.old taken)
-        ≡ stop_to fun.now.body callee result (drop base stack.new)
+        ≡ end_from_stop fun.now.body callee result (drop base stack.new)
         (world left (M.memory memory.new) switches.new (taken + (steps.new.taken - steps.old.taken))) }
     ensures stop { IsStop fun.now.body start result (steps.new.taken - steps.old.taken) (switches.new - switches.old) }
     ensures ticks { steps.old.taken ≤ steps.new.taken }

@@ -12,7 +12,7 @@ use Rattle.rb_matrix.specs.declared.matrix.Head.TheVariants as H
 use Rattle.rb_matrix.specs.declared.groups.Groups.{Groups}
 use Rattle.rb_matrix.specs.Heads.{layer_head}
 use Rattle.rb_matrix.specs.Specialize.{special_of_layer, special_row, special, keep}
-use Rattle.rb_matrix.specs.inner.Groups.{insertion, merged, numbers_with, near, HasNoNumber, IsGrouped, IsNumberAdded, key_of_head, row_key, rows_at, AreGrouped}
+use Rattle.rb_matrix.specs.inner.Groups.{insertion, merge_of, numbers_with, near, HasNoNumber, IsGrouped, IsNumberAdded, key_of_head, row_key, rows_at, AreGrouped}
 
 -- Merged numbers ----------------------------------------------------------------------------------
 
@@ -29,6 +29,11 @@ below-push : (i : ℕ) (ns : List ℕ) → AreBelow i ns → AreBelow (i + 1) (n
 below-push i [] h = (omega arith, tt)
 below-push i (n ∷ ns) h = (let a = h.0 in omega (arith, a), below-push i ns h.1)
 
+-- numbers and none beside them
+pub merge-none : (ns : List ℕ) → merge_of ns [] ≡ ns
+merge-none [] = refl
+merge-none (n ∷ ns) = ap (λ l. n ∷ l) (merge-none ns)
+
 -- a number above all comes last, in either list
 module _ (i : ℕ) where
   module _ (n : ℕ) (rest : List ℕ → List ℕ) (less : n < i) (on : (ms : List ℕ) → rest (ms ++ i ∷ []) ≡ rest ms ++ i ∷ []) where
@@ -40,9 +45,9 @@ module _ (i : ℕ) where
         by true e = ap (λ l. n ∷ l) (on (m ∷ ms))
         by false e = ap (λ l. m ∷ l) e
 
-  pub merged-right : (ns ms : List ℕ) → AreBelow i ns → merged ns (ms ++ i ∷ []) ≡ merged ns ms ++ i ∷ []
-  merged-right [] ms below = refl
-  merged-right (n ∷ ns) ms below = insertion-push n (merged ns) below.0 (λ l. merged-right ns l below.1) ms
+  pub merge-right : (ns ms : List ℕ) → AreBelow i ns → merge_of ns (ms ++ i ∷ []) ≡ merge_of ns ms ++ i ∷ []
+  merge-right [] ms below = refl
+  merge-right (n ∷ ns) ms below = insertion-push n (merge_of ns) below.0 (λ l. merge-right ns l below.1) ms
 
   module _ (n : ℕ) (more rest : List ℕ → List ℕ) (on : (ms : List ℕ) → AreBelow i ms → more ms ≡ rest ms ++ i ∷ []) where
     insertion-more : (ms : List ℕ) → AreBelow i ms → insertion n more ms ≡ insertion n rest ms ++ i ∷ []
@@ -53,13 +58,13 @@ module _ (i : ℕ) where
         by true e = ap (λ l. n ∷ l) (on (m ∷ ms) below)
         by false e = ap (λ l. m ∷ l) e
 
-  merged-last : (ms : List ℕ) → AreBelow i ms → merged (i ∷ []) ms ≡ ms ++ i ∷ []
-  merged-last [] below = refl
-  merged-last (m ∷ ms) below = ap (λ b. if b then i ∷ m ∷ ms else m ∷ merged (i ∷ []) ms) (le-ltb i m (let less = below.0 in omega (arith, less))) ∙ ap (λ l. m ∷ l) (merged-last ms below.1)
+  merge-last : (ms : List ℕ) → AreBelow i ms → merge_of (i ∷ []) ms ≡ ms ++ i ∷ []
+  merge-last [] below = refl
+  merge-last (m ∷ ms) below = ap (λ b. if b then i ∷ m ∷ ms else m ∷ merge_of (i ∷ []) ms) (le-ltb i m (let less = below.0 in omega (arith, less))) ∙ ap (λ l. m ∷ l) (merge-last ms below.1)
 
-  pub merged-left : (ns ms : List ℕ) → AreBelow i ms → merged (ns ++ i ∷ []) ms ≡ merged ns ms ++ i ∷ []
-  merged-left [] ms below = merged-last ms below
-  merged-left (n ∷ ns) ms below = insertion-more n (merged (ns ++ i ∷ [])) (merged ns) (λ l b. merged-left ns l b) ms below
+  pub merge-left : (ns ms : List ℕ) → AreBelow i ms → merge_of (ns ++ i ∷ []) ms ≡ merge_of ns ms ++ i ∷ []
+  merge-left [] ms below = merge-last ms below
+  merge-left (n ∷ ns) ms below = insertion-more n (merge_of (ns ++ i ∷ [])) (merge_of ns) (λ l b. merge-left ns l b) ms below
 
 -- Specialised rows --------------------------------------------------------------------------------
 
@@ -102,7 +107,7 @@ pub record AreFirst (rows : List (List Pat)) (i : ℕ) (x : Groups) : Type 0 whe
 
 pub first-none : (rows : List (List Pat)) (x : Groups) → HasNoNumber x → AreFirst rows 0 x
 first-none rows x none = record {
-  same = λ h n. ap (λ ns. special h n (rows_at rows (merged ns x.keyless))) (none.1 (key_of_head h)) ∙ ap (λ ns. special h n (rows_at rows ns)) none.0;
+  same = λ h n. ap (λ ns. special h n (rows_at rows (merge_of ns x.keyless))) (none.1 (key_of_head h)) ∙ ap (λ ns. special h n (rows_at rows ns)) none.0;
   keyless = subst (AreBelow 0) (sym none.0) tt;
   groups = λ k. subst (AreBelow 0) (sym (none.1 k)) tt;
 }
@@ -131,8 +136,8 @@ module _ (rows : List (List Pat)) (i : ℕ) (x y : Groups) (within : i < length 
   first-keyless a =
       let group : (k : ℕ) → numbers_with y k ≡ numbers_with x k = λ k. ap (λ m. numbers_with (record { keyless = x.keyless; by_key = m }) k) a.1 in
       record {
-        same = λ h n. with-row h n (ap (λ l. merged l y.keyless) (group (key_of_head h)) ∙ ap (merged (numbers_with x (key_of_head h))) a.0
-            ∙ merged-right i (numbers_with x (key_of_head h)) x.keyless (f.groups (key_of_head h)));
+        same = λ h n. with-row h n (ap (λ l. merge_of l y.keyless) (group (key_of_head h)) ∙ ap (merge_of (numbers_with x (key_of_head h))) a.0
+            ∙ merge-right i (numbers_with x (key_of_head h)) x.keyless (f.groups (key_of_head h)));
         keyless = subst (AreBelow (i + 1)) (sym a.0) (below-push i x.keyless f.keyless);
         groups = λ k. subst (AreBelow (i + 1)) (sym (group k)) (below-more i (numbers_with x k) (f.groups k));
       }
@@ -140,10 +145,10 @@ module _ (rows : List (List Pat)) (i : ℕ) (x y : Groups) (within : i < length 
   first-keyed : (q : ℕ) → row_key row ≡ Some q → IsGrouped q i x y → AreFirst rows (i + 1) y
   first-keyed q e g = record {
     same = λ h n. elim (cases_eq (key_of_head h) q) [
-      | inl is ↦ with-row h n (ap (merged (numbers_with y (key_of_head h))) g.keyless
-          ∙ ap (λ l. merged l x.keyless) (subst (λ k. numbers_with y k ≡ numbers_with x k ++ i ∷ []) (sym is) g.here)
-          ∙ merged-left i (numbers_with x (key_of_head h)) x.keyless f.keyless)
-      | inr ne ↦ without-row h n (ap (merged (numbers_with y (key_of_head h))) g.keyless ∙ ap (λ l. merged l x.keyless) (g.others (key_of_head h) ne))
+      | inl is ↦ with-row h n (ap (merge_of (numbers_with y (key_of_head h))) g.keyless
+          ∙ ap (λ l. merge_of l x.keyless) (subst (λ k. numbers_with y k ≡ numbers_with x k ++ i ∷ []) (sym is) g.here)
+          ∙ merge-left i (numbers_with x (key_of_head h)) x.keyless f.keyless)
+      | inr ne ↦ without-row h n (ap (merge_of (numbers_with y (key_of_head h))) g.keyless ∙ ap (λ l. merge_of l x.keyless) (g.others (key_of_head h) ne))
           (other-row h n row q e (λ is. ne (sym is)))
     ];
     keyless = subst (AreBelow (i + 1)) (sym g.keyless) (below-more i x.keyless f.keyless);

@@ -13,6 +13,7 @@ pub mod HeadSets
 pub mod Inhabited
 pub mod Keys
 pub mod Laws
+pub mod OpenParts
 pub mod OpenRows
 pub mod Opens
 pub mod Parts

@@ -33,11 +33,11 @@ open-matches (p ∷ ps) (v ∷ vs) h e =
     let first = opened p v ∙ layer-matches (out-Pat p) v (and-left (layer_open (out-Pat p)) (is_open ps) h) in
     ap (λ b. b && row_matches ps vs) first ∙ open-matches ps vs (and-right (layer_open (out-Pat p)) (is_open ps) h) (omega (arith, e))
 
-or-right : (a b : Bool) → b ≡ true → (a || b) ≡ true
+pub or-right : (a b : Bool) → b ≡ true → (a || b) ≡ true
 or-right true b h = refl
 or-right false b h = h
 
-any-matches : (rows : List (List Pat)) (n : ℕ) (vs : List Value) → any_open rows n ≡ true → length vs ≡ n → any_row rows vs ≡ true
+pub any-matches : (rows : List (List Pat)) (n : ℕ) (vs : List Value) → any_open rows n ≡ true → length vs ≡ n → any_row rows vs ≡ true
 any-matches [] n vs h e = absurd (false≢true h)
 any-matches (r ∷ rs) n vs h e = elim (or_cases ((length r == n) && is_open r) (any_open rs n) h) [
   | inl here ↦ ap (λ b. b || any_row rs vs) (open-matches r vs (and-right (length r == n) (is_open r) here) (eqb-true (length r) n (and-left (length r == n) (is_open r) here) ∙ sym e))

@@ -22,7 +22,7 @@ use Rattle.rb_matrix.specs.Rows.{row_matches, any_row, all_rows, vector_of}
 use Rattle.rb_matrix.specs.Heads.{layer_begins, begins, fields_at}
 use Rattle.rb_matrix.specs.Specialize.{special}
 use Rattle.rb_matrix.specs.Search.{AreTypesIn, AreInhabited, is_plain, row_plain, useful_by, RowIsFound, AreUseless}
-use Rattle.rb_matrix.specs.inner.Problems.{closed, step_of, fields_bound}
+use Rattle.rb_matrix.specs.inner.Problems.{row_for_parent, step_of, fields_bound}
 use Rattle.rb_matrix.proofs.Laws.{special-any, special-all, special-lost}
 use Rattle.rb_matrix.proofs.Vectors.{and-left, and-right, row-length, split-row, vector-append, vector-length, plain-append, plain-length, con-of, con-of_int, num-of, num-of_int, num-matches, con-matches, num-plain, con-plain}
 use Rattle.rb_matrix.proofs.Absent.{fields-live}
@@ -236,7 +236,7 @@ module _ (types : List DataDecl) (ty : Ty) (ts : List Ty) (wanted unwanted : Lis
 -- by the forms of heads and types
 pub part-found : (types : List DataDecl) (ty : Ty) (ts : List Ty) (wanted unwanted : List (List Pat)) (h : Head) (fs : List Ty) (at : fields_at types ty h ≡ Some fs)
     (row : List Pat) (kept : length (special h (length fs) wanted) ≡ length wanted) (r : RowIsFound types (fs ++ ts) (special h (length fs) wanted) (special h (length fs) unwanted) row)
-    → RowIsFound types (ty ∷ ts) wanted unwanted (closed (step_of ty h (length fs)) row)
+    → RowIsFound types (ty ∷ ts) wanted unwanted (row_for_parent (step_of ty h (length fs)) row)
 part-found types (Int bits) ts wanted unwanted (H.Num m) fs at row kept r =
     let f = fits-num (nat_lt m (2 ^ bits)) fs at in
     let none : length fs ≡ 0 = ap (λ l. length l) f.1 in

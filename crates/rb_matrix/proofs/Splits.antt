@@ -16,7 +16,7 @@ use Rattle.rb_matrix.specs.Heads.{any_begins, column_begins, some_head, fields_a
 use Rattle.rb_matrix.specs.FirstHead.{first_head}
 use Rattle.rb_matrix.specs.Specialize.{special, defaults}
 use Rattle.rb_matrix.specs.Search.{IsTypeIn, AreTypesIn, AreInhabited, RowIsFound, AreUseless}
-use Rattle.rb_matrix.specs.inner.Problems.{closed, step_of, FoundIn, NoneIn, NoneBy, IsPart, IsPartAt}
+use Rattle.rb_matrix.specs.inner.Problems.{row_for_parent, step_of, FoundIn, NoneIn, NoneBy, IsPart, IsPartAt}
 use Rattle.rb_matrix.specs.Signature.{IsAbsent}
 use Rattle.rb_matrix.specs.inner.Left.{IsSplit}
 use Rattle.rb_matrix.proofs.Laws.{special-length, defaults-length, no-head}
@@ -61,7 +61,7 @@ module _ (types : List DataDecl) where
             live = subst (AreTypesIn types) (sym tys) (live-append types fs ts (fields_at-live types i ty h fs at) lives);
             step = step_of ty h (length fs);
             steps = steps;
-            sound = λ row r. at-root (closed (step_of ty h (length fs)) row) (part-found types ty ts p.wanted p.unwanted h fs at row kept (found-here row r));
+            sound = λ row r. at-root (row_for_parent (step_of ty h (length fs)) row) (part-found types ty ts p.wanted p.unwanted h fs at row kept (found-here row r));
             cheap = cheap types p c (special-falls types h (length fs) p c (length ts) w u stands (omega (arith, few, l, total)) columns-length);
           } in
           (part, λ none. part-none types ty ts p.wanted p.unwanted h fs at kept (none-here none))

@@ -11,7 +11,7 @@ use Rattle.rb_matrix.specs.declared.problem.Left.{Left}
 use Rattle.rb_matrix.specs.declared.problem.Left.TheVariants.{Whole, ByHead}
 use Rattle.rb_matrix.specs.Rows.{row_matches, any_row, all_rows, vector_of}
 use Rattle.rb_matrix.specs.Search.{AreTypesIn, useful_by, RowIsFound, AreUseless}
-use Rattle.rb_matrix.specs.inner.Problems.{with_column, closed, closed_all, FoundIn, IsPart}
+use Rattle.rb_matrix.specs.inner.Problems.{with_column, row_for_parent, row_for_root, FoundIn, IsPart}
 use Rattle.rb_matrix.specs.inner.Left.{NoneOf, AllNone, left_cost, costs, LeadsTo, IsWithin, AreWithin, IsWorking, IsSplit}
 use Rattle.rb_matrix.proofs.Weights.{some-cost}
 
@@ -24,17 +24,17 @@ pub no-split : (types : List DataDecl) (l : Left) (ls : List Left) → ls ≡ []
 no-split types l ls e none = subst (IsSplit types l) (sym e) (record { none = λ all. none; within = λ root w. tt; fewer = some-left types l })
 
 -- the last step first
-pub closed_all-append : (ss : List Step) (s : Step) (row : List Pat) → closed_all (ss ++ s ∷ []) row ≡ closed_all ss (closed s row)
-closed_all-append [] s row = refl
-closed_all-append (t ∷ ss) s row = ap (closed t) (closed_all-append ss s row)
+pub row_for_root-append : (ss : List Step) (s : Step) (row : List Pat) → row_for_root (ss ++ s ∷ []) row ≡ row_for_root ss (row_for_parent s row)
+row_for_root-append [] s row = refl
+row_for_root-append (t ∷ ss) s row = ap (row_for_parent t) (row_for_root-append ss s row)
 
 -- a part leads to the root by its parent
 pub part-within : (types : List DataDecl) (root p c : Problem) → IsPart types p c → LeadsTo types root p → IsWithin types root (Whole c)
 part-within types root p c part sound = record {
   ready = part.live;
   sound = λ row r.
-      let way : closed_all c.steps row ≡ closed_all p.steps (closed part.step row) = ap (λ ss. closed_all ss row) part.steps ∙ closed_all-append p.steps part.step row in
-      subst (FoundIn types root) (sym way) (sound (closed part.step row) (part.sound row r));
+      let way : row_for_root c.steps row ≡ row_for_root p.steps (row_for_parent part.step row) = ap (λ ss. row_for_root ss row) part.steps ∙ row_for_root-append p.steps part.step row in
+      subst (FoundIn types root) (sym way) (sound (row_for_parent part.step row) (part.sound row r));
 }
 
 -- Where no column is left --------------------------------------------------------------------------
@@ -127,7 +127,7 @@ module _ (types : List DataDecl) (root : Problem) where
 pub working-start : (types : List DataDecl) (root : Problem) (ls : List Left) → AreTypesIn types root.tys → root.steps ≡ [] → ls ≡ Whole root ∷ [] → IsWorking types root ls
 working-start types root ls live steps e = subst (IsWorking types root) (sym e) (record {
   none = λ all. all.0;
-  within = (record { ready = live; sound = λ row r. subst (λ ss. FoundIn types root (closed_all ss row)) (sym steps) r }, tt);
+  within = (record { ready = live; sound = λ row r. subst (λ ss. FoundIn types root (row_for_root ss row)) (sym steps) r }, tt);
 })
 
 pub split-falls : (types : List DataDecl) (ks : List Left) (l : Left) (ls : List Left) → IsSplit types l ls → costs types (ks ++ ls) < costs types (ks ++ l ∷ [])

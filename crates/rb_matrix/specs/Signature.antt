@@ -3,7 +3,7 @@
 -- incomplete one where some value begins with none: a pattern is absent from it then, one that matches only values
 -- that begin with none of the heads. Which of these patterns is given is told here. A plain pattern is one of numbers,
 -- constructors and wildcards. A layer is the outermost node of a value, with its subvalues below it.
-use Rattle.std.specs.Prelude.{◌≡◌, ℕ, ◌<◌, ◌≤◌, List, [], ◌∷◌, length, Bool, true, false, Option, Some, None, slice_get}
+use Rattle.std.specs.Prelude.{◌≡◌, ℕ, ◌<◌, List, [], ◌∷◌, length, Bool, true, false, Option, Some, None, slice_get}
 use Rattle.rb_core.specs.declared.value.Value.{Value, out-Value}
 use Rattle.rb_core.specs.declared.value.Value.TheOpen as V
 use Rattle.rb_core.specs.declared.value.Value.TheOpen.{Value-F}
@@ -35,18 +35,6 @@ IsFirstCon types t hs q =
     (k : ℕ) × (ts : List Ty) × (fields_in (slice_get types t) k ≡ Some ts)
     × (q ≡ Pats.Con 0 (record { ty = t; con = k }) (wilds (length ts)))
     × IsFirstOut (λ c. any_begins hs (V.Con c [])) k
-
--- what is answered of the numbers up to `most`: None where each of them is one of the heads, and else the least
--- number that is none of them, which is one of these
-abbrev pub IsNumberAnswer : List Head → ℕ → Option ℕ → Type 0
-IsNumberAnswer hs most None = (m : ℕ) → m ≤ most → any_begins hs (V.Num m) ≡ true
-IsNumberAnswer hs most (Some n) = (n ≤ most) × IsFirstOut (λ m. any_begins hs (V.Num m)) n
-
--- what is answered of the constructors with numbers below `count`: None where each of them is one of the heads, and
--- else the number of the first constructor that is none of them, which is one of these
-abbrev pub IsConAnswer : List Head → ℕ → Option ℕ → Type 0
-IsConAnswer hs count None = (c : ℕ) → c < count → any_begins hs (V.Con c []) ≡ true
-IsConAnswer hs count (Some k) = (k < count) × IsFirstOut (λ c. any_begins hs (V.Con c [])) k
 
 -- the absent pattern that is given: a wildcard where there is no head, and else the least number or the first
 -- constructor that is none of the heads

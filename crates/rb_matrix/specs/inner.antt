@@ -8,3 +8,4 @@ pub mod OneColumn
 pub mod Open
 pub mod Passed
 pub mod Problems
+pub mod Signature

@@ -18,7 +18,7 @@ use crate::apart::are_apart;
 use crate::indexes::Indexes;
 use crate::passed::Passed;
 use crate::positions::best_paths;
-use crate::probe::{Gap, Outlook, narrowed};
+use crate::probe::{Gap, Outlook, probe_of};
 use crate::problem::Problem;
 use crate::row::{Row, row_of};
 use crate::search::find_in;
@@ -219,7 +219,7 @@ fn has_probe(
     if !gap.is_small(indexes.count_near(before.len(), pat)) {
         return Ok(false);
     }
-    let probe = narrowed(alloc, pat, &gap.pat)?;
+    let probe = probe_of(alloc, pat, &gap.pat)?;
     is_useful(alloc, types, ty, before, indexes, &probe)
 }
 
@@ -302,8 +302,8 @@ fn closed_count(pats: &[Pat]) -> usize
 
 // The outlook on patterns: some of the first ones are searched for what they miss, four times as
 // many each time, up to the first wildcard or variable, or until they miss nothing; the last
-// pattern that they miss is the gap. Where `pats` are few, it has none, since then no pattern costs
-// much.
+// pattern that they miss is the gap. Where `pats` are few, or are patterns of an integer type, it
+// has none, since then no pattern costs much: numbers are looked up in a set.
 fn outlook_of(
     alloc: Global,
     types: &[DataDecl],
@@ -314,7 +314,10 @@ fn outlook_of(
     requires ty { IsTypeIn types.now ty }
     ensures { IfOk result (λ outlook. IsEnd types.now ty pats.now outlook.end) }
 {
-    let most = closed_count(pats);
+    let most = match ty {
+        Ty::Int(_) => 0,
+        Ty::Named(_) => closed_count(pats),
+    };
     let mut gap = None;
     let mut count: usize = FEW;
     while count < most {

@@ -2,7 +2,7 @@
 //! number may be without a key too. Which keys the numbers have is for the caller to say.
 
 ghost use Rattle.std.specs.Prelude.{◌≡◌, ◌∷◌, [], MatchOption, OnOk};
-ghost use Rattle.rb_matrix.specs.inner.Groups.{merged, numbers_with, near, IsGrouped, IsNumberAdded, HasNoNumber};
+ghost use Rattle.rb_matrix.specs.inner.Groups.{merge_of, numbers_with, near, IsGrouped, IsNumberAdded, HasNoNumber};
 
 use rb_core::seq::Seq;
 use std::alloc::{AllocError, Global};
@@ -19,8 +19,8 @@ impl<'a> Merged<'a> {
     /// Takes the first number off, which is the smaller of the first of both lists; None where no
     /// number is left.
     pub fn next(&mut self) -> Option<usize>
-        ensures { MatchOption result (merged self.old.ones.now self.old.others.now ≡ [])
-            (λ n. merged self.old.ones.now self.old.others.now ≡ n ∷ merged self.new.ones.now self.new.others.now) }
+        ensures { MatchOption result (merge_of self.old.ones.now self.old.others.now ≡ [])
+            (λ n. merge_of self.old.ones.now self.old.others.now ≡ n ∷ merge_of self.new.ones.now self.new.others.now) }
     {
         let [one, ones @ ..] = self.ones else {
             let [other, others @ ..] = self.others else {
@@ -98,9 +98,19 @@ impl Groups {
         }
     }
 
+    /// The numbers with this key alone, in the order in which they were added.
+    pub fn alone(&self, key: u64) -> Merged
+        ensures { merge_of result.ones.now result.others.now ≡ numbers_with self.now key }
+    {
+        Merged {
+            ones: self.group(key),
+            others: &[],
+        }
+    }
+
     /// The numbers with this key and those without one, ascending where they were added so.
     pub fn near(&self, key: u64) -> Merged
-        ensures { merged result.ones.now result.others.now ≡ near self.now key }
+        ensures { merge_of result.ones.now result.others.now ≡ near self.now key }
     {
         Merged {
             ones: self.group(key),

@@ -68,7 +68,7 @@ fn numbers_below(alloc: Global, count: usize) -> Result<Seq<usize>, AllocError>
 }
 
 // A copy of numbers, with more behind them.
-fn joined(alloc: Global, numbers: &Seq<usize>, more: &[usize]) -> Result<Seq<usize>, AllocError>
+fn concat(alloc: Global, numbers: &Seq<usize>, more: &[usize]) -> Result<Seq<usize>, AllocError>
     ensures { IfOk result (λ js. js ≡ numbers.now ++ more.now) }
 {
     let mut all = numbers.copy(alloc)?;
@@ -172,6 +172,6 @@ impl Index {
         let Some(key) = key_at(pat, self.path.as_slice()) else {
             return numbers_below(alloc, count);
         };
-        joined(alloc, &self.numbers.keyless, self.numbers.group(key))
+        concat(alloc, &self.numbers.keyless, self.numbers.group(key))
     }
 }

@@ -18,8 +18,8 @@ use crate::heads::key_of_head;
 use crate::matrix::Head;
 use crate::problem::{Branches, Left, Problem, Step};
 use crate::rows::{
-    first_head_in, groups_of, heads_in, into_default, into_specialized, special_copies,
-    special_numbered,
+    first_head_in, groups_of, heads_in, into_default, into_specialized, some_special_is_open,
+    special_copies, special_numbered,
 };
 use crate::signature::absent_pattern;
 use crate::specialization::head_fields;
@@ -96,9 +96,10 @@ fn step_for(ty: Ty, head: Head, fields: usize) -> Step
 
 // The part of a problem for a head: what is left where the first value begins with it. None where
 // there is no such vector, since the head is not of the type, or a wanted row has no specialised
-// row for it. The problem stays, and the rows that have one are copied, but not their patterns. Of
-// the unwanted rows, which are grouped, only those that begin with the head or with none are gone
-// through.
+// row for it, or an unwanted row that begins with it matches all of them. The problem stays, and
+// the rows that have one are copied, but not their patterns. Of the unwanted rows, which are
+// grouped, only those that begin with the head or with none are gone through; the latter, which
+// may be many, only where none of the former matches all.
 fn part_at<'a>(
     alloc: Global,
     types: &[DataDecl],
@@ -120,9 +121,19 @@ fn part_at<'a>(
     if wanted.len() < behind.wanted.len() {
         return Ok(None);
     }
-    let near = groups.near(key_of_head(head));
-    let unwanted = special_numbered(alloc, behind.unwanted.as_slice(), near, head, fields.len())?;
     let tys = types_joined(alloc, fields, &behind.tys)?;
+    let (rows, key) = (behind.unwanted.as_slice(), key_of_head(head));
+    if some_special_is_open(
+        alloc,
+        rows,
+        groups.alone(key),
+        head,
+        fields.len(),
+        tys.len(),
+    )? {
+        return Ok(None);
+    }
+    let unwanted = special_numbered(alloc, rows, groups.near(key), head, fields.len())?;
     let step = step_for(ty, head, fields.len());
     let steps = steps_with(alloc, behind.steps.as_slice(), step)?;
     Ok(Some(Problem {

@@ -80,7 +80,7 @@ pub struct Outlook {
 ///
 /// Want of memory.
 #[cycle(narrowing)]
-pub fn narrowed(alloc: Global, pat: &Pat, gap: &Pat) -> Result<Pat, AllocError>
+pub fn probe_of(alloc: Global, pat: &Pat, gap: &Pat) -> Result<Pat, AllocError>
     ensures { IfOk result (Covers pat.now) }
 {
     match pat {
@@ -92,7 +92,7 @@ pub fn narrowed(alloc: Global, pat: &Pat, gap: &Pat) -> Result<Pat, AllocError>
                 if con.con != known.con {
                     return pat.copy(alloc);
                 }
-                let fields = all_narrowed(alloc, pats.as_slice(), parts.as_slice())?;
+                let fields = probes_of(alloc, pats.as_slice(), parts.as_slice())?;
                 Ok(Pat::Con(*at, *con, fields))
             }
         },
@@ -102,14 +102,14 @@ pub fn narrowed(alloc: Global, pat: &Pat, gap: &Pat) -> Result<Pat, AllocError>
 // The probes of patterns, each by the pattern in its place in `parts`; those that have none there
 // stay as they are.
 #[cycle(narrowing)]
-fn all_narrowed(alloc: Global, pats: &[Pat], parts: &[Pat]) -> Result<Seq<Pat>, AllocError>
+fn probes_of(alloc: Global, pats: &[Pat], parts: &[Pat]) -> Result<Seq<Pat>, AllocError>
     ensures { IfOk result (CoverEach pats.now) }
 {
     let mut probes = Seq::new(alloc);
     for (i, pat) in pats.iter().enumerate() {
         let probe = match parts.get(i) {
             None => pat.copy(alloc)?,
-            Some(part) => narrowed(alloc, pat, part)?,
+            Some(part) => probe_of(alloc, pat, part)?,
         };
         probes.push(probe)?;
     }

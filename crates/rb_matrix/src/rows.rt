@@ -7,7 +7,7 @@ ghost use Rattle.rb_core.specs.declared.value.Value as Values;
 ghost use Rattle.rb_core.specs.declared.value.Value.TheOpen as Layers;
 ghost use Rattle.rb_matrix.specs.Heads.{any_begins, column_begins};
 ghost use Rattle.rb_matrix.specs.FirstHead.{first_head};
-ghost use Rattle.rb_matrix.specs.inner.Groups.{merged, rows_at, AreGrouped};
+ghost use Rattle.rb_matrix.specs.inner.Groups.{merge_of, rows_at, AreGrouped};
 ghost use Rattle.rb_matrix.specs.inner.Open.{any_open};
 ghost use Rattle.rb_matrix.specs.Counts.{rows_head_count};
 ghost use Rattle.rb_matrix.specs.Specialize.{special_row, special, defaults};
@@ -141,7 +141,7 @@ pub fn special_numbered<'a>(
     fields: usize,
 ) -> Result<Seq<Row<'a>>, AllocError>
     ensures { IfOk result (λ r. r ≡ special head fields
-        (rows_at rows.now (merged numbers.entry.ones.now numbers.entry.others.now))) }
+        (rows_at rows.now (merge_of numbers.entry.ones.now numbers.entry.others.now))) }
 {
     let mut kept = Seq::new(alloc);
     while let Some(number) = numbers.next() {
@@ -206,4 +206,26 @@ pub fn some_is_open(rows: &[Row], columns: usize) -> bool
         }
     }
     false
+}
+
+/// Whether one of the specialised rows of the rows in these places, for a head with so many fields,
+/// has so many patterns, all wildcards or variables, so that it matches every vector of so many
+/// values. The rows stay.
+///
+/// # Errors
+///
+/// Want of memory, also for more wildcards in a row than a `usize` counts.
+pub fn some_special_is_open(
+    alloc: Global,
+    rows: &[Row],
+    numbers: Merged,
+    head: Head,
+    fields: usize,
+    columns: usize,
+) -> Result<bool, AllocError>
+    ensures { IfOk result (λ b. b ≡ any_open (special head fields
+        (rows_at rows.now (merge_of numbers.entry.ones.now numbers.entry.others.now))) columns) }
+{
+    let specials = special_numbered(alloc, rows, numbers, head, fields)?;
+    Ok(some_is_open(specials.as_slice(), columns))
 }

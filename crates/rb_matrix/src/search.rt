@@ -9,13 +9,13 @@
 //! search only for one whose probe finds nothing (`probe`). Time grows as in Maranget's algorithm:
 //! exponentially in the number of columns at worst, where rows that look at several columns take
 //! turns. Unwanted rows are grouped by their heads, so a row that begins with a head is gone
-//! through for the part of that head, and one that begins with a wildcard for the part of each; for
-//! the part that is made last, of the problem itself, all rows are gone through once more. A head
-//! is looked up in the set of those of its column. Memory does not grow so: the parts of a problem
-//! are made one after another, each when the one before has no answer, so that of each problem on
-//! the way one part is held. Rows borrow their patterns, and the wildcards for a head's fields are
-//! only counted, so that a row of a part takes a word for each pattern behind these, however deep
-//! the patterns are.
+//! through for the part of that head, and one that begins with a wildcard for the part of each in
+//! which no row that begins with the head matches all; for the part that is made last, of the
+//! problem itself, all rows are gone through once more. A head is looked up in the set of those of
+//! its column. Memory does not grow so: the parts of a problem are made one after another, each
+//! when the one before has no answer, so that of each problem on the way one part is held. Rows
+//! borrow their patterns, and the wildcards for a head's fields are only counted, so that a row of
+//! a part takes a word for each pattern behind these, however deep the patterns are.
 
 ghost use Rattle.std.specs.Prelude.{◌≡◌, List, IfOk, []};
 ghost use Rattle.rb_core.specs.declared.types.DataDecl as DataDecls;

@@ -5,7 +5,8 @@
 
 ghost use Rattle.std.specs.Prelude.{◌≡◌, ◌+◌, ◌^◌, ◌<◌, ◌≤◌, IfOk, IfSome};
 ghost use Rattle.rb_core.specs.declared.types.Ty.TheVariants as Tys;
-ghost use Rattle.rb_matrix.specs.Signature.{IsNumberAnswer, IsConAnswer, IsFirstCon, IsFirstAbsent, IsAbsentAnswer};
+ghost use Rattle.rb_matrix.specs.Signature.{IsFirstCon, IsFirstAbsent, IsAbsentAnswer};
+ghost use Rattle.rb_matrix.specs.inner.Signature.{IsNumberAnswer, IsConAnswer};
 ghost use Rattle.rb_matrix.specs.Search.{AreInhabited, IsTypeIn};
 ghost use Rattle.rb_matrix.specs.Specialize.{wilds};
 

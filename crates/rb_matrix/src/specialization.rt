@@ -49,7 +49,7 @@ fn wilds_before(alloc: Global, count: usize, rest: &[Pat]) -> Result<Seq<Pat>, A
 }
 
 // Copies of the first patterns, and then of the rest.
-fn joined(alloc: Global, first: &[Pat], rest: &[Pat]) -> Result<Seq<Pat>, AllocError>
+fn concat(alloc: Global, first: &[Pat], rest: &[Pat]) -> Result<Seq<Pat>, AllocError>
     ensures { IfOk result (λ r. r ≡ first.now ++ rest.now) }
 {
     let mut row = copy_patterns(alloc, first)?;
@@ -88,7 +88,7 @@ fn special_of_row(
                 Head::Num(_) => Ok(None),
                 Head::Con(d) => {
                     if con.con == d.con && pats.len() == fields {
-                        Ok(Some(joined(alloc, pats.as_slice(), rest)?))
+                        Ok(Some(concat(alloc, pats.as_slice(), rest)?))
                     } else {
                         Ok(None)
                     }

@@ -3,7 +3,7 @@
 
 ghost use Rattle.std.specs.Prelude.{◌≡◌, [], take, drop, IfOk, OnOk};
 ghost use Rattle.std.specs.declared.collections.VecDeque.{VecDeque};
-ghost use Rattle.rb_matrix.specs.inner.Problems.{closed, closed_all};
+ghost use Rattle.rb_matrix.specs.inner.Problems.{row_for_parent, row_for_root};
 
 use crate::problem::Step;
 use rb_core::pattern::Pat;
@@ -30,7 +30,7 @@ fn front_of(alloc: Global, row: &mut VecDeque<Pat>, count: usize) -> Result<Seq<
 // so many patterns from its front, all where it is shorter, become the subpatterns of a
 // constructor.
 fn close(alloc: Global, row: &mut VecDeque<Pat>, step: Step) -> Result<(), AllocError>
-    ensures { OnOk result (row.new.items ≡ closed step row.old.items) }
+    ensures { OnOk result (row.new.items ≡ row_for_parent step row.old.items) }
 {
     match step {
         Step::Front(pat) => row.push_front(pat)?,
@@ -49,7 +49,7 @@ fn close(alloc: Global, row: &mut VecDeque<Pat>, step: Step) -> Result<(), Alloc
 ///
 /// Want of memory.
 pub fn witness(alloc: Global, mut steps: Seq<Step>) -> Result<Seq<Pat>, AllocError>
-    ensures { IfOk result (λ r. r ≡ closed_all steps []) }
+    ensures { IfOk result (λ r. r ≡ row_for_root steps []) }
 {
     let mut row = VecDeque::new(alloc);
     while let Some(step) = steps.pop() {

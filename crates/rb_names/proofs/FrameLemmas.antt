@@ -14,7 +14,7 @@ use Rattle.rb_names.specs.declared.frame.Frame.{Frame}
 use Rattle.rb_names.specs.Tables.{Name, Table, meaning}
 use Rattle.rb_names.specs.Definitions.{numbered_names}
 use Rattle.rb_names.specs.Scopes.{Scope, inside, names_in, with_name, with_names}
-use Rattle.rb_names.specs.inner.Frames.{scope_of, bound, with_binder, with_binders}
+use Rattle.rb_names.specs.inner.Frames.{scope_of, with_binder_unless, with_binder, with_binders}
 use Rattle.rb_names.proofs.ListLemmas.{drop-here}
 use Rattle.rb_names.proofs.PatternEquations.{names-Con}
 use Rattle.rb_names.proofs.ScopeLemmas.{option_or-none, lookup-append}
@@ -107,7 +107,7 @@ next-number n names x = omega (arith, length-append names (x ∷ []))
 with_binder-is : (n : ℕ) (names : List Name) (x : Name) → with_binder (frame_of n names) x ≡ frame_of n (with_name names x)
 with_binder-is n names x = by (meaning (numbered_names n names) x) (knows-names n names x)
   where
-    by : (o : Option ℕ) → is_some o ≡ list_any (λ m. bytes_eq m x) names → bound (frame_of n names) x o ≡ frame_of n (with_name names x)
+    by : (o : Option ℕ) → is_some o ≡ list_any (λ m. bytes_eq m x) names → with_binder_unless (frame_of n names) x o ≡ frame_of n (with_name names x)
     by (Some k) h = rw (← h) refl
     by None h = rw (← h) (ap (λ t. frame_with t (suc (n + length names))) (sym (numbered-append n names x))
         ∙ ap (frame_with (numbered_names n (names ++ x ∷ []))) (next-number n names x))

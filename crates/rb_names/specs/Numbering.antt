@@ -110,7 +110,7 @@ pub record Numbered (A : Type 0) : Type 0 where
 abbrev pub Numbering : Type 0 → Type 0
 Numbering A = Scope → ℕ → Resolved (Numbered A)
 
--- that a part is numbered as x without a fault, and next is the number of the next binder behind it
+-- the result of a part that is numbered as x, where `next` is the number of the next binder behind it
 abbrev pub numbered_as : {A : Type 0} → A → ℕ → Resolved (Numbered A)
 numbered_as x next = Ok (record { what = x; next = next })
 

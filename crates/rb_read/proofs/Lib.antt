@@ -23,6 +23,7 @@ mod OpenExamples
 pub mod PatternForms
 pub mod Pointers
 mod Steps
+pub mod Taking
 pub mod TokenForms
 pub mod TreeForms
 pub mod TypeForms

@@ -6,6 +6,7 @@
 ghost use Rattle.std.specs.Prelude.{◌≡◌, ◌-◌, ◌<◌, ◌^◌, length};
 ghost use Rattle.rb_syntax.specs.Tokens.{tokens};
 ghost use Rattle.rb_read.specs.inner.Combining as combining;
+ghost use Rattle.rb_read.specs.inner.Starting as starting;
 ghost use Rattle.rb_read.specs.inner.Tokens as reading;
 ghost use Rattle.rb_read.specs.inner.Gives.{Gives};
 
@@ -35,22 +36,31 @@ pub fn begins_with(symbol: Symbol, placed: &[Placed]) -> bool
     }
 }
 
+// Whether there is a first token, and it is this reserved word.
+fn begins_with_word(word: ReservedWord, placed: &[Placed]) -> bool
+    ensures { result ≡ combining.at_front (λ t. starting.is_word word t) (tokens placed.now) }
+{
+    match placed {
+        [] => false,
+        [first, ..] => match first.token {
+            Token::Reserved(w) => w == word,
+            _ => false,
+        },
+    }
+}
+
 /// Takes this symbol from the front, and gives the tokens behind it.
 ///
 /// # Errors
 ///
 /// `Stuck` where another token stands there, or none.
-#[tactic(auto, unfolding(crate::specs::inner::Combining::passing_token))]
 pub fn expect(symbol: Symbol, placed: &[Placed]) -> Result<&[Placed], Stop>
     ensures { Gives (λ r. (tt, tokens r.now)) result (combining.expect symbol (tokens placed.now)) }
 {
-    match placed {
-        [] => Err(Stop::Stuck(0)),
-        [first, rest @ ..] => match first.token {
-            Token::Symbol(s) if s == symbol => Ok(rest),
-            _ => Err(Stop::Stuck(placed.len())),
-        },
+    if begins_with(symbol, placed) {
+        return Ok(&placed[1..]);
     }
+    Err(Stop::Stuck(placed.len()))
 }
 
 /// Takes this reserved word from the front, and gives the tokens behind it.
@@ -58,17 +68,13 @@ pub fn expect(symbol: Symbol, placed: &[Placed]) -> Result<&[Placed], Stop>
 /// # Errors
 ///
 /// `Stuck` where another token stands there, or none.
-#[tactic(auto, unfolding(crate::specs::inner::Combining::passing_token))]
 pub fn expect_word(word: ReservedWord, placed: &[Placed]) -> Result<&[Placed], Stop>
     ensures { Gives (λ r. (tt, tokens r.now)) result (combining.expect_word word (tokens placed.now)) }
 {
-    match placed {
-        [] => Err(Stop::Stuck(0)),
-        [first, rest @ ..] => match first.token {
-            Token::Reserved(w) if w == word => Ok(rest),
-            _ => Err(Stop::Stuck(placed.len())),
-        },
+    if begins_with_word(word, placed) {
+        return Ok(&placed[1..]);
     }
+    Err(Stop::Stuck(placed.len()))
 }
 
 /// A name that begins with a small letter.

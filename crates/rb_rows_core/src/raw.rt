@@ -2,7 +2,7 @@
 //! the words were worked out by hand; the first block is at 64, the lowest byte of a word first.
 
 ghost use Rattle.std.specs.Prelude.{◌≡◌, ◌≤◌};
-ghost use Rattle.rb_bytes.specs.Memory.{IsAlign, IsSize, IsWidth};
+ghost use Rattle.rb_bytes.specs.Memory.{IsAlign, IsSize, IsWidth, least_region, most_region};
 
 use crate::width::is_width;
 use rb_bytes::checked::CheckedMemory;
@@ -34,7 +34,7 @@ impl Model for Both {
 impl Both {
     // Two empty memories, whose regions end at the limit.
     fn new(alloc: Global, limit: u64) -> Result<Both, AllocError>
-        requires { (64 ≤ limit) × (limit ≤ 16777216) }
+        requires { (least_region ≤ limit) × (limit ≤ most_region) }
     {
         Ok(Both {
             checked: CheckedMemory::new(alloc, limit)?,
@@ -75,7 +75,7 @@ impl Both {
     }
 
     // What each says to a call.
-    fn told(&mut self, rt: &impl Abort, call: Call) -> (u64, u64) {
+    fn answers(&mut self, rt: &impl Abort, call: Call) -> (u64, u64) {
         match call {
             Call::Place(size, power) => {
                 assert!(rt; 1 <= size && size <= 512 && power <= 6);
@@ -193,7 +193,7 @@ const CALLS: &[(Call, u64)] = &[
 fn raw_and_checked_memory_answer_alike(rt: HostRuntime) {
     let mut both = Both::new(rt.alloc(), 320).expect(&rt, "ample memory");
     for &(call, want) in CALLS {
-        assert!(rt; both.told(&rt, call) == (want, want), "{call:?}");
+        assert!(rt; both.answers(&rt, call) == (want, want), "{call:?}");
     }
     assert!(rt; both.ends() == ((320, 320, 9), (320, 320, 9)));
 }

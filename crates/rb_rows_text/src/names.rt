@@ -80,7 +80,7 @@ fn outcome(alloc: Global, text: &[u8]) -> Result<Found, Fail> {
 }
 
 // A row without its mark, and the answer that the mark gives.
-fn unmarked(alloc: Global, row: &str) -> Result<(Vec<u8>, Found), AllocError> {
+fn split_at_mark(alloc: Global, row: &str) -> Result<(Vec<u8>, Found), AllocError> {
     let mut text = Vec::new(alloc);
     let mut wanted = Found::NoMain;
     for byte in row.as_bytes() {
@@ -95,7 +95,7 @@ fn unmarked(alloc: Global, row: &str) -> Result<(Vec<u8>, Found), AllocError> {
 
 // Whether a row without its mark has the answer that its mark gives.
 fn is_due(alloc: Global, row: &str) -> Result<bool, Fail> {
-    let (text, wanted) = unmarked(alloc, row)?;
+    let (text, wanted) = split_at_mark(alloc, row)?;
     Ok(outcome(alloc, text.as_slice())? == wanted)
 }
 

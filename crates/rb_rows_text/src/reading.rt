@@ -90,7 +90,7 @@ pub fn repeated_part(
 }
 
 // A row without its mark, and the answer that the mark gives.
-fn unmarked(alloc: Global, row: &[u8]) -> Result<(Vec<u8>, Found), AllocError> {
+fn split_at_mark(alloc: Global, row: &[u8]) -> Result<(Vec<u8>, Found), AllocError> {
     let mut text = Vec::new(alloc);
     let mut wanted = Found::File;
     for byte in row {
@@ -109,7 +109,7 @@ fn unmarked(alloc: Global, row: &[u8]) -> Result<(Vec<u8>, Found), AllocError> {
 ///
 /// Want of memory; another answer ends the test.
 pub fn expect(rt: &impl Abort, alloc: Global, row: &[u8]) -> Result<(), Fail> {
-    let (text, wanted) = unmarked(alloc, row)?;
+    let (text, wanted) = split_at_mark(alloc, row)?;
     let found = outcome(alloc, text.as_slice())?;
     assert!(rt; found == wanted, "{row:?}");
     Ok(())

@@ -62,7 +62,7 @@ pub fn outcome(
 }
 
 // A row without its mark, and the answer that the mark gives.
-fn unmarked(alloc: Global, row: &[u8]) -> Result<(Vec<u8>, Found), AllocError> {
+fn split_at_mark(alloc: Global, row: &[u8]) -> Result<(Vec<u8>, Found), AllocError> {
     let mut text = Vec::new(alloc);
     let mut wanted = Found::Value;
     for byte in row {
@@ -77,7 +77,7 @@ fn unmarked(alloc: Global, row: &[u8]) -> Result<(Vec<u8>, Found), AllocError> {
 
 // Whether a row without its mark has the answer that its mark gives.
 fn is_due(alloc: Global, ty: Ty, row: &[u8]) -> Result<bool, AllocError> {
-    let (text, wanted) = unmarked(alloc, row)?;
+    let (text, wanted) = split_at_mark(alloc, row)?;
     Ok(outcome(alloc, ty, text.as_slice(), 1000, text.as_slice())? == wanted)
 }
 

@@ -10,7 +10,7 @@ use Rattle.rb_target.specs.Text.{line_word_text, key_text, key_of, spaced_text, 
 use Rattle.rb_target.specs.Validity.{IsLower}
 use Rattle.rb_target.proofs.SpelledForms.{IsFit, AreFit, IsFitFun}
 use Rattle.rb_target.specs.inner.Fields.{number_of_word, is_open, word_in, key_of_word, next_field, may_end, first_line, after_word, instruction_of}
-use Rattle.rb_target.specs.inner.Reading.{named, line_next, end_move, start_move, word_move, count_move, step}
+use Rattle.rb_target.specs.inner.Reading.{function_of_name, line_next, end_move, start_move, word_move, count_move, step}
 use Rattle.rb_target.specs.declared.instr.Instr.{Instr}
 use Rattle.rb_target.specs.declared.word.LineWord.{LineWord}
 use Rattle.rb_target.specs.declared.word.LineWord.TheVariants.{Number}
@@ -223,7 +223,7 @@ outside_leaves w g =
 
 naming_leaves : (w : List ℕ) (g : ℕ) → IsNamed Naming w → Leaves (codes "fun " ++ (w ++ g ∷ [])) (step Naming w g)
 naming_leaves w g h =
-    if_leaves (codes "fun " ++ (w ++ g ∷ [])) ((g == 32) && nat_lt 0 (length w)) (To (Heading (named w) First)) Refused (λ e. (
+    if_leaves (codes "fun " ++ (w ++ g ∷ [])) ((g == 32) && nat_lt 0 (length w)) (To (Heading (function_of_name w) First)) Refused (λ e. (
       ap (λ b. (codes "fun " ++ (w ++ [])) ++ b ∷ []) (sym (eqb-true g 32 (both-left (g == 32) (nat_lt 0 (length w)) e)))
           ∙ append_assoc (codes "fun ") (w ++ []) (g ∷ []) ∙ ap (λ v. codes "fun " ++ (v ++ g ∷ [])) (append-nil w),
       record { fun = record { named = naming_lower w (both-right (g == 32) (nat_lt 0 (length w)) e) h; counts = (zero_small, zero_small, zero_small); body = tt }; empty = refl },

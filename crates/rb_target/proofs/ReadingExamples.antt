@@ -3,7 +3,7 @@ use Rattle.std.proofs.Common.{◌≡◌, ℕ, List, [], ◌∷◌, ◌++◌, cod
 use Rattle.rb_target.specs.inner.Fields.{word_in, is_word_front, fields, behind_field, fields_after, may_end, first_line, after_word, instruction_of}
 use Rattle.rb_target.proofs.StopLemmas.{stops_here, stops_at_end}
 use Rattle.rb_target.specs.Stopping.{StopsAt}
-use Rattle.rb_target.specs.inner.Reading.{Progress, step, goes_on, named}
+use Rattle.rb_target.specs.inner.Reading.{Progress, step, goes_on, function_of_name}
 use Rattle.rb_target.specs.declared.instr.AluOp.TheVariants.{Add}
 use Rattle.rb_target.specs.declared.instr.Instr.TheVariants.{Call, Return}
 use Rattle.rb_target.specs.declared.word.LineWord.TheVariants.{Number, Op, Of}
@@ -41,10 +41,10 @@ of_or_number : word_in OrOf (codes "of") ≡ Some Of
 of_or_number = refl
 
 -- keys begin alike
-shared_front : goes_on (Starting (named (codes "t"))) (codes "co") 111 ≡ true
+shared_front : goes_on (Starting (function_of_name (codes "t"))) (codes "co") 111 ≡ true
 shared_front = refl
 
-no_key : goes_on (Starting (named (codes "t"))) (codes "cop2") 50 ≡ false
+no_key : goes_on (Starting (function_of_name (codes "t"))) (codes "cop2") 50 ≡ false
 no_key = refl
 
 -- a jump wants its target before the line's end
@@ -59,10 +59,10 @@ call_whole = refl
 call_built : instruction_of key.Call (Number 2 ∷ Number 5 ∷ Of ∷ Number 0 ∷ Number 1 ∷ []) ≡ Call 2 (5 ∷ []) (0 ∷ 1 ∷ [])
 call_built = refl
 
-closed : step (Starting (named (codes "t"))) (codes "end") 10 ≡ Closed (named (codes "t"))
+closed : step (Starting (function_of_name (codes "t"))) (codes "end") 10 ≡ Closed (function_of_name (codes "t"))
 closed = refl
 
-no_blank_behind_end : step (Starting (named (codes "t"))) (codes "end") 32 ≡ Refused
+no_blank_behind_end : step (Starting (function_of_name (codes "t"))) (codes "end") 32 ≡ Refused
 no_blank_behind_end = refl
 
 -- whole texts

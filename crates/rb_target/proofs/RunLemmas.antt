@@ -11,7 +11,7 @@ use Rattle.rb_target.specs.Text.{line_word_text, key_text, key_of, line_words, s
 use Rattle.rb_target.specs.Validity.{IsSmall, IsNameByte, IsLower}
 use Rattle.rb_target.proofs.SpelledForms.{AreShort, IsFit, AreFit, IsFitFun, AreFitFuns}
 use Rattle.rb_target.specs.inner.Fields.{number_of_word, is_open, next_field, may_end, first_line, after_word, instruction_of}
-use Rattle.rb_target.specs.inner.Reading.{is_gap, named, line_next, count_move, step, is_some, goes_on, Progress, start, progress_behind, feed, then_feed, run}
+use Rattle.rb_target.specs.inner.Reading.{is_gap, function_of_name, line_next, count_move, step, is_some, goes_on, Progress, start, progress_behind, feed, then_feed, run}
 use Rattle.rb_target.specs.declared.instr.Instr.{Instr}
 use Rattle.rb_target.specs.declared.word.LineWord.{LineWord}
 use Rattle.rb_target.specs.declared.word.LineWord.TheVariants.{Number}
@@ -194,7 +194,7 @@ head_run : (funs : List CodeFun) (f : CodeFun) (rest : List ℕ) → IsFitFun f
     → run (Some (at_spot funs Outside [])) (head_text f ++ rest) ≡ run (Some (at_spot funs (Starting (record f { body = [] })) [])) rest
 head_run funs f rest h =
     let r3 : List ℕ = behind_gap (counts f) rest in
-    let f1 : CodeFun = named f.name in
+    let f1 : CodeFun = function_of_name f.name in
     let f2 : CodeFun = record f1 { params = f.params } in
     let f3 : CodeFun = record f2 { results = f.results } in
     ap (λ r. run (Some (at_spot funs Outside [])) r) (append_assoc (codes "fun ") (line f.name (counts f)) rest ∙ ap (λ r. codes "fun " ++ r) (line_split f.name (counts f) rest))
@@ -210,7 +210,7 @@ head_run funs f rest h =
     ∙ word_run funs (Heading f3 Third) (decimal f.slots) 10 rest (count_steps f3 Third f.slots h.counts.2) refl
     ∙ ap (λ m. run (progress_behind funs m) rest) (count_next f3 Third 10 f.slots h.counts.2)
   where
-    named_next : IsLower f.name → step Naming f.name 32 ≡ To (Heading (named f.name) First)
+    named_next : IsLower f.name → step Naming f.name 32 ≡ To (Heading (function_of_name f.name) First)
     named_next low = rw (lower_some f.name low) refl
 
     count_next : (g : CodeFun) (t : Turn) (b n : ℕ) → n < 2 ^ 64 → step (Heading g t) (decimal n) b ≡ count_move g t b (Some n)

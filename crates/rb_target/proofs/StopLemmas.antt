@@ -19,7 +19,7 @@ use Rattle.rb_target.specs.Spelled.{AreSpelled}
 use Rattle.rb_target.specs.Stopping.{IsCode, StopsAt, IsTextOf}
 use Rattle.rb_target.proofs.SpelledForms.{IsFitFun, AreFitFuns, funs_fit, fit_funs}
 use Rattle.rb_target.specs.inner.Fields.{number_of_word, is_open, is_word_front, keys, next_field, after_word}
-use Rattle.rb_target.specs.inner.Reading.{is_gap, named, line_next, word_move, count_move, step, is_some, goes_on, Progress, start, progress_behind, feed, run, is_outside, is_done}
+use Rattle.rb_target.specs.inner.Reading.{is_gap, function_of_name, line_next, word_move, count_move, step, is_some, goes_on, Progress, start, progress_behind, feed, run, is_outside, is_done}
 use Rattle.rb_target.specs.declared.word.LineWord.{LineWord}
 use Rattle.rb_target.specs.declared.word.LineWord.TheVariants.{Number}
 use Rattle.rb_target.specs.declared.code.CodeFun.{CodeFun}
@@ -102,7 +102,7 @@ heading_goes f Third h = head_goes f (Number f.params ∷ Number f.results ∷ [
 
 -- the function `t` without counts and instructions
 abbrev plain_fun : CodeFun
-plain_fun = named (116 ∷ [])
+plain_fun = function_of_name (116 ∷ [])
 
 plain_spelled : IsFitFun plain_fun
 plain_spelled = record { named = ((omega arith, omega arith), All-nil IsNameByte); counts = (zero_small, zero_small, zero_small); body = tt }

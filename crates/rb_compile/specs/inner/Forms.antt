@@ -29,14 +29,14 @@ use Rattle.rb_compile.specs.inner.Shown.{shown_of}
 
 -- what an expression of function f means where its variables have the values env, `calls` gives what calls of
 -- functions do, and so many calls are left
-abbrev pub meant : Plan → ℕ → Expr → Option Ty → List Local → Calls → ℕ → List Binding → Outcome
-meant plan f e wanted locals calls left env = meaning_of plan.program calls f e wanted (scope_of locals) left env
+abbrev pub meaning_within : Plan → ℕ → Expr → Option Ty → List Local → Calls → ℕ → List Binding → Outcome
+meaning_within plan f e wanted locals calls left env = meaning_of plan.program calls f e wanted (scope_of locals) left env
 
 -- where the expression is ready, the appended code leaves its value, of its type t, in the slots of `held`
 abbrev pub EmitsExpr : Plan → ℕ → Expr → Option Ty → List Local → Sheet → Sheet → Held → Type 0
 EmitsExpr plan f e wanted locals old new held =
     (t : Ty) → ExprIsReady plan f e wanted locals old.slots t
-    → (held.ty ≡ t) × Emits plan (meant plan f e wanted locals) locals old new t held.slots
+    → (held.ty ≡ t) × Emits plan (meaning_within plan f e wanted locals) locals old new t held.slots
 
 -- where the expressions es are ready at the types ts, the appended code leaves the values of the first n of them in
 -- the slots of hs, each at its wanted type; these values are as the expressions show

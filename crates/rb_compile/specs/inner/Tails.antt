@@ -31,7 +31,7 @@ use Rattle.rb_fragment.specs.Plan.{Plan, Rep, words_needed}
 use Rattle.rb_fragment.specs.Slots.{AllFrom}
 use Rattle.rb_match.specs.Bounding.{binding_bound}
 use Rattle.rb_compile.specs.inner.Ready.{ExprIsReady}
-use Rattle.rb_compile.specs.inner.Forms.{meant}
+use Rattle.rb_compile.specs.inner.Forms.{meaning_within}
 use Rattle.rb_compile.specs.inner.Arms.{ClauseIsReady, GroundIsReady, clause_scope}
 
 -- What such code is
@@ -88,7 +88,7 @@ pub record EmitsTail (plan : Plan) (ev : Calls → ℕ → List Binding → Outc
 abbrev pub EmitsReturn : Plan → ℕ → Expr → Ty → List Local → Sheet → Sheet → Type 0
 EmitsReturn plan f e t locals old new =
     ExprIsReady plan f e (Some t) locals old.slots t
-    → EmitsTail plan (meant plan f e (Some t) locals) locals old new t
+    → EmitsTail plan (meaning_within plan f e (Some t) locals) locals old new t
 
 -- Arms
 

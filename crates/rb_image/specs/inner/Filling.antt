@@ -1,7 +1,7 @@
 -- A memory into which blocks are put one after the other. A memory has blocks, a next address at which the next
 -- block is placed, and a limit above which none ends; at each address a byte is written or none.
 use Rattle.std.specs.Prelude.{◌≡◌, ℕ, ◌+◌, ◌<◌, ◌≤◌, max, List, [], ◌∷◌, ◌++◌, length, Some, slice_get}
-use Rattle.rb_bytes.specs.Memory.{Memory, IsGood, byte_at}
+use Rattle.rb_bytes.specs.Memory.{Memory, IsGood, byte_at, least_region}
 use Rattle.rb_image_text.specs.Places.{end_before}
 use Rattle.rb_image_text.specs.declared.image.ImageBlock.{ImageBlock}
 use Rattle.rb_image.specs.Memories.{BlockStands}
@@ -27,5 +27,5 @@ EndBy end blocks = (k : ℕ) (b : ImageBlock) → slice_get blocks k ≡ Some b 
 pub record StandBefore (blocks : List ImageBlock) (count : ℕ) (m : Memory) : Type 0 where
   pub good : IsGood m
   pub room : EndBy m.limit blocks
-  pub next : m.next ≤ max 64 (end_before blocks count)
+  pub next : m.next ≤ max least_region (end_before blocks count)
   pub stand : (k : ℕ) (b : ImageBlock) → k < count → slice_get blocks k ≡ Some b → BlockStands m b

@@ -14,9 +14,9 @@ use Rattle.rb_machine.specs.declared.state.Stop.TheVariants.{At, Ends}
 
 -- what is still to come of a call of the body that stopped so: the instruction at which it stopped and what follows,
 -- or just the end of the run
-abbrev pub stop_to : List Instr → Callee → Stop → List ℕ → World → CallEnd
-stop_to body callee (At pc l) slots w = from body callee pc slots w
-stop_to body callee (Ends e) slots w = over e w
+abbrev pub end_from_stop : List Instr → Callee → Stop → List ℕ → World → CallEnd
+end_from_stop body callee (At pc l) slots w = from body callee pc slots w
+end_from_stop body callee (Ends e) slots w = over e w
 
 -- where a stretch from instruction `start` may stop after `count` instructions, with so many switches more: at a call
 -- or a return that stands at least so many instructions on, or at an end that is no return

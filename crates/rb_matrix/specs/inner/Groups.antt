@@ -19,9 +19,9 @@ insertion n rest [] = n ∷ rest []
 insertion n rest (m ∷ ms) = if nat_lt n m then n ∷ rest (m ∷ ms) else m ∷ insertion n rest ms
 
 -- two ascending lists of numbers as one that ascends
-abbrev pub merged : List ℕ → List ℕ → List ℕ
-merged [] ms = ms
-merged (n ∷ ns) ms = insertion n (merged ns) ms
+abbrev pub merge_of : List ℕ → List ℕ → List ℕ
+merge_of [] ms = ms
+merge_of (n ∷ ns) ms = insertion n (merge_of ns) ms
 
 -- the numbers with key k; none where no number has it
 abbrev pub numbers_with : Groups → ℕ → List ℕ
@@ -29,7 +29,7 @@ numbers_with x k = unwrap_or (tree.get nat_cmp x.by_key k) []
 
 -- the numbers with key k and those without a key, as one list
 abbrev pub near : Groups → ℕ → List ℕ
-near x k = merged (numbers_with x k) x.keyless
+near x k = merge_of (numbers_with x k) x.keyless
 
 -- no number is in the groups
 abbrev pub HasNoNumber : Groups → Type 0

@@ -17,7 +17,7 @@ use Rattle.rb_matrix.specs.Heads.{any_begins, some_head}
 use Rattle.rb_matrix.specs.FirstHead.{first_head}
 use Rattle.rb_matrix.specs.Search.{AreTypesIn, useful_by}
 use Rattle.rb_matrix.specs.inner.Groups.{AreGrouped}
-use Rattle.rb_matrix.specs.inner.Problems.{closed_all, with_column, FoundIn, NoneIn, cost, part_cost}
+use Rattle.rb_matrix.specs.inner.Problems.{row_for_root, with_column, FoundIn, NoneIn, cost, part_cost}
 
 -- the problem whose branches these are: it stands in them without its first column's type
 abbrev pub parent : Branches → Problem
@@ -77,7 +77,7 @@ costs types (l ∷ ls) = left_cost types l + costs types ls
 
 -- each row that answers problem p becomes, by p's steps, one that answers the root
 abbrev pub LeadsTo : List DataDecl → Problem → Problem → Type 0
-LeadsTo types root p = (row : List Pat) → FoundIn types p row → FoundIn types root (closed_all p.steps row)
+LeadsTo types root p = (row : List Pat) → FoundIn types p row → FoundIn types root (row_for_root p.steps row)
 
 -- something left is of a search that began with the root: its columns are types, and rows for it become rows for
 -- the root

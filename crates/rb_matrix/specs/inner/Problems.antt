@@ -24,9 +24,9 @@ use Rattle.rb_matrix.specs.Search.{AreTypesIn, useful_by, RowIsFound, AreUseless
 
 -- the row for the parent that a step makes of a row for a part: with a pattern before it, or with the first n
 -- patterns as the subpatterns of a constructor; where the row is shorter, all that there are
-abbrev pub closed : Step → List Pat → List Pat
-closed (Front p) row = p ∷ row
-closed (Fold c n) row = Pats.Con 0 c (take n row) ∷ drop n row
+abbrev pub row_for_parent : Step → List Pat → List Pat
+row_for_parent (Front p) row = p ∷ row
+row_for_parent (Fold c n) row = Pats.Con 0 c (take n row) ∷ drop n row
 
 -- the step to a parent whose first column is of this type, from the part of a head with n fields: a number stands
 -- before the row, and a constructor takes n patterns. The constructor is given as one of the data type, whatever type
@@ -37,9 +37,9 @@ step_of (Named t) (H.Con c) n = Fold (record { ty = t; con = c.con }) n
 step_of (Int bits) (H.Con c) n = Fold c n
 
 -- the row for the root that steps make of a row, the last step first; without a step the row itself
-abbrev pub closed_all : List Step → List Pat → List Pat
-closed_all [] row = row
-closed_all (s ∷ ss) row = closed s (closed_all ss row)
+abbrev pub row_for_root : List Step → List Pat → List Pat
+row_for_root [] row = row
+row_for_root (s ∷ ss) row = row_for_parent s (row_for_root ss row)
 
 -- Problems and their parts ------------------------------------------------------------------------
 
@@ -103,7 +103,7 @@ pub record IsPart (types : List DataDecl) (p c : Problem) : Type 0 where
   pub live : AreTypesIn types c.tys
   pub step : Step
   pub steps : c.steps ≡ p.steps ++ step ∷ []
-  pub sound : (row : List Pat) → FoundIn types c row → FoundIn types p (closed step row)
+  pub sound : (row : List Pat) → FoundIn types c row → FoundIn types p (row_for_parent step row)
   pub cheap : cost types c ≤ part_cost types p
 
 -- what is left of p where its vectors, whose first column is of type ty and the others of ts, begin with the head:

@@ -14,13 +14,13 @@ scope_of = flat_map reverse
 
 -- a frame after a name is bound, given the name's number in it so far: it stays where there is one, and else the name
 -- gets the next number
-abbrev pub bound : Frame → Name → Option ℕ → Frame
-bound f name (Some before) = f
-bound f name None = record { binders = f.binders ++ (name, f.next) ∷ []; next = suc f.next }
+abbrev pub with_binder_unless : Frame → Name → Option ℕ → Frame
+with_binder_unless f name (Some before) = f
+with_binder_unless f name None = record { binders = f.binders ++ (name, f.next) ∷ []; next = suc f.next }
 
 -- a frame after one more name is bound: it stays where the name is bound in it; else the name gets the next number
 abbrev pub with_binder : Frame → Name → Frame
-with_binder f name = bound f name (meaning f.binders name)
+with_binder f name = with_binder_unless f name (meaning f.binders name)
 
 -- a frame after these names are bound, one after the other, each that is new in it with the next number
 abbrev pub with_binders : Frame → List Name → Frame

@@ -25,8 +25,8 @@ abbrev pub is_gap : ℕ → Bool
 is_gap b = (b == 32) || (b == 10)
 
 -- the function of a name of which no count and no instruction is read
-abbrev pub named : List ℕ → CodeFun
-named name = record { name = name; params = 0; results = 0; slots = 0; body = [] }
+abbrev pub function_of_name : List ℕ → CodeFun
+function_of_name name = record { name = name; params = 0; results = 0; slots = 0; body = [] }
 
 -- a word and the byte behind it -----------------------------------------------------------------
 
@@ -65,7 +65,7 @@ count_move f Third g (Some n) = if g == 10 then To (Starting (record f { slots =
 -- the move of a word w and the gap g behind it, from a spot; an empty word is refused everywhere
 abbrev pub step : Spot → List ℕ → ℕ → Move
 step Outside w g = if (g == 32) && pointwise nat_eq w (codes "fun") then To Naming else Refused
-step Naming w g = if (g == 32) && nat_lt 0 (length w) then To (Heading (named w) First) else Refused
+step Naming w g = if (g == 32) && nat_lt 0 (length w) then To (Heading (function_of_name w) First) else Refused
 step (Heading f t) w g = count_move f t g (number_of_word w)
 step (Starting f) w g = if pointwise nat_eq w (codes "end") then end_move f g else start_move f g (key_of_word w)
 step (Within f l) w g = word_move f l g (word_in (next_field l.rest) w)

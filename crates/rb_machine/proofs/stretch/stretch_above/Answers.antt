@@ -1,7 +1,7 @@
 use Rattle.std.proofs.Common.{ℕ, ◌+◌, ◌-◌, ◌∙◌, List, length, sym, ap, subst}
 use Rattle.std.proofs.lemmas.List.{take_at, drop_at}
 use Rattle.rb_target.specs.Meaning.{from}
-use Rattle.rb_machine.specs.inner.Stretches.{stop_to, IsQuietFrom}
+use Rattle.rb_machine.specs.inner.Stretches.{end_from_stop, IsQuietFrom}
 use Rattle.rb_machine.proofs.stretch.stretch_above.Goals as goal
 
 pub stretch-requires-clause-slots : goal.stretch-requires-clause-slots
@@ -25,4 +25,4 @@ returns-clause-same g c callee left taken =
     let above = drop_at cut.result.0.now c.stretch.new.slots c.args.base cut.ensures.front_len in
     ap (λ xs. from body callee c.args.start xs (record { left = left; memory = memory c.args.memory.now; switches = c.args.switches.now; taken = taken })) (sym cut.ensures.back)
     ∙ c.stretch.ensures.same callee left taken
-    ∙ ap (λ xs. stop_to body callee c.stretch.result xs (record { left = left; memory = memory c.stretch.new.memory; switches = c.stretch.new.switches; taken = taken + count })) (sym above)
+    ∙ ap (λ xs. end_from_stop body callee c.stretch.result xs (record { left = left; memory = memory c.stretch.new.memory; switches = c.stretch.new.switches; taken = taken + count })) (sym above)

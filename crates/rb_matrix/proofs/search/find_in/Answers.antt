@@ -1,6 +1,6 @@
 use Rattle.std.proofs.Common.{[], ◌∷◌, ◌++◌, sym, ap, ◌∙◌, subst, arith}
 use Rattle.rb_matrix.specs.declared.problem.Left.TheVariants.{Whole}
-use Rattle.rb_matrix.specs.inner.Problems.{closed_all, FoundIn}
+use Rattle.rb_matrix.specs.inner.Problems.{row_for_root, FoundIn}
 use Rattle.rb_matrix.specs.inner.Left.{IsOutcome, IsWorking, costs}
 use Rattle.rb_matrix.proofs.Working.{within-last, working-split, working-start, split-falls}
 use Rattle.rb_matrix.proofs.search.find_in.Goals as goal
@@ -19,7 +19,7 @@ returns-in-Solved c =
     let root = c.args.root in
     let working = subst (IsWorking c.args.types.now root) c.in-Some.ensures.items c.loop-left.invariant in
     let solved = subst (IsOutcome c.args.types.now c.in-Some.left) c.in-Solved.is c.in_ok-outcome.ensures in
-    subst (FoundIn c.args.types.now root) (sym (c.in_ok-row-in-Solved.ensures ∙ ap (λ ss. closed_all ss []) solved.1))
+    subst (FoundIn c.args.types.now root) (sym (c.in_ok-row-in-Solved.ensures ∙ ap (λ ss. row_for_root ss []) solved.1))
     ((within-last c.args.types.now root c.pop.new.self.items c.in-Some.left working).sound [] solved.0)
 
 pub loop-left-smaller : goal.loop-left-smaller

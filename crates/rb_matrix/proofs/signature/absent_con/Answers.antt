@@ -3,7 +3,7 @@ use Rattle.std.specs.Prelude.{slice_get}
 use Rattle.std.proofs.lemmas.Option.{slice_get_past, slice_get_read}
 use Rattle.rb_core.specs.declared.pattern.Pat as Pats
 use Rattle.rb_core.specs.Values.{fields_in, fields_of_con}
-use Rattle.rb_matrix.specs.Signature.{IsConAnswer}
+use Rattle.rb_matrix.specs.inner.Signature.{IsConAnswer}
 use Rattle.rb_matrix.specs.Specialize.{wilds}
 use Rattle.rb_matrix.proofs.Inhabited.{con-count}
 use Rattle.rb_matrix.proofs.Absent.{no-type, cons-all, con-absent, fields-live}

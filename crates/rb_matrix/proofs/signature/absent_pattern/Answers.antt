@@ -2,7 +2,8 @@ use Rattle.std.proofs.Common.{◌≡◌, ◌∙◌, ◌==◌, true, refl, sym, a
 use Rattle.std.proofs.lemmas.Bool.{eqb-true, false≢true}
 use Rattle.rb_core.specs.declared.pattern.Pat as Pats
 use Rattle.rb_core.specs.Values.{is_of_type}
-use Rattle.rb_matrix.specs.Signature.{IsNumberAnswer, IsFirstAbsent, IsAbsent}
+use Rattle.rb_matrix.specs.Signature.{IsFirstAbsent, IsAbsent}
+use Rattle.rb_matrix.specs.inner.Signature.{IsNumberAnswer}
 use Rattle.rb_matrix.specs.Heads.{any_begins}
 use Rattle.rb_matrix.specs.Search.{IsTypeIn}
 use Rattle.rb_matrix.proofs.FirstAbsent.{none-first, number-first}

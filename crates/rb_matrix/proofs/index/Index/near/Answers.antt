@@ -12,6 +12,6 @@ returns-in_default c =
 pub returns : goal.returns
 returns c =
     let x = c.args.self.now in let p = c.args.pat.now in let n = c.args.count in let k = c.in-Some.key in
-    IfOk-weaker c.joined.result (λ js. js ≡ x.numbers.keyless ++ c.group.result.now) (AreNear p n x)
+    IfOk-weaker c.concat.result (λ js. js ≡ x.numbers.keyless ++ c.group.result.now) (AreNear p n x)
     (λ js is. near-group p n x js k (subst (λ path. HasKey p path k) c.as_slice.ensures c.in-Some.ensures) (is ∙ ap (λ l. x.numbers.keyless ++ l) c.group.ensures))
-    c.joined.ensures
+    c.concat.ensures

@@ -1,5 +1,5 @@
 use Rattle.std.proofs.Common.{◌≡◌, ◌++◌, take}
-use Rattle.rb_matrix.proofs.index.joined.Given as goal
+use Rattle.rb_matrix.proofs.index.concat.Given as goal
 
 abbrev pub invariant-loop-number : goal.invariant-loop-number
 invariant-loop-number l = l.all ≡ l.numbers ++ take l.number-index l.more
