@@ -319,6 +319,12 @@ def crowded(n):
     return f"type S={'|'.join(cons)};\ntype P=P(S,u64);\nfun f(p: P): u8 = match p {{{comma(clauses)}}};\n" + MAIN
 
 
+def crowded_numbers(bits):
+    """A match on two numbers: a clause with 0 beside each of the 4,096 of `u12`, and one for each of the other type alone."""
+    clauses = [f"P({k},0)=>0" for k in range(4096)] + [f"P(_,{k})=>0" for k in range(1 << bits)]
+    return f"type P=P(u12,u{bits});\nfun f(p: P): u8 = match p {{{comma(clauses)}}};\n" + MAIN
+
+
 def balanced(levels, leaf):
     return leaf if levels == 0 else f"F({balanced(levels - 1, leaf)},{balanced(levels - 1, leaf)})"
 
@@ -574,6 +580,8 @@ def sought_image(n):
 
 # What is made, and how large ----------------------------------------------------------------------------------------------
 
+# Of these a size is an exponent of two, so that one less is half as much.
+BY_POWERS = (crowded_numbers, grown, halved)
 AGREEING = [
     (words, 200), (blocks, 140), (leaves, 24), (many, 1000), (pairs, 64), (roots, 26), (nested, 34), (below, 56), (others, 64), (niche, 54),
     (niches, 70), (turns, 66), (bits, 24), (chain, 1000), (flat, 1000), (steps, 60), (fields, 256),
@@ -581,7 +589,7 @@ AGREEING = [
 REFUSED = [(closed, 300), (twice, 64), (ring, 900)]
 MATCHES = [
     (literals, 16), (short_clauses, 28), (wrapped, 20), (crossed, 18), (wilds, 52), (columns, 32), (nested_columns, 1024), (heads, 43), (unfolded, 4),
-    (crowded, 15), (all_numbers, 16), (pattern, 32), (carried, 96), (binders, 28), (used, 26), (unknown, 36), (short_names, 65),
+    (crowded, 15), (crowded_numbers, 13), (all_numbers, 16), (pattern, 32), (carried, 96), (binders, 28), (used, 26), (unknown, 36), (short_names, 65),
 ]
 COMPILED = [(coloured, 8)]
 PLAIN = [(functions, 10000), (levels, 280), (text, 2000)]
