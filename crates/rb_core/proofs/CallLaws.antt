@@ -127,10 +127,8 @@ module _ (p : Program) where
   pub call-runs : (g n : ℕ) (vs : List Value) → call_of p g (suc n) vs ≡ body_outcome p (call_of p) (slice_get p.funs g) g n vs
   call-runs g n vs = body_alike (slice_get p.funs g) (call_within p n) (call_of p) g n vs (call-bounded p n) (λ h m ws lt. enough n m h m ws lt (le_refl m))
 
--- the same, at a bound on the nesting
-pub call_within-runs : (p : Program) (k g left : ℕ) (vs : List Value) → 0 < left → left ≤ k
-    → call_within p k g left vs ≡ body_outcome p (call_within p (k - 1)) (slice_get p.funs g) g (left - 1) vs
-call_within-runs p k g zero vs lt le = absurd (omega arith)
-call_within-runs p zero g (suc left) vs lt le = absurd (omega arith)
-call_within-runs p (suc k) g (suc left) vs lt le =
-    let e : suc k - 1 ≡ k = omega arith in let e' : suc left - 1 ≡ left = omega arith in rw (e, e') refl
+-- the same, by the calls that are left
+pub call_of-runs : (p : Program) (g left : ℕ) (vs : List Value) → 0 < left
+    → call_of p g left vs ≡ body_outcome p (call_of p) (slice_get p.funs g) g (left - 1) vs
+call_of-runs p g zero vs lt = absurd (omega arith)
+call_of-runs p g (suc left) vs lt = let e : suc left - 1 ≡ left = omega arith in rw e (call-runs p g left vs)

@@ -7,6 +7,7 @@ use Rattle.rb_core.specs.declared.types.DataDecl.{DataDecl}
 use Rattle.rb_core.specs.declared.typing.Binder.{Binder}
 use Rattle.rb_core.specs.declared.binding.Binding.{Binding}
 use Rattle.rb_core.specs.declared.pattern.Pat.{Pat}
+use Rattle.rb_core.specs.declared.outcome.Event.{Event}
 use Rattle.rb_core.specs.declared.outcome.SourceEnd.{SourceEnd}
 use Rattle.rb_core.specs.declared.outcome.SourceEnd.TheVariants.{Done, Spent}
 use Rattle.rb_core.specs.declared.outcome.PartsEnd.{PartsEnd}
@@ -19,8 +20,8 @@ use Rattle.rb_core.specs.declared.expression.Expr.{Expr}
 use Rattle.rb_core.specs.Matching.{matches_of, bindings}
 use Rattle.rb_core.specs.Typing.{binder_of}
 use Rattle.rb_core.specs.Inference.{binders}
-use Rattle.rb_core.specs.Meaning.{Meaning, Calls, at_end, then_do, PartsOutcome, at_part, first_wanted, later_wanted, all_of, at_parts_end, then_with, first_of, meaning_of, clause_meaning, argument_bindings, body_outcome, call_within}
-use Rattle.rb_core.specs.inner.Evaluation.{IsWithinCalls, IsPartsWithinCalls}
+use Rattle.rb_core.specs.Meaning.{Meaning, Calls, number_of, at_end, then_do, PartsOutcome, at_part, first_wanted, later_wanted, all_of, at_parts_end, then_with, first_of, meaning_of, clause_meaning, argument_bindings, body_outcome, call_within, call_of}
+use Rattle.rb_core.specs.inner.Evaluation.{IsWithinCalls, IsPartsWithinCalls, GivesOutcome, GivesParts, done_number}
 use Rattle.rb_core.proofs.ExpressionLaws.{Each, EachBody, induction}
 use Rattle.rb_core.proofs.MeaningForms.{clause_meaning-is, meaning-Num, meaning-Var, meaning-Call, meaning-Build, meaning-Binary, meaning-To, meaning-Let, meaning-Match}
 
@@ -109,3 +110,26 @@ module _ (p : Program) where
   call-bounded zero g (suc n) vs = tt
   call-bounded (suc k) g (suc n) vs =
       let le : n ≤ suc n = omega arith in within-le n (suc n) _ le (bounded_body (slice_get p.funs g) (call_within p k) g n vs (call-bounded k))
+
+-- an end that a meaning gives leaves no more calls than it began with
+module _ (p : Program) (f : ℕ) (scope : List Binder) (left : ℕ) (env : List Binding) (old new : List Event) where
+  of_call : (g n : ℕ) (vs : List Value) → IsWithinCalls n (call_of p g n vs).end
+  of_call g n vs = call-bounded p n g n vs
+
+  pub fewer-gives : (e : Expr) (wanted : Option Ty) (end : SourceEnd)
+      → GivesOutcome (meaning_of p (call_of p) f e wanted scope left env) old new end → IsWithinCalls left end
+  fewer-gives e wanted end g = subst (IsWithinCalls left) (sym g.same_end) (fewer p (call_of p) of_call f e wanted scope left env)
+
+  all_fewer : (es : List Expr) → Each (λ e. (wanted : Option Ty) (scope : List Binder) (left : ℕ) (env : List Binding) → IsWithinCalls left (meaning_of p (call_of p) f e wanted scope left env).end) es
+  all_fewer [] = tt
+  all_fewer (e ∷ es) = (fewer p (call_of p) of_call f e, all_fewer es)
+
+  pub parts-fewer-gives : (es : List Expr) (ts : List Ty) (end : PartsEnd)
+      → GivesParts (all_of (map (meaning_of p (call_of p) f) es) ts scope [] left env) old new end → IsPartsWithinCalls left end
+  parts-fewer-gives es ts end g = subst (IsPartsWithinCalls left) (sym g.same_end) (parts_fewer p (call_of p) of_call f es (all_fewer es) ts scope [] left env)
+
+pub fewer-done : (n m left : ℕ) (end : SourceEnd) → Some (m, left) ≡ done_number end → IsWithinCalls n end → left ≤ n
+fewer-done n m left (Done v rest) e le =
+    let pair : (m, left) ≡ (number_of v, rest) = cc in
+    let same : left ≡ rest = ap (λ (q : ℕ × ℕ). q.1) pair in rw same le
+fewer-done n m left Spent e le = absurd (cc e)

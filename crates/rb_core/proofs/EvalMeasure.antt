@@ -5,6 +5,7 @@ use Rattle.std.proofs.Common.{get_or}
 use denote.Param.Weighed.{most}
 use Rattle.rb_core.specs.declared.expression.Clause.{Clause, size-Clause}
 use Rattle.std.proofs.Common.{rules}
+use Rattle.std.proofs.Math.Nat.{mul-le-mul_right}
 use Rattle.rb_core.specs.declared.expression.Clause as K
 use Rattle.rb_core.specs.declared.expression.Expr as X
 use Rattle.rb_core.specs.declared.expression.Expr.{size-Expr}
@@ -37,3 +38,7 @@ pub body_in_clauses : (cs : List Clause) (i : ℕ) (c : Clause) → i < length c
 body_in_clauses [] i c lt e = absurd (omega arith)
 body_in_clauses (d ∷ cs) zero c lt e = let same : c ≡ d = e in rw same (let own = body_in_clause d in omega arith)
 body_in_clauses (d ∷ cs) (suc i) c lt e = let below = body_in_clauses cs i c (omega arith) e in omega arith
+
+-- with no more calls left, something smaller weighs less
+pub less_left : (weight left calls n m : ℕ) → left ≤ calls → n < m → left * weight + n < calls * weight + m
+less_left weight left calls n m le lt = let below : left * weight ≤ calls * weight = mul-le-mul_right weight le in omega arith

@@ -1,14 +1,15 @@
 -- How what a step gives goes on into what follows it.
-use Rattle.std.proofs.Common.{◌≡◌, ℕ, List, ◌++◌, refl, sym, ap, ◌∙◌, append_assoc}
+use Rattle.std.proofs.Common.{◌≡◌, ℕ, List, ◌++◌, Some, None, Result, IfOk, refl, sym, ap, subst, ◌∙◌, append_assoc}
 use Rattle.std.proofs.lemmas.List.{append-nil}
+use Rattle.std.proofs.lemmas.Result.{IfOk-weaker}
 use Rattle.rb_core.specs.declared.value.Value.{Value}
 use Rattle.rb_core.specs.declared.outcome.Event.{Event}
 use Rattle.rb_core.specs.declared.outcome.SourceEnd.{SourceEnd}
 use Rattle.rb_core.specs.declared.outcome.SourceEnd.TheVariants.{Done, Spent}
 use Rattle.rb_core.specs.declared.outcome.PartsEnd.TheVariants.{AllDone, Cut}
 use Rattle.rb_core.specs.declared.outcome.Outcome.{Outcome}
-use Rattle.rb_core.specs.Meaning.{value_outcome, after, at_end, then_do, PartsOutcome, at_parts_end, then_with}
-use Rattle.rb_core.specs.inner.Evaluation.{GivesOutcome, GivesParts}
+use Rattle.rb_core.specs.Meaning.{number_of, value_outcome, after, at_end, then_do, PartsOutcome, at_parts_end, then_with}
+use Rattle.rb_core.specs.inner.Evaluation.{GivesOutcome, GivesParts, done_number}
 
 -- an outcome's end and log go on with what follows
 pub Gives-spent : (o : Outcome) (go : Value → ℕ → Outcome) (old new : List Event) → GivesOutcome o old new Spent → GivesOutcome (then_do o go) old new Spent
@@ -52,4 +53,30 @@ Gives-after o events old mid new end e g = record {
   same_log = g.same_log ∙ ap (λ l. l ++ o.log) e ∙ append_assoc old events o.log;
 }
 
-pub ruleset gives = (Gives-spent, Gives-done, Gives-cut, Gives-all, Gives-here, Gives-after)
+-- the same, where what follows may be an error
+pub Gives-done-if : {E : Type 0} (r : Result SourceEnd E) (o : Outcome) (go : Value → ℕ → Outcome) (old mid new : List Event) (v : Value) (left : ℕ)
+    → GivesOutcome o old mid (Done v left) → IfOk r (GivesOutcome (go v left) mid new) → IfOk r (GivesOutcome (then_do o go) old new)
+Gives-done-if r o go old mid new v left g h = IfOk-weaker r (GivesOutcome (go v left) mid new) (GivesOutcome (then_do o go) old new) (λ end. Gives-done o go old mid new v left end g) h
+
+pub Gives-all-if : {E : Type 0} (r : Result SourceEnd E) (o : PartsOutcome) (go : List Value → ℕ → Outcome) (old mid new : List Event) (vs : List Value) (left : ℕ)
+    → GivesParts o old mid (AllDone vs left) → IfOk r (GivesOutcome (go vs left) mid new) → IfOk r (GivesOutcome (then_with o go) old new)
+Gives-all-if r o go old mid new vs left g h = IfOk-weaker r (GivesOutcome (go vs left) mid new) (GivesOutcome (then_with o go) old new) (λ end. Gives-all o go old mid new vs left end g) h
+
+pub Gives-after-if : {E : Type 0} (r : Result SourceEnd E) (o : Outcome) (events old mid new : List Event)
+    → mid ≡ old ++ events → IfOk r (GivesOutcome o mid new) → IfOk r (GivesOutcome (after events o) old new)
+Gives-after-if r o events old mid new e h = IfOk-weaker r (GivesOutcome o mid new) (GivesOutcome (after events o) old new) (λ end. Gives-after o events old mid new end e) h
+
+-- an operand goes on with its number
+pub Gives-none : (o : Outcome) (go : Value → ℕ → Outcome) (old new : List Event) (end : SourceEnd)
+    → None ≡ done_number end → GivesOutcome o old new end → GivesOutcome (then_do o go) old new Spent
+Gives-none o go old new (Done v left) e g = absurd (cc e)
+Gives-none o go old new Spent e g = Gives-spent o go old new g
+
+pub Gives-number : (o : Outcome) (go : Value → ℕ → Outcome) (old mid new : List Event) (first end : SourceEnd) (n left : ℕ)
+    → Some (n, left) ≡ done_number first → GivesOutcome o old mid first
+    → ((v : Value) → n ≡ number_of v → GivesOutcome (go v left) mid new end) → GivesOutcome (then_do o go) old new end
+Gives-number o go old mid new (Done v rest) end n left e g h =
+    let pair : (n, left) ≡ (number_of v, rest) = cc in
+    let same : left ≡ rest = ap (λ (q : ℕ × ℕ). q.1) pair in let number : n ≡ number_of v = ap (λ (q : ℕ × ℕ). q.0) pair in
+    Gives-done o go old mid new v left end (subst (λ (l : ℕ). GivesOutcome o old mid (Done v l)) (sym same) g) (h v number)
+Gives-number o go old mid new Spent end n left e g h = absurd (cc e)

@@ -2,6 +2,7 @@
 
 ghost use Rattle.std.specs.Prelude.{◌≡◌, ◌++◌, IfOk, OnOk, map, take, length};
 ghost use Rattle.rb_core.specs.Matching.{all_bindings, bindings};
+ghost use Rattle.rb_core.specs.Typing.{binder_of};
 ghost use Rattle.rb_core.specs.Inference.{with_binder, binders};
 ghost use Rattle.rb_core.specs.Meaning.{value_in, with_value, argument_bindings};
 
@@ -33,6 +34,24 @@ pub(crate) struct Depth {
 }
 
 impl Frame {
+    /// The frame of a call of function `fun`: its parameters bound to copies of the arguments.
+    pub(crate) fn of_call(
+        alloc: Global,
+        fun: u32,
+        params: &[Param],
+        args: &[Value],
+    ) -> Result<Self, AllocError>
+        ensures { IfOk result (λ frame. frame ≡ record {
+          fun = fun;
+          scope = map binder_of params.now;
+          values = argument_bindings params.now args.now;
+        }) }
+    {
+        let scope = Scope::of_params(alloc, params)?;
+        let values = bind_arguments(alloc, params, args)?;
+        Ok(Frame { fun, scope, values })
+    }
+
     /// How many variables there are now, to go back to with `truncate`.
     pub(crate) fn depth(&self) -> Depth
         ensures scope { result.scope ≡ length self.now.scope }
@@ -91,10 +110,10 @@ impl Frame {
     }
 }
 
-/// Parameters bound to copies of arguments, each to the one in its place, up to where either list
-/// ends.
+// Parameters bound to copies of arguments, each to the one in its place, up to where either list
+// ends.
 #[tactic(auto, using(crate::proofs::BindingLemmas::argument_steps))]
-pub(crate) fn bind_arguments(
+fn bind_arguments(
     alloc: Global,
     params: &[Param],
     args: &[Value],

@@ -2,17 +2,15 @@
 //! an end is `Done` with a value and the calls left, or `Spent` where a call was due and none was
 //! left. A frame has the variables of the function that runs, with their types and values.
 
-ghost use Rattle.std.specs.Prelude.{◌≡◌, ◌≤◌, [], ℕ, IfOk, OnOk, map, slice_get};
+ghost use Rattle.std.specs.Prelude.{◌≡◌, ◌≤◌, ℕ, IfOk, OnOk, slice_get};
 ghost use Rattle.rb_core.specs.declared.expression.Expr as X;
 ghost use Rattle.rb_core.specs.Limits.{most_eval_calls};
-ghost use Rattle.rb_core.specs.Meaning.{call_of, call_within, meaning_of, all_of};
-ghost use Rattle.rb_core.specs.inner.Evaluation.{GivesOutcome, GivesParts, IsWithinCalls, IsPartsWithinCalls, EvaluatesTo, EndsAsFirst};
+ghost use Rattle.rb_core.specs.Meaning.{call_of, construction_outcome};
+ghost use Rattle.rb_core.specs.inner.Evaluation.{GivesOutcome, GivesParts, EvaluatesTo, EndsAsWhole, EndsAsFirst, done_number, part_types, parts_outcome};
 
-use crate::environment::{Frame, bind_arguments, value_of};
+use crate::environment::{Frame, value_of};
 use crate::expression::{Clause, Expr, Op};
-use crate::inference::{
-    infer, infer_match, infer_operands, types_of_fields, types_of_params, wanted_of_operand,
-};
+use crate::inference::{infer, infer_match, infer_operands, types_of_fields, wanted_of_operand};
 use crate::matching::matches;
 use crate::operators::{apply, low_bits, number, width};
 use crate::outcome::{Event, Outcome, PartsEnd, SourceEnd};
@@ -33,6 +31,14 @@ struct Context<'a> {
     program: &'a Program,
     wanted: Option<Ty>,
     calls: u64,
+}
+
+// What is done once its parts are, from left to right: a call of the function with this number,
+// whose parts are its arguments, or a construction, whose parts are its fields.
+#[derive(Clone, Copy)]
+enum Whole {
+    Call(u32),
+    Build(ConRef),
 }
 
 /// What a call of a function does, with so many calls left. A function that the program lacks gives
@@ -81,9 +87,7 @@ fn eval_call(
     left: u64,
     log: &mut Seq<Event>,
 ) -> Result<SourceEnd, AllocError>
-    ensures gives { IfOk result (λ end. (k : ℕ) → left ≤ k
-        → GivesOutcome (call_within program.now k fun left args.now) log.old log.new end) }
-    ensures fewer { IfOk result (IsWithinCalls left) }
+    ensures { IfOk result (GivesOutcome (call_of program.now fun left args.now) log.old log.new) }
 {
     if left == 0 {
         return Ok(SourceEnd::Spent);
@@ -91,17 +95,14 @@ fn eval_call(
     let Some(callee) = program.funs.get(fun as usize) else {
         return Ok(SourceEnd::Done(Value::Num(0), left - 1));
     };
-    let scope = Scope::of_params(alloc, callee.params.as_slice())?;
-    let values = bind_arguments(alloc, callee.params.as_slice(), args)?;
-    let mut frame = Frame { fun, scope, values };
+    let mut frame = Frame::of_call(alloc, fun, callee.params.as_slice(), args)?;
     let context = Context {
         alloc,
         program,
         wanted: Some(callee.result),
         calls: left - 1,
     };
-    let end = eval_expr(context, &callee.body, &mut frame, log)?;
-    Ok(end)
+    eval_expr(context, &callee.body, &mut frame, log)
 }
 
 // How an expression ends in a context, with the variables of a frame. Its events go behind those of
@@ -114,7 +115,6 @@ fn eval_expr(
     log: &mut Seq<Event>,
 ) -> Result<SourceEnd, AllocError>
     ensures gives { IfOk result (EvaluatesTo context.entry frame.old expr.now log.old log.new) }
-    ensures fewer { IfOk result (IsWithinCalls context.entry.calls) }
     ensures frame { OnOk result (frame.new ≡ frame.old) }
 {
     match expr {
@@ -123,8 +123,12 @@ fn eval_expr(
             let value = value_of(context.alloc, *var, frame.values.as_slice())?;
             Ok(SourceEnd::Done(value, context.calls))
         }
-        Expr::Call(_, fun, parts) => eval_invoke(context, *fun, parts.as_slice(), frame, log),
-        Expr::Build(_, con, parts) => eval_build(context, *con, parts.as_slice(), frame, log),
+        Expr::Call(_, fun, parts) => {
+            eval_whole(context, Whole::Call(*fun), parts.as_slice(), frame, log)
+        }
+        Expr::Build(_, con, parts) => {
+            eval_whole(context, Whole::Build(*con), parts.as_slice(), frame, log)
+        }
         Expr::Binary(_, op, a, b) => eval_binary(context, *op, a.get(), b.get(), frame, log),
         Expr::To(_, bits, a) => eval_to(context, *bits, a.get(), frame, log),
         Expr::Let(_, var, ty, a, b) => {
@@ -138,65 +142,42 @@ fn eval_expr(
     }
 }
 
-// How a call expression ends: its arguments from left to right, then the call with their values.
-// Where an argument is `Spent`, so is the whole.
+// How a call or a construction ends: its parts from left to right, then what it does with their
+// values. Where a part is `Spent`, so is the whole.
 #[cycle(evaluation)]
-fn eval_invoke(
+fn eval_whole(
     context: Context<'_>,
-    fun: u32,
+    whole: Whole,
     parts: &[Expr],
     frame: &mut Frame,
     log: &mut Seq<Event>,
 ) -> Result<SourceEnd, AllocError>
-    ensures gives { (at : ℕ) → IfOk result
-        (EvaluatesTo context.entry frame.old (X.Call at fun parts.now) log.old log.new) }
-    ensures fewer { IfOk result (IsWithinCalls context.entry.calls) }
+    ensures gives { IfOk result (EndsAsWhole context.entry frame.old whole parts.now log.old log.new) }
     ensures frame { OnOk result (frame.new ≡ frame.old) }
 {
     let (alloc, program) = (context.alloc, context.program);
-    let tys = types_of_params(alloc, program, fun)?;
-    match eval_all(
-        alloc,
-        program,
-        parts,
-        tys.as_slice(),
-        context.calls,
-        frame,
-        log,
-    )? {
+    match eval_all(alloc, program, whole, parts, context.calls, frame, log)? {
         PartsEnd::Cut => Ok(SourceEnd::Spent),
-        PartsEnd::AllDone(values, left) => {
-            let end = eval_call(alloc, program, fun, values.as_slice(), left, log)?;
-            Ok(end)
-        }
+        PartsEnd::AllDone(values, left) => match whole {
+            Whole::Call(fun) => eval_call(alloc, program, fun, values.as_slice(), left, log),
+            Whole::Build(con) => build(alloc, con, values, left, log),
+        },
     }
 }
 
-// How a construction ends: its parts from left to right, then the event that it is built. Where a
-// part is `Spent`, so is the whole, and nothing is built.
-#[cycle(evaluation)]
-fn eval_build(
-    context: Context<'_>,
+// How a construction of these values ends: with its value, behind the event that it is built.
+fn build(
+    alloc: Global,
     con: ConRef,
-    parts: &[Expr],
-    frame: &mut Frame,
+    values: Seq<Value>,
+    left: u64,
     log: &mut Seq<Event>,
 ) -> Result<SourceEnd, AllocError>
-    ensures gives { (at : ℕ) → IfOk result
-        (EvaluatesTo context.entry frame.old (X.Build at con parts.now) log.old log.new) }
-    ensures fewer { IfOk result (IsWithinCalls context.entry.calls) }
-    ensures frame { OnOk result (frame.new ≡ frame.old) }
+    ensures { IfOk result (GivesOutcome (construction_outcome con values left) log.old log.new) }
 {
-    let (alloc, program) = (context.alloc, context.program);
-    let tys = types_of_fields(program.types.as_slice(), con);
-    match eval_all(alloc, program, parts, tys, context.calls, frame, log)? {
-        PartsEnd::Cut => Ok(SourceEnd::Spent),
-        PartsEnd::AllDone(values, left) => {
-            let value = Value::Con(con.con, values);
-            log.push(Event::Built(con.ty, value.copy(alloc)?))?;
-            Ok(SourceEnd::Done(value, left))
-        }
-    }
+    let value = Value::Con(con.con, values);
+    log.push(Event::Built(con.ty, value.copy(alloc)?))?;
+    Ok(SourceEnd::Done(value, left))
 }
 
 // How an operator with two operands ends: the operands from left to right, then what it gives at
@@ -212,31 +193,26 @@ fn eval_binary(
 ) -> Result<SourceEnd, AllocError>
     ensures gives { (at : ℕ) → IfOk result
         (EvaluatesTo context.entry frame.old (X.Binary at op a.now b.now) log.old log.new) }
-    ensures fewer { IfOk result (IsWithinCalls context.entry.calls) }
     ensures frame { OnOk result (frame.new ≡ frame.old) }
 {
     let ty = infer_operands(context.program, op, a, context.wanted, &mut frame.scope)?;
-    let first_wanted = wanted_of_operand(op, context.wanted);
     let at_first = Context {
-        wanted: first_wanted,
+        wanted: wanted_of_operand(op, context.wanted),
         ..context
     };
-    let (first, left) = match eval_expr(at_first, a, frame, log)? {
-        SourceEnd::Spent => return Ok(SourceEnd::Spent),
-        SourceEnd::Done(value, left) => (number(&value), left),
+    let Some((first, left)) = done_number(eval_expr(at_first, a, frame, log)?) else {
+        return Ok(SourceEnd::Spent);
     };
     let at_second = Context {
         wanted: Some(ty),
         calls: left,
         ..context
     };
-    match eval_expr(at_second, b, frame, log)? {
-        SourceEnd::Spent => Ok(SourceEnd::Spent),
-        SourceEnd::Done(value, left) => {
-            let n = apply(op, width(ty), first, number(&value));
-            Ok(SourceEnd::Done(Value::Num(n), left))
-        }
-    }
+    let Some((second, left)) = done_number(eval_expr(at_second, b, frame, log)?) else {
+        return Ok(SourceEnd::Spent);
+    };
+    let n = apply(op, width(ty), first, second);
+    Ok(SourceEnd::Done(Value::Num(n), left))
 }
 
 // How a conversion to so many bits ends: its operand at no wanted type, then the low bits of it.
@@ -251,19 +227,25 @@ fn eval_to(
 ) -> Result<SourceEnd, AllocError>
     ensures gives { (at : ℕ) → IfOk result
         (EvaluatesTo context.entry frame.old (X.To at bits a.now) log.old log.new) }
-    ensures fewer { IfOk result (IsWithinCalls context.entry.calls) }
     ensures frame { OnOk result (frame.new ≡ frame.old) }
 {
     let untyped = Context {
         wanted: None,
         ..context
     };
-    match eval_expr(untyped, a, frame, log)? {
-        SourceEnd::Spent => Ok(SourceEnd::Spent),
-        SourceEnd::Done(value, left) => Ok(SourceEnd::Done(
-            Value::Num(low_bits(number(&value), bits)),
-            left,
-        )),
+    let Some((n, left)) = done_number(eval_expr(untyped, a, frame, log)?) else {
+        return Ok(SourceEnd::Spent);
+    };
+    Ok(SourceEnd::Done(Value::Num(low_bits(n, bits)), left))
+}
+
+// The number that an operand ends with and the calls left; none where it is `Spent`.
+fn done_number(end: SourceEnd) -> Option<(u64, u64)>
+    ensures { result ≡ done_number end }
+{
+    match end {
+        SourceEnd::Spent => None,
+        SourceEnd::Done(value, left) => Some((number(&value), left)),
     }
 }
 
@@ -280,7 +262,6 @@ fn eval_let(
 ) -> Result<SourceEnd, AllocError>
     ensures gives { (at : ℕ) → IfOk result
         (EvaluatesTo context.entry frame.old (X.Let at binder.var binder.ty a.now b.now) log.old log.new) }
-    ensures fewer { IfOk result (IsWithinCalls context.entry.calls) }
     ensures frame { OnOk result (frame.new ≡ frame.old) }
 {
     let at_binder = Context {
@@ -296,9 +277,9 @@ fn eval_let(
                 calls: left,
                 ..context
             };
-            let end = eval_expr(at_body, b, frame, log)?;
+            let end = eval_expr(at_body, b, frame, log);
             frame.truncate(depth);
-            Ok(end)
+            end
         }
     }
 }
@@ -316,7 +297,6 @@ fn eval_match(
 ) -> Result<SourceEnd, AllocError>
     ensures gives { IfOk result
         (EvaluatesTo context.entry frame.old (X.Match at scrutinee.now clauses.now) log.old log.new) }
-    ensures fewer { IfOk result (IsWithinCalls context.entry.calls) }
     ensures frame { OnOk result (frame.new ≡ frame.old) }
 {
     let program = context.program;
@@ -335,8 +315,7 @@ fn eval_match(
                 ..context
             };
             let others = Some(others);
-            let end = eval_clauses(at_clauses, &value, ty, clauses, others, frame, log)?;
-            Ok(end)
+            eval_clauses(at_clauses, &value, ty, clauses, others, frame, log)
         }
     }
 }
@@ -355,7 +334,6 @@ fn eval_clauses(
 ) -> Result<SourceEnd, AllocError>
     ensures gives { IfOk result
         (EndsAsFirst context.entry frame.old ty clauses.now others value.now log.old log.new) }
-    ensures fewer { IfOk result (IsWithinCalls context.entry.calls) }
     ensures frame { OnOk result (frame.new ≡ frame.old) }
 {
     let program = context.program;
@@ -371,31 +349,29 @@ fn eval_clauses(
                 value,
             )?;
             let at_body = Context { wanted, ..context };
-            let end = eval_expr(at_body, &clause.body, frame, log)?;
+            let end = eval_expr(at_body, &clause.body, frame, log);
             frame.truncate(depth);
-            return Ok(end);
+            return end;
         }
         wanted = others;
     }
     Ok(SourceEnd::Done(Value::Num(0), context.calls))
 }
 
-// How parts end, from left to right, each at the type in its place, or at none behind the types:
-// with all their values, or cut where one is `Spent`.
+// How the parts of a whole end, from left to right, each at the type in its place, or at none
+// behind the types: with all their values, or cut where one is `Spent`.
 #[cycle(evaluation)]
 fn eval_all(
     alloc: Global,
     program: &Program,
+    whole: Whole,
     parts: &[Expr],
-    tys: &[Ty],
     calls: u64,
     frame: &mut Frame,
     log: &mut Seq<Event>,
 ) -> Result<PartsEnd, AllocError>
-    ensures gives { IfOk result (λ end. (k : ℕ) → calls ≤ k
-        → GivesParts (all_of (map (meaning_of program.now (call_within program.now k) frame.old.fun) parts.now)
-        tys.now frame.old.scope [] calls frame.old.values) log.old log.new end) }
-    ensures fewer { IfOk result (IsPartsWithinCalls calls) }
+    ensures gives { IfOk result
+        (GivesParts (parts_outcome program.now frame.old whole parts.now calls) log.old log.new) }
     ensures frame { OnOk result (frame.new ≡ frame.old) }
 {
     let mut values = Seq::new(alloc);
@@ -404,7 +380,7 @@ fn eval_all(
         let context = Context {
             alloc,
             program,
-            wanted: wanted_at(tys, i),
+            wanted: wanted_of_part(program, whole, i),
             calls: left,
         };
         match eval_expr(context, part, frame, log)? {
@@ -418,9 +394,19 @@ fn eval_all(
     Ok(PartsEnd::AllDone(values, left))
 }
 
-// The type that is wanted of the part with this number; none behind the last of the types.
-fn wanted_at(tys: &[Ty], i: usize) -> Option<Ty>
-    ensures { result ≡ slice_get tys.now i }
+// The type that is wanted of the part of a whole with this number; none behind the last of the
+// types.
+fn wanted_of_part(program: &Program, whole: Whole, i: usize) -> Option<Ty>
+    ensures { result ≡ slice_get (part_types program.now whole) i }
 {
-    tys.get(i).copied()
+    match whole {
+        Whole::Call(fun) => {
+            let callee = program.funs.get(fun as usize)?;
+            let param = callee.params.get(i)?;
+            Some(param.ty)
+        }
+        Whole::Build(con) => types_of_fields(program.types.as_slice(), con)
+            .get(i)
+            .copied(),
+    }
 }

@@ -1,14 +1,24 @@
 -- What a reading that goes on comes to, by its outcome.
-use Rattle.std.proofs.Common.{◌≡◌, ◌≢◌, ◌≤◌, ◌<◌, ◌+◌, ℕ, zero, suc, List, [], ◌∷◌, ◌++◌, length, take, length-take, arith, leb, Option, Some, Bool, true, false, IsTrue, Result, Ok, Err, sym, ap, subst, refl, ◌∙◌, if◌then◌else◌}
-use Rattle.std.proofs.lemmas.Bool.{le-leb}
+use Rattle.std.proofs.Common.{◌≡◌, ◌≢◌, ◌≤◌, ◌<◌, ◌+◌, ℕ, zero, suc, List, [], ◌∷◌, ◌++◌, length, take, length-take, append-nil, arith, leb, Option, Some, Bool, true, false, IsTrue, Result, Ok, Err, sym, ap, subst, refl, ◌∙◌, if◌then◌else◌}
+use Rattle.std.proofs.lemmas.Bool.{le-leb, lt-leb}
+use Rattle.std.proofs.lemmas.List.{take_all, take_at}
 use Rattle.std.specs.declared.vec.Vec.{Vec}
 use Rattle.std.specs.declared.alloc.Global.{Global}
 use Rattle.rb_edge.specs.History.{Reading, going, ended, failed, fresh_reading, longer_reading, reading_at_end, broken_reading, on_last, after_read}
+use Rattle.rb_edge.specs.Source.{HoldsTheSame}
 use Rattle.rb_edge.specs.Whole.{Begins, ReadsOnce, read_to}
 use Rattle.rb_edge.specs.inner.Left.{ReadsOn, goes_on}
 use Rattle.rb_edge.specs.declared.whole.SourceFault.{SourceFault}
 use Rattle.rb_edge.specs.declared.whole.SourceFault.TheVariants.{Failed, Memory}
 use Rattle.rb_edge.proofs.Histories.{on_last_snoc, on_last_twice, on_last_same, gave_none, read_more}
+
+-- a source that holds the same as before, and then does so again
+pub same_still : {S : Type 0} (tells : S → Bool) (held : S → List ℕ → Option (List ℕ)) (first before after : S) → HoldsTheSame tells held first before
+    → HoldsTheSame tells held before after → HoldsTheSame tells held first after
+same_still tells held first before after one two = record {
+  tells_the_same = two.tells_the_same ∙ one.tells_the_same;
+  holds_the_same = λ name. two.holds_the_same name ∙ one.holds_the_same name;
+}
 
 module _ {S : Type 0} (tells : S → Bool) (left : S → List ℕ) (readings : S → List Reading) (old new : S) (limit : ℕ) where
   pub stopped_by_fault : (r : Result (Vec ℕ Global) SourceFault) (f : SourceFault) → r ≡ Err f → (bytes : List ℕ) → length bytes ≤ limit + 1
@@ -17,6 +27,21 @@ module _ {S : Type 0} (tells : S → Bool) (left : S → List ℕ) (readings : S
   stopped_by_fault r f is bytes within left_so on =
       subst (λ (x : Result (Vec ℕ Global) SourceFault). ReadsOn tells left readings old new limit x) (sym is)
       (record { bytes = bytes; within = within; left_so = left_so; on = on; given = tt })
+
+  -- all that may be read was, the one more among it
+  pub stopped_full : (v : Vec ℕ Global) → length v.items ≡ limit + 1 → (IsTrue (tells old) → left old ≡ v.items ++ left new)
+      → readings new ≡ on_last (longer_reading v.items) (readings old) → ReadsOn tells left readings old new limit (Ok v)
+  stopped_full v full left_so on =
+      let over : leb (length v.items) limit ≡ false = lt-leb (length v.items) limit (omega (arith, full)) in
+      let same : (r : Reading) → longer_reading v.items r ≡ goes_on limit v.items (Ok v) r =
+      λ r. ap (λ (b : Bool). if b then reading_at_end (longer_reading v.items r) else longer_reading v.items r) (sym over) in
+      record {
+        bytes = v.items;
+        within = omega (arith, full);
+        left_so = left_so;
+        on = on ∙ on_last_same (longer_reading v.items) (goes_on limit v.items (Ok v)) same (readings old);
+        given = refl {A = List ℕ};
+      }
 
 module _ (limit : ℕ) (bytes : List ℕ) (first before after : List Reading) (so_far : before ≡ on_last (longer_reading bytes) first) where
   -- and then a read that failed
@@ -50,6 +75,15 @@ take_front (suc n) (x ∷ xs) ys within = ap (λ (zs : List ℕ). x ∷ zs) (tak
 -- the front of what was read, with more behind it, was added to bytes
 pub front_added : (n : ℕ) (all bytes xs ys : List ℕ) → all ≡ bytes ++ take n (xs ++ ys) → n ≤ length xs → all ≡ bytes ++ take n xs
 front_added n all bytes xs ys is within = is ∙ ap (λ (zs : List ℕ). bytes ++ zs) (take_front n xs ys within)
+
+-- as many of the bytes of a whole as were wanted, with more behind them
+pub front_full : (count : ℕ) (whole bytes rest : List ℕ) → whole ≡ bytes ++ rest → length bytes ≡ count → bytes ≡ take count whole
+front_full count whole bytes rest is full = sym (ap (λ (xs : List ℕ). take count xs) is ∙ take_at bytes rest count full)
+
+-- all the bytes of a whole, no more than were wanted
+pub front_whole : (count : ℕ) (whole bytes rest : List ℕ) → whole ≡ bytes ++ rest → rest ≡ [] → length bytes ≤ count → bytes ≡ take count whole
+front_whole count whole bytes rest is none within =
+    sym (ap (λ (xs : List ℕ). take count xs) (is ∙ ap (λ (xs : List ℕ). bytes ++ xs) none ∙ append-nil bytes) ∙ take_all count bytes within)
 
 -- A file that is opened and then read -------------------------------------------------------
 

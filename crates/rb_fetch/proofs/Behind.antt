@@ -30,6 +30,9 @@ use Rattle.rb_fragment.proofs.Pieces.{piece_weaken}
 use Rattle.rb_compose.specs.declared.subvalue.Subvalue.{Subvalue}
 use Rattle.rb_fetch.specs.declared.choice.Way.{Way}
 use Rattle.rb_fetch.specs.declared.known.Seen.{Seen}
+use Rattle.rb_fetch.specs.declared.asking.Look.{Look}
+use Rattle.rb_fetch.specs.declared.asking.Question.{Question}
+use Rattle.rb_fetch.specs.inner.Asking.{AsksFor, IsLook}
 use Rattle.rb_fetch.specs.Finding.{FindsLeaf, HasLeaf, leaf_count, layout_leaf_count}
 use Rattle.rb_fetch.specs.inner.Choosing.{AreOpen, AreWaysOf, BranchIn, BranchesDone, BranchesStand, ChoosesBelow, ChoosesBy, ChoosesUnder, HasLeaves, IsPartIn, IsPlaceOf, AreInnerWords, ChoiceIsReady, IsWayAt, PartsHold, TakesOneWay, left_of, look_cost}
 use Rattle.rb_fetch.specs.inner.Heads.{is_among, leaf_known, shown_heads}
@@ -227,3 +230,37 @@ module _ (agreed : LaidOut) (typed : IsTyped agreed.covered.program) (flat : agr
                 piece_weaken plan old.slots old.slots old new (IsWayAt ways) most (left_of plan.layouts t k seen.looked) Under Pre Exit Exit (omega arith) (omega (arith, le))
                 (λ s1 m y. (y.0, y.1, part_rep agreed plan t k layout leaves xs path s words old.slots part ready v u at clean s1 m y.1)) (λ pc s1 m y. y) (tk.does clean);
           }
+
+-- What is asked, and what a leaf tells ------------------------------------------------------------
+
+module _ (agreed : LaidOut) (t : ℕ) (leaves : List ℕ) (seen : Seen) (xs : List Subvalue) (old new : Sheet) (ways : List Way) where
+  -- where what is known tells the leaf
+  pub told_asked : (n : ℕ) (question : Question) → AsksFor agreed t n seen xs question → (l : ℕ) → question.told ≡ Some l
+      → ChoosesUnder agreed t leaves seen xs question.place.path question.place.con.ty question.words l old new ways
+      → ChoosesBy agreed t leaves seen xs question.place.path question.place.con.ty old new ways
+  told_asked n question asks l told under =
+      told_chooses agreed asks.has.sound.typed asks.has.sound.flat asks.has.sound.agrees t leaves seen xs question.place.path question.place.con.ty question.words l
+      (sym asks.is_asked.is_told ∙ told) old new ways under asks.is_asked.is_part
+
+module _ (agreed : LaidOut) (t : ℕ) (leaves : List ℕ) (seen : Seen) (xs : List Subvalue) (path : List ℕ) (s : ℕ) (words : List ℕ) (old e q : Sheet) (look : Look) (starts : List ℕ) (ways : List Way)
+    (looks : IsLook agreed s words old e look) (done : BranchesDone agreed t leaves seen xs path s words look.count e q starts ways) where
+  pub looked_patchable : ArePatchable q.code look.holes starts
+  looked_patchable =
+      look_patchable agreed looks.sound.flat looks.sound.agrees t leaves seen xs path s words old e q look.holes starts ways look.count looks.has looks.finds looks.are_holes looks.one_way done
+
+  -- the code with the holes of the look closed
+  module _ (whole : Sheet) (is : whole ≡ with_targets q look.holes starts) where
+    pub looked_open : AreOpen (length old.code) whole.code ways
+    looked_open =
+        subst (λ (b : Sheet). AreOpen (length old.code) b.code ways) (sym is)
+        (look_open agreed looks.sound.flat looks.sound.agrees t leaves seen xs path s words old e q look.holes starts ways look.count looks.has looks.finds looks.are_holes looks.one_way done looks.grows)
+
+    pub looked_grows : Grows old.code whole.code
+    looked_grows =
+        subst (λ (b : Sheet). Grows old.code b.code) (sym is)
+        (look_grows agreed looks.sound.flat looks.sound.agrees t leaves seen xs path s words old e q look.holes starts ways look.count looks.has looks.finds looks.are_holes looks.one_way done looks.grows)
+
+    pub looked_chooses : IsPartIn xs path s words → ChoosesBy agreed t leaves seen xs path s old whole ways
+    looked_chooses part =
+        subst (λ (b : Sheet). ChoosesBy agreed t leaves seen xs path s old b ways) (sym is)
+        (look_chooses agreed looks.sound.flat looks.sound.agrees t leaves seen xs path s words old e q look.holes starts ways look.count looks.has looks.finds looks.are_holes looks.one_way done part)

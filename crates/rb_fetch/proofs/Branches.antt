@@ -1,5 +1,5 @@
 -- The code of the leaves of a part: below one leaf, one leaf more, and all of them behind the look.
-use Rattle.std.proofs.Common.{◌≡◌, ℕ, zero, suc, ◌+◌, ◌<◌, ◌≤◌, ◌⊎◌, inl, inr, length, List, [], ◌∷◌, ◌++◌, map, Bool, true, false, Some, refl, sym, subst, ap, ◌∙◌, arith, length-append}
+use Rattle.std.proofs.Common.{◌≡◌, ℕ, zero, suc, ◌+◌, ◌<◌, ◌≤◌, ◌⊎◌, inl, inr, length, List, [], ◌∷◌, ◌++◌, map, Bool, true, false, Some, refl, sym, subst, ap, ◌∙◌, arith, length-append, take}
 use Rattle.std.specs.Prelude.{slice_get, slice_index, if◌then◌else◌}
 use Rattle.std.proofs.lemmas.Option.{same_Some}
 use Rattle.std.proofs.lemmas.List.{append_assoc, map-append}
@@ -30,12 +30,15 @@ use Rattle.rb_fragment.proofs.Pieces.{piece_frame, piece_seq, piece_weaken}
 use Rattle.rb_compose.specs.declared.subvalue.Subvalue.{Subvalue}
 use Rattle.rb_fetch.specs.declared.choice.Way.{Way}
 use Rattle.rb_fetch.specs.declared.heads.Place.{Place}
+use Rattle.rb_fetch.specs.declared.known.Learnt.{Learnt}
 use Rattle.rb_fetch.specs.declared.known.Seen.{Seen}
 use Rattle.rb_fetch.specs.inner.Choosing.{AreOpen, BranchIn, BranchesDone, BranchesStand, ChoosesBelow, ChoosesFrom, ChoosesUnder, FetchesFields, Follows, GivesFields, HasAll, HasCon, HasParts, HasRootCon, AreInnerWords, ChoiceIsReady, IsWayAt, IsWayOf, PartsGiven, PartsHold, TakesOneWay, left_of, root_con}
 use Rattle.rb_fetch.specs.Finding.{leaf_within}
 use Rattle.rb_fetch.specs.inner.Fields.{leaf_at}
 use Rattle.rb_fetch.specs.inner.Heads.{bare_paths, head_under, heads_in, is_among, leaves_beside, leaves_that_can_be, shown_head, shown_heads}
-use Rattle.rb_fetch.specs.inner.Seen.{seen_more}
+use Rattle.rb_fetch.specs.inner.Asking.{IsLearnt}
+use Rattle.rb_fetch.specs.inner.Seen.{seen_before, seen_more}
+use Rattle.rb_fetch.proofs.FieldParts.{take-left}
 use Rattle.rb_fetch.proofs.Chosen.{inner_shows, matched_leaf, rooted}
 use Rattle.rb_fetch.proofs.Constructors.{shows}
 use Rattle.rb_fetch.proofs.Costs.{among-append, among-left, left_fewer, mend_less, path_same}
@@ -206,6 +209,22 @@ module _ (agreed : LaidOut) (flat : agreed.layouts ≡ flat_layouts agreed.cover
                 does = λ clean. goes_under plan k layout inner ready read f v u parts follows at of is n tk clean;
               };
         }
+
+-- what the leaf of a part tells, its fields, and a choice among the leaves that are left
+module _ (agreed : LaidOut) (t : ℕ) (leaves : List ℕ) (seen : Seen) (xs : List Subvalue) (place : Place) (words : List ℕ) (l : ℕ) (after : Seen) (learnt : Learnt) (is : IsLearnt agreed t leaves place l seen after learnt) where
+  pub learnt_chooses : (a b c : Sheet) (ys : List Subvalue) (ways : List Way) → FetchesFields agreed place.path place.con.ty l words a b xs ys → ChoosesFrom agreed t learnt.kept after ys b c ways → AreOpen (length b.code) c.code ways
+      → ChoosesUnder agreed t leaves seen xs place.path place.con.ty words l a c ways
+  learnt_chooses a b c ys ways fetches chooses opened =
+      let kept = leaves_beside agreed.layouts t (shown_heads is.heads) (leaves_that_can_be agreed.layouts t place.path is.root leaves) in
+      chooses_under agreed is.sound.flat is.sound.agrees t leaves seen xs place.path words l (record { ty = place.con.ty; con = is.root }) is.is_root is.heads is.are_heads a b c ys ways fetches
+      (subst (λ (sn : Seen). ChoosesFrom agreed t kept sn ys b c ways) is.is_seen (subst (λ ns. ChoosesFrom agreed t ns after ys b c ways) is.are_kept chooses)) opened
+
+  -- and what was known before is known again
+  pub learnt_forgotten : seen_before (length seen.looked) (length seen.known) after ≡ seen
+  learnt_forgotten =
+      ap (λ (sn : Seen). seen_before (length seen.looked) (length seen.known) sn) is.is_seen
+      ∙ ap (λ ls. record { looked = ls; known = take (length seen.known) (seen.known ++ is.heads) }) (take-left seen.looked (place.path ∷ bare_paths agreed.covered.program.types (shown_heads is.heads)))
+      ∙ ap (λ (ps : List Place). record { looked = seen.looked; known = ps }) (take-left seen.known is.heads)
 
 -- One leaf more -----------------------------------------------------------------------------------
 

@@ -42,7 +42,9 @@ use Rattle.rb_fetch.specs.declared.heads.Place.{Place}
 use Rattle.rb_fetch.specs.declared.known.Seen.{Seen}
 use Rattle.rb_fetch.specs.Constructing.{AreAsShown}
 use Rattle.rb_fetch.specs.inner.Choice.{ChoosesLeaf, TakesWay}
+use Rattle.rb_fetch.specs.declared.asking.Start.{Start}
 use Rattle.rb_fetch.specs.Finding.{IsPlanOf}
+use Rattle.rb_fetch.specs.inner.Asking.{IsStart}
 use Rattle.rb_fetch.specs.inner.Choosing.{AreLeavesOf, AreOpen, ChoosesFrom, ChoosesWays, Follows, HasAll, HasParts, ChoiceIsReady, IsWayAt, PartsGiven, PartsHold, TakesOneWay, holes_from, left_of, parts_from, root_con}
 use Rattle.rb_fetch.specs.inner.Heads.{bare_paths, leaves_beside, leaves_for, shown_heads}
 use Rattle.rb_fetch.proofs.Chosen.{begins, leaf_found, matched_leaf}
@@ -265,3 +267,13 @@ module _ (agreed : LaidOut) (typed : IsTyped agreed.covered.program) (flat : agr
         ways = λ k way e. let w = a.are_ways k way e in record { leaf = w.0; is_leaf = w.1; given = w.2 };
         takes = λ vs as_shown is_of. takes plan of fields is_fields kinds given layout is_layout vs as_shown is_of;
       }
+
+-- the same for what the choice begins with
+pub start_chooses : (agreed : LaidOut) (con : ConRef) (hs : List Held) (shown : List Pat) (start : Start) → IsStart agreed con hs shown start → (old new : Sheet) (ways : List Way)
+    → ChoosesFrom agreed con.ty start.leaves start.seen start.parts old new ways → AreOpen (length old.code) new.code ways → ChoosesLeaf agreed con hs shown old new (record { holes = holes_from 0 ways; ways = ways })
+start_chooses agreed con hs shown start is old new ways chooses opened =
+    let leaves = leaves_beside agreed.layouts con.ty (heads_below (map heads_of shown) 0) (leaves_for con.con (leaves_of_layout (layout_of agreed.layouts con.ty)) 0) in
+    let first = subst (λ ns. ChoosesFrom agreed con.ty ns start.seen start.parts old new ways) is.are_leaves chooses in
+    let second = subst (λ xs. ChoosesFrom agreed con.ty leaves start.seen xs old new ways) is.are_parts first in
+    let third = subst (λ ls. ChoosesFrom agreed con.ty leaves (record { looked = ls; known = start.seen.known }) (parts_from 0 hs) old new ways) is.is_seen.are_looked second in
+    chooses_leaf agreed is.sound.typed is.sound.flat is.sound.agrees con hs shown start.seen.known is.is_seen.are_known old new ways third opened

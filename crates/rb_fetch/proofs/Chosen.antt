@@ -37,7 +37,9 @@ use Rattle.rb_fetch.specs.declared.choice.Way.{Way}
 use Rattle.rb_fetch.specs.declared.heads.Place.{Place}
 use Rattle.rb_fetch.specs.declared.known.Seen.{Seen}
 use Rattle.rb_fetch.specs.Finding.{IsPlanOf, leaf_within}
-use Rattle.rb_fetch.specs.inner.Choosing.{AreOpen, AreWaysOf, ChoosesBy, ChoosesFrom, ChoosesWays, Follows, HasAll, HasOpens, IsWayOf, HasCon, IsEndOf, ChoiceIsReady, root_con}
+use Rattle.rb_fetch.specs.declared.asking.Question.{Question}
+use Rattle.rb_fetch.specs.inner.Asking.{AsksFor, NeedsNone}
+use Rattle.rb_fetch.specs.inner.Choosing.{AreEndOf, AreOpen, AreWaysOf, ChoosesBy, ChoosesFrom, ChoosesWays, Follows, HasAll, HasOpens, IsWayOf, HasCon, IsEndOf, ChoiceIsReady, root_con}
 use Rattle.rb_fetch.specs.inner.Fields.{leaf_at}
 use Rattle.rb_fetch.specs.inner.Heads.{AreLookedAt, IsNext, is_among, shown_head, shown_heads}
 use Rattle.rb_fetch.proofs.Constructors.{heads-Con, is_matched, shows}
@@ -297,6 +299,20 @@ module _ (agreed : LaidOut) (typed : IsTyped agreed.covered.program) (flat : agr
         subst (λ ns. ChoosesFrom agreed t ns seen xs old new ways) (sym r.1)
         (looks (get_or ls 0 0) r.0 seen xs old new ways ps p leaf at shown next (subst (λ ns. ChoosesBy agreed t ns seen xs p.path p.con.ty old new ways) r.1 by))
 
+-- What follows of the answer to what is asked next ------------------------------------------------
+
+module _ (agreed : LaidOut) (t : ℕ) (leaves : List ℕ) (some : 1 ≤ length leaves) (seen : Seen) (xs : List Subvalue) (old new : Sheet) (ways : List Way) where
+  pub none_asked : NeedsNone agreed t (get_or leaves 0 0) seen → AreEndOf agreed t (get_or leaves 0 0) xs old new ways → ChoosesFrom agreed t leaves seen xs old new ways
+  none_asked none end =
+      first_ends agreed none.has.sound.typed none.has.sound.flat none.has.sound.agrees t leaves some seen xs old new none.places none.has.leaf none.has.is_leaf none.has.are_places
+      end.0 [] ways none.looked end.2 refl end.1
+
+  pub some_asked : (question : Question) → AsksFor agreed t (get_or leaves 0 0) seen xs question
+      → ((n : ℕ) → AsksFor agreed t n seen xs question → ChoosesBy agreed t leaves seen xs question.place.path question.place.con.ty old new ways) → ChoosesFrom agreed t leaves seen xs old new ways
+  some_asked question asks by =
+      first_looks agreed asks.has.sound.typed asks.has.sound.flat asks.has.sound.agrees t leaves some seen xs old new asks.places asks.has.leaf asks.has.is_leaf asks.has.are_places
+      ways question.place asks.next (by (get_or leaves 0 0) asks)
+
 pub end_open : (agreed : LaidOut) (t n : ℕ) (xs : List Subvalue) (old new : Sheet) (way : Way) → IsEndOf agreed t n xs old new way → AreOpen (length old.code) new.code (way ∷ []) × Grows old.code new.code
 end_open agreed t n xs old new way end =
     let pc : way.pc ≡ length old.code = ap (λ (y : Way). y.pc) end.is_way in
@@ -305,3 +321,8 @@ end_open agreed t n xs old new way end =
     let low : length old.code ≤ way.pc = omega (arith, pc) in
     let grows : Grows old.code new.code = subst (λ (b : Sheet). Grows old.code b.code) (sym end.code) (Grows-append old.code (Jump (length old.code + 1) ∷ [])) in
     ((low, (length old.code + 1, code), tt), grows)
+
+pub ends_open : (agreed : LaidOut) (t n : ℕ) (xs : List Subvalue) (old new : Sheet) (ways : List Way) → AreEndOf agreed t n xs old new ways → AreOpen (length old.code) new.code ways × Grows old.code new.code
+ends_open agreed t n xs old new ways end =
+    let r = end_open agreed t n xs old new end.0 end.2 in
+    (subst (λ (ws : List Way). AreOpen (length old.code) new.code ws) (sym end.1) r.0, r.1)

@@ -4,6 +4,7 @@ use Rattle.rb_core.specs.declared.types.Ty.TheVariants.{Named}
 use Rattle.rb_core.specs.declared.types.ConRef.{ConRef}
 use Rattle.rb_core.specs.declared.pattern.Pat.{Pat}
 use Rattle.rb_core.specs.TypedPrograms.{IsTyped}
+use Rattle.rb_target.specs.Growth.{Grows}
 use Rattle.rb_target.specs.Sheet.{Sheet}
 use Rattle.rb_layout.specs.declared.agreed.LaidOut.{LaidOut}
 use Rattle.rb_layout.specs.declared.layout.Layout.{Layout}
@@ -18,10 +19,10 @@ use Rattle.rb_fetch.specs.declared.choice.Choices.{Choices}
 use Rattle.rb_fetch.specs.inner.Choice.{ChoosesLeaf}
 use Rattle.rb_fetch.specs.Constructing.{Constructs, IsConstructed}
 use Rattle.rb_fetch.specs.inner.Choosing.{parts_from}
-use Rattle.rb_fetch.specs.inner.Constructing.{IsAlone, WaysMeet}
+use Rattle.rb_fetch.specs.inner.Constructing.{AreMet, IsAlone, IsAloneIn, WaysMeet}
 use Rattle.rb_fetch.proofs.Alone.{alone_constructs}
 use Rattle.rb_fetch.proofs.Finding.{of_plan}
-use Rattle.rb_fetch.proofs.Meeting.{ways_constructs}
+use Rattle.rb_fetch.proofs.Meeting.{ways_constructs, ways_grow}
 
 module _ (agreed : LaidOut) (typed : IsTyped agreed.covered.program) (flat : agreed.layouts ≡ flat_layouts agreed.covered.program) (agrees : Agrees agreed.covered.program) (con : ConRef) (hs : List Held) (shown : List Pat) (layout : Layout)
     (at : layout_of agreed.layouts con.ty ≡ Some layout) (old new : Sheet) (held : Held) where
@@ -37,3 +38,17 @@ module _ (agreed : LaidOut) (typed : IsTyped agreed.covered.program) (flat : agr
       let p = of_plan agreed typed flat agrees con.ty plan of in
       let is_layout = ap (λ ls. layout_of ls con.ty) of.layouts ∙ at in
       ways_constructs plan p.0 p.1 layout con hs shown old mid new choices held is_layout fields is_fields kinds (chooses plan of fields is_fields kinds given layout is_layout) holes ways meets
+
+-- the same with the layout of the constructor's type
+module _ (agreed : LaidOut) (con : ConRef) (hs : List Held) (shown : List Pat) (old new : Sheet) (held : Held) where
+  pub alone_constructed : (leaf : Leaf) → IsAloneIn agreed con leaf → (held.ty ≡ Named con.ty) × MakesLeaf leaf (parts_from 0 hs) old new held.slots → Constructs agreed con hs shown old new held
+  alone_constructed leaf is makes =
+      constructs_alone agreed is.sound.typed is.sound.flat is.sound.agrees con hs shown is.layout is.is_layout old new held leaf is.is_alone makes.0 makes.1
+
+  pub ways_constructed : (mid : Sheet) (choices : Choices) → ChoosesLeaf agreed con hs shown old mid choices → AreHoles (length old.code) (length choices.ways) mid.code choices.holes → AreOfOneWay choices.holes
+      → AreMet agreed con.ty choices mid new held → Constructs agreed con hs shown old new held
+  ways_constructed mid choices chooses holes ways met =
+      constructs_ways agreed met.sound.typed met.sound.flat met.sound.agrees con hs shown met.layout met.is_layout old new held mid choices chooses holes ways met.meets
+
+  pub ways_grown : (mid : Sheet) (choices : Choices) → Grows old.code mid.code → AreHoles (length old.code) (length choices.ways) mid.code choices.holes → AreMet agreed con.ty choices mid new held → Grows old.code new.code
+  ways_grown mid choices grows holes met = ways_grow con.ty met.layout.leaves old mid new choices held grows holes met.meets

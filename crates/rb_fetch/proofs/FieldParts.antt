@@ -44,7 +44,7 @@ use Rattle.rb_fetch.specs.Finding.{IsPlanOf, leaf_within}
 use Rattle.rb_fetch.specs.Positions.{PositionAt, mend_under}
 use Rattle.rb_fetch.specs.inner.Choosing.{FetchesFields, HasParts, AreInnerWords, PartsGiven, PartsHold, parts_under}
 use Rattle.rb_fetch.specs.inner.Fields.{leaf_at}
-use Rattle.rb_fetch.specs.inner.Rebuilding.{FetchesParts, PartsAreFetched}
+use Rattle.rb_fetch.specs.inner.Rebuilding.{FetchesParts, IsRootLayer, PartsAreFetched}
 use Rattle.rb_fetch.proofs.Chosen.{matched_leaf}
 use Rattle.rb_fetch.proofs.Choices.{given_each, held_each, typed_each}
 use Rattle.rb_fetch.proofs.Constructors.{part-append}
@@ -216,6 +216,12 @@ module _ (agreed : LaidOut) (typed : IsTyped agreed.covered.program) (flat : agr
     parts = λ v u at_u of_u is. has_parts plan inner leaf of read is_leaf v u at_u of_u is;
     does = λ v u at_u of_u is clean. goes plan inner leaf of read is_leaf v u at_u of_u is clean;
   }
+
+-- the same for the constructor at the root of the leaf's provenance
+pub layer_fetches : (agreed : LaidOut) (path : List ℕ) (ty l : ℕ) (words : List ℕ) (old new : Sheet) (xs ys : List Subvalue) (root : ConRef) (ps : List Pat) → IsRootLayer agreed ty l root ps → (hs : List Held)
+    → ys ≡ xs ++ parts_under path 0 hs → FetchesParts agreed ty l root ps (length ps) [] words old new hs → FetchesFields agreed path ty l words old new xs ys
+layer_fetches agreed path ty l words old new xs ys root ps is hs more fetches =
+    fetches_fields agreed is.sound.typed is.sound.flat is.sound.agrees path ty l words old new xs ys is.leaf is.is_leaf is.at root ps is.is_root hs more fetches
 
 -- fields that are not needed are not fetched
 pub fetches_none : (agreed : LaidOut) (path : List ℕ) (ty : ℕ) (l : ℕ) (words : List ℕ) (old : Sheet) (xs : List Subvalue) → FetchesFields agreed path ty l words old old xs xs

@@ -9,4 +9,6 @@ pub mod Fetching
 pub mod Pruning
 pub mod Choice
 pub mod Choosing
+pub mod Sound
+pub mod Asking
 pub mod Constructing

@@ -5,31 +5,28 @@
 //! jump, the leaf's number, and parts in slots. A part whose leaf follows from what is known takes
 //! no look. The fields of a part whose leaf is known are fetched. Those that the leaf has taken
 //! apart, of which it has only the fields, are rebuilt, by constructions of their own, so that the
-//! calls here go in a circle. Each takes one off `depth`. `agreed` has the program and its layouts,
-//! and `seen` is what is known of the value.
+//! calls here go in a circle. Each way round it goes through `choose` or `fetch_part`, and these
+//! take one off `depth`. `agreed` has the program and its layouts, and `seen` is what is known of
+//! the value.
 
-ghost use Rattle.std.specs.Prelude.{◌≡◌, IfOk, OnOk, length, take};
+ghost use Rattle.std.specs.Prelude.{◌≡◌, ℕ, ◌++◌, ◌∷◌, [], IfOk, OnOk, length, take};
 ghost use Rattle.rb_target.specs.Growth.{Grows};
-ghost use Rattle.rb_fragment.specs.Arms.{AreHoles, AreOfOneWay};
+ghost use Rattle.rb_fragment.specs.Arms.{AreHoles, AreOfOneWay, ArePatchable, with_targets};
 ghost use Rattle.rb_fetch.specs.Constructing.{Constructs};
 ghost use Rattle.rb_fetch.specs.inner.Choice.{ChoosesLeaf};
 ghost use Rattle.rb_fetch.specs.inner.Rebuilding.{FetchesPart, FetchesParts};
-ghost use Rattle.rb_fetch.specs.inner.Choosing.{AreOpen, BranchesDone, ChoosesBy, ChoosesFrom, ChoosesUnder, FetchesFields, IsEndOf, IsPartIn, holes_from};
+ghost use Rattle.rb_fetch.specs.inner.Choosing.{AreEndOf, AreOpen, BranchesDone, ChoosesBy, ChoosesFrom, ChoosesUnder, FetchesFields, IsEndOf, IsPartIn, holes_from};
+ghost use Rattle.rb_fetch.specs.inner.Asking.{AsksFor};
+ghost use Rattle.rb_fetch.specs.inner.Seen.{seen_before};
 
+use crate::asking::{Look, Question, find_leaves, next_question, start_of};
 use crate::choice::{Choices, Way};
-use crate::construct::{alone, emit_alone, emit_ways};
-use crate::heads::{
-    Place, bare_paths, field_heads, field_path, heads, leaf_at, leaves_beside, next_place,
-    take_apart,
-};
-use crate::known::{Below, Seen, below_leaf, forget, leaf_known, see};
-use crate::look::find_leaf;
-use crate::parts::{
-    add_parts, copy_parts, count_leaves, find_fields, leaves_by, parts_of, words_at,
-};
-use crate::rebuild::fetch_open;
+use crate::construct::{alone_in, emit_alone, emit_choices};
+use crate::heads::{Place, leaf_at};
+use crate::known::{Seen, forget, learn};
+use crate::parts::{add_parts, copy_parts, find_fields};
+use crate::rebuild::{fetch_open, field_at, root_layer};
 use rb_compose::subvalue::Subvalue;
-use rb_core::inference::types_of_fields;
 use rb_core::pattern::Pat;
 use rb_core::seq::Seq;
 use rb_core::types::ConRef;
@@ -84,6 +81,35 @@ struct LeafCode {
     ways: Seq<Way>,
 }
 
+// How much a way has: parts in slots, positions that need no look, and constructors that are known.
+#[derive(Clone, Copy)]
+struct Amounts {
+    parts: usize,
+    looked: usize,
+    known: usize,
+}
+
+// How much a way has so far.
+fn amounts_of(parts: &Seq<Subvalue>, seen: &Seen) -> Amounts
+    ensures { result
+        ≡ record { parts = length parts.now; looked = length seen.now.looked; known = length seen.now.known } }
+{
+    Amounts {
+        parts: parts.len(),
+        looked: seen.looked.len(),
+        known: seen.known.len(),
+    }
+}
+
+// Takes back what a way got since it had so much.
+fn take_back(parts: &mut Seq<Subvalue>, seen: &mut Seen, had: Amounts)
+    ensures parts { parts.new ≡ take had.parts parts.old }
+    ensures seen { seen.new ≡ seen_before had.looked had.known seen.old }
+{
+    parts.truncate(had.parts);
+    forget(seen, had.looked, had.known);
+}
+
 // The end of a way: its leaf, number `leaf` of type `ty`, is the first of those that can still be
 // here, and all is looked at. The code is an open jump, and the way has all of `parts`. Want of
 // memory is the answer where there is no such leaf, or a part at an open position of it is missing.
@@ -108,6 +134,23 @@ fn end_way(
     Ok(Way { pc, leaf, fields })
 }
 
+// The end of all looks, where one way is left: that of `end_way`.
+fn end_ways(
+    alloc: Global,
+    body: &mut Body,
+    agreed: &Agreed,
+    ty: u32,
+    leaf: usize,
+    parts: &[Subvalue],
+) -> Result<Seq<Way>, AllocError>
+    ensures { IfOk result (λ ways. AreEndOf agreed.now ty leaf parts.now body.old body.new ways) }
+{
+    let way = end_way(alloc, body, agreed, ty, leaf, parts)?;
+    let mut ways = Seq::new(alloc);
+    ways.push(way)?;
+    Ok(ways)
+}
+
 // The open jumps of ways, each with the number of its way, from 0 on, in place of a leaf.
 fn holes_of(alloc: Global, ways: &[Way]) -> Result<Seq<Hole>, AllocError>
     ensures { IfOk result (λ holes. holes ≡ holes_from 0 ways.now) }
@@ -123,13 +166,40 @@ fn holes_of(alloc: Global, ways: &[Way]) -> Result<Seq<Hole>, AllocError>
     Ok(holes)
 }
 
+// The choice that these ways are: their open jumps are its holes.
+fn choices_of(alloc: Global, ways: Seq<Way>) -> Result<Choices, AllocError>
+    ensures { IfOk result (λ choices. choices ≡ record { holes = holes_from 0 ways; ways = ways }) }
+{
+    let holes = holes_of(alloc, ways.as_slice())?;
+    Ok(Choices { holes, ways })
+}
+
+// Adds the code of one more leaf of a part, which begins at instruction `start` and has these ways.
+// Want of memory may leave it added in part.
+fn add_leaf(code: &mut LeafCode, start: usize, ways: Seq<Way>) -> Result<(), AllocError>
+    ensures { OnOk result (code.new ≡ record { starts = code.old.starts ++ start ∷ []; ways = code.old.ways ++ ways }) }
+{
+    code.starts.push(start)?;
+    if let Some(_) = code.ways.append(ways) {
+        return Err(AllocError);
+    }
+    Ok(())
+}
+
+// Sets the holes of a look to the code of the leaves to which they lead, and answers its ways.
+fn close_look(body: &mut Body, holes: Seq<Hole>, code: LeafCode) -> Seq<Way>
+    requires { ArePatchable body.old.code holes code.starts }
+    ensures ways { result ≡ code.ways }
+    ensures code { body.new ≡ with_targets body.old holes code.starts }
+{
+    let LeafCode { starts, ways } = code;
+    patch_all(body, holes.as_slice(), starts.as_slice());
+    ways
+}
+
 // Code that looks into the arguments `args`, which are in slots and match the patterns `shown`,
 // until the leaf of the construction by `con` is known, and leaves by the hole of a way to that
-// leaf. `depth` calls may be nested still.
-//
-// # Errors
-//
-// Want of memory; the same answer at a `depth` of 0.
+// leaf. Want of memory is the answer also where calls would be nested deeper than `depth`.
 #[cycle(fetching)]
 fn choose_leaf_at(
     alloc: Global,
@@ -147,25 +217,23 @@ fn choose_leaf_at(
     ensures ways { IfOk result (λ choices. AreOfOneWay choices.holes) }
     ensures grows { OnOk result (Grows body.old.code body.new.code) }
 {
-    if depth == 0 {
-        return Err(AllocError);
-    }
-    let program = agreed.covered().program();
-    let known = field_heads(alloc, shown)?;
-    let all = leaves_by(alloc, agreed.layouts(), con)?;
-    let leaves = leaves_beside(alloc, agreed.layouts(), con.ty, all, known.as_slice())?;
-    let mut parts = parts_of(alloc, args)?;
-    let looked = bare_paths(alloc, program.types.as_slice(), known.as_slice())?;
-    let mut seen = Seen { looked, known };
-    let leaves = leaves.as_slice();
+    let mut start = start_of(alloc, agreed, con, args, shown)?;
+    let leaves = start.leaves.as_slice();
     let whole = Whole {
         agreed,
         ty: con.ty,
         leaves,
     };
-    let ways = choose(alloc, body, depth - 1, &whole, &mut parts, &mut seen)?;
-    let holes = holes_of(alloc, ways.as_slice())?;
-    Ok(Choices { holes, ways })
+    let ways = choose(
+        alloc,
+        body,
+        depth,
+        &whole,
+        &mut start.parts,
+        &mut start.seen,
+    )?;
+    let choices = choices_of(alloc, ways)?;
+    Ok(choices)
 }
 
 // Code that looks into a construction whose leaf is one of those of `whole`, until it is known.
@@ -191,33 +259,24 @@ fn choose(
     if depth == 0 {
         return Err(AllocError);
     }
-    let agreed = whole.agreed;
-    let ty = whole.ty;
-    let leaves = whole.leaves;
-    let _typed = agreed.covered().program();
-    let mut ways = Seq::new(alloc);
-    let [leaf, ..] = leaves else {
-        return Ok(ways);
+    let (agreed, ty) = (whole.agreed, whole.ty);
+    let [leaf, ..] = whole.leaves else {
+        return Ok(Seq::new(alloc));
     };
-    let Some(found) = leaf_at(agreed.layouts(), ty, *leaf) else {
-        return Err(AllocError);
-    };
-    let places = heads(alloc, found)?;
-    match next_place(places.as_slice(), seen.looked.as_slice()) {
+    match next_question(alloc, agreed, ty, *leaf, parts.as_slice(), seen)? {
         None => {
-            let way = end_way(alloc, body, agreed, ty, *leaf, parts.as_slice())?;
-            ways.push(way)?;
+            let ways = end_ways(alloc, body, agreed, ty, *leaf, parts.as_slice())?;
             Ok(ways)
         }
-        Some(place) => {
-            let ways = choose_at(alloc, body, depth - 1, whole, parts, seen, place)?;
+        Some(question) => {
+            let ways = choose_at(alloc, body, depth - 1, whole, parts, seen, &question)?;
             Ok(ways)
         }
     }
 }
 
-// Code that chooses among the leaves of `whole`, as `choose` does, where the next question is the
-// leaf of the part at a place. What is known of the value may tell it; else the code looks there.
+// Code that chooses among the leaves of `whole`, as `choose` does, where this question is next: the
+// leaf of a part. What is known of the value may tell it; else the code looks there.
 #[cycle(fetching)]
 fn choose_at(
     alloc: Global,
@@ -226,34 +285,27 @@ fn choose_at(
     whole: &Whole,
     parts: &mut Seq<Subvalue>,
     seen: &mut Seen,
-    place: &Place,
+    question: &Question,
 ) -> Result<Seq<Way>, AllocError>
-    ensures chooses { IfOk result (λ ways. ChoosesBy whole.now.agreed.now whole.now.ty whole.now.leaves.now
-        seen.old parts.old place.now.path place.now.con.ty body.old body.new ways) }
+    ensures chooses { IfOk result (λ ways. (n : ℕ)
+        → AsksFor whole.now.agreed.now whole.now.ty n seen.old parts.old question.now
+        → ChoosesBy whole.now.agreed.now whole.now.ty whole.now.leaves.now seen.old parts.old
+        question.now.place.path question.now.place.con.ty body.old body.new ways) }
     ensures ways { IfOk result (λ ways. AreOpen (length body.old.code) body.new.code ways) }
     ensures grows { OnOk result (Grows body.old.code body.new.code) }
     ensures parts { OnOk result (parts.new ≡ parts.old) }
     ensures seen { OnOk result (seen.new ≡ seen.old) }
 {
-    if depth == 0 {
-        return Err(AllocError);
-    }
-    let agreed = whole.agreed;
-    let _typed = agreed.covered().program();
-    let own = place.con.ty;
-    let path = place.path.as_slice();
-    let held = words_at(alloc, parts.as_slice(), path, own)?;
-    let words = held.as_slice();
-    let known = seen.known.as_slice();
-    let alone = leaf_known(alloc, agreed.layouts(), own, path, known)?;
+    let place = &question.place;
+    let words = question.words.as_slice();
     let part = Part { place, words };
-    match alone {
+    match question.told {
         Some(inner) => {
-            let ways = choose_under(alloc, body, depth - 1, whole, parts, seen, &part, inner)?;
+            let ways = choose_under(alloc, body, depth, whole, parts, seen, &part, inner)?;
             Ok(ways)
         }
         None => {
-            let ways = look(alloc, body, depth - 1, whole, parts, seen, &part)?;
+            let ways = look(alloc, body, depth, whole, parts, seen, &part)?;
             Ok(ways)
         }
     }
@@ -280,18 +332,11 @@ fn look(
     ensures parts { OnOk result (parts.new ≡ parts.old) }
     ensures seen { OnOk result (seen.new ≡ seen.old) }
 {
-    if depth == 0 {
-        return Err(AllocError);
-    }
-    let agreed = whole.agreed;
     let own = part.place.con.ty;
-    let Some(count) = count_leaves(agreed.layouts(), own) else {
-        return Err(AllocError);
-    };
-    let holes = find_leaf(alloc, body, part.words, agreed, own)?;
-    let branches = choose_each(alloc, body, depth - 1, whole, parts, seen, part, count)?;
-    patch_all(body, holes.as_slice(), branches.starts.as_slice());
-    Ok(branches.ways)
+    let Look { count, holes } = find_leaves(alloc, body, whole.agreed, own, part.words)?;
+    let code = choose_each(alloc, body, depth, whole, parts, seen, part, count)?;
+    let ways = close_look(body, holes, code);
+    Ok(ways)
 }
 
 // The code behind a look at `part` for each of the first `count` leaves of its type, in their
@@ -313,19 +358,15 @@ fn choose_each(
     ensures parts { OnOk result (parts.new ≡ parts.old) }
     ensures seen { OnOk result (seen.new ≡ seen.old) }
 {
-    if depth == 0 {
-        return Err(AllocError);
-    }
-    let mut ways = Seq::new(alloc);
-    let mut starts = Seq::new(alloc);
+    let starts = Seq::new(alloc);
+    let ways = Seq::new(alloc);
+    let mut code = LeafCode { starts, ways };
     for inner in 0..count {
-        starts.push(body.len())?;
-        let more = choose_under(alloc, body, depth - 1, whole, parts, seen, part, inner)?;
-        if let Some(_) = ways.append(more) {
-            return Err(AllocError);
-        }
+        let start = body.len();
+        let ways = choose_under(alloc, body, depth, whole, parts, seen, part, inner)?;
+        add_leaf(&mut code, start, ways)?;
     }
-    Ok(LeafCode { starts, ways })
+    Ok(code)
 }
 
 // The code that goes on where `part` has leaf number `inner` of its type: it chooses among those
@@ -350,38 +391,33 @@ fn choose_under(
     ensures parts { OnOk result (parts.new ≡ parts.old) }
     ensures seen { OnOk result (seen.new ≡ seen.old) }
 {
-    if depth == 0 {
-        return Err(AllocError);
-    }
-    let agreed = whole.agreed;
-    let ty = whole.ty;
-    let place = part.place;
-    let layouts = agreed.layouts();
-    let Below { heads, kept, .. } = below_leaf(alloc, layouts, ty, whole.leaves, place, inner)?;
+    let (agreed, ty, place) = (whole.agreed, whole.ty, part.place);
+    let had = amounts_of(parts, seen);
+    let learnt = learn(alloc, agreed, ty, whole.leaves, place, inner, seen)?;
     let source = Source {
         agreed,
         ty: place.con.ty,
         leaf: inner,
         words: part.words,
     };
-    let needed = take_apart(alloc, layouts, ty, kept.as_slice(), place.path.as_slice())?;
-    let had = parts.len();
-    fetch_fields(alloc, body, depth - 1, &source, &place.path, needed, parts)?;
-    let looked = seen.looked.len();
-    let known = seen.known.len();
-    let types = agreed.covered().program().types.as_slice();
-    see(alloc, types, seen, &place.path, heads)?;
-    let leaves = kept.as_slice();
+    fetch_fields(
+        alloc,
+        body,
+        depth,
+        &source,
+        &place.path,
+        learnt.apart,
+        parts,
+    )?;
+    let leaves = learnt.kept.as_slice();
     let fewer = Whole { agreed, ty, leaves };
-    let ways = choose(alloc, body, depth - 1, &fewer, parts, seen)?;
-    forget(seen, looked, known);
-    parts.truncate(had);
+    let ways = choose(alloc, body, depth, &fewer, parts, seen)?;
+    take_back(parts, seen, had);
     Ok(ways)
 }
 
 // Fetches the fields of `source`, which is the part of a whole at a path, and adds them to `parts`,
-// those of the whole that are in slots; nothing where they are not needed. Want of memory at a
-// `depth` of 0.
+// those of the whole that are in slots; nothing where they are not needed.
 #[cycle(fetching)]
 fn fetch_fields(
     alloc: Global,
@@ -397,27 +433,14 @@ fn fetch_fields(
     ensures parts { OnOk result (take (length parts.old) parts.new ≡ parts.old) }
     ensures grows { OnOk result (Grows body.old.code body.new.code) }
 {
-    if depth == 0 {
-        return Err(AllocError);
-    }
     if !needed {
         return Ok(());
     }
-    let agreed = source.agreed;
-    let _typed = agreed.covered().program();
-    let Some(found) = leaf_at(agreed.layouts(), source.ty, source.leaf) else {
-        return Err(AllocError);
-    };
-    match &found.prov {
-        Pat::Wild(_) | Pat::Var(_, _) | Pat::Num(_, _) => Err(AllocError),
-        Pat::Con(_, root, subs) => {
-            let here = Seq::new(alloc);
-            let subs = subs.as_slice();
-            let fields = fetch_parts(alloc, body, depth - 1, source, *root, subs, &here)?;
-            add_parts(alloc, path, fields.as_slice(), parts)?;
-            Ok(())
-        }
-    }
+    let layer = root_layer(source.agreed, source.ty, source.leaf)?;
+    let root = Seq::new(alloc);
+    let fields = fetch_parts(alloc, body, depth, source, layer.con, layer.subs, &root)?;
+    add_parts(alloc, path, fields.as_slice(), parts)?;
+    Ok(())
 }
 
 /// Code that leaves the part of `source` at a path below its root in slots, a word each. The
@@ -460,7 +483,7 @@ pub(crate) fn fetch_part(
 
 // Code that leaves the parts of `source` at the fields of a constructor in slots, in their order.
 // The constructor stands at a path of the provenance of its leaf, with the subpatterns `subs`, one
-// a field. Want of memory at a `depth` of 0.
+// a field.
 #[cycle(fetching)]
 fn fetch_parts(
     alloc: Global,
@@ -476,18 +499,13 @@ fn fetch_parts(
     ensures grows { OnOk result (Grows body.old.code body.new.code) }
 {
     let mut args = Seq::new(alloc);
-    if depth == 0 {
-        return Err(AllocError);
-    }
-    let agreed = source.agreed;
-    let fields = types_of_fields(agreed.covered().program().types.as_slice(), con);
     for (j, sub) in subs.iter().enumerate() {
-        let Some(field) = fields.get(j) else {
-            return Err(AllocError);
-        };
-        let longer = field_path(alloc, path, j)?;
-        let slots = fetch_part(alloc, body, depth - 1, source, sub, &longer)?;
-        args.push(Held { ty: *field, slots })?;
+        let field = field_at(alloc, source.agreed, con, path, j)?;
+        let slots = fetch_part(alloc, body, depth, source, sub, &field.path)?;
+        args.push(Held {
+            ty: field.ty,
+            slots,
+        })?;
     }
     Ok(args)
 }
@@ -497,7 +515,8 @@ fn fetch_parts(
 ///
 /// # Errors
 ///
-/// Want of memory; the same answer at a `depth` of 0, and where the type has no layout.
+/// Want of memory; the same answer where calls would be nested deeper than `depth`, and where the
+/// type has no layout.
 #[cycle(fetching)]
 pub(crate) fn construct_at(
     alloc: Global,
@@ -512,22 +531,14 @@ pub(crate) fn construct_at(
         (λ held. Constructs agreed.now con args.now shown.now body.old body.new held) }
     ensures grows { OnOk result (Grows body.old.code body.new.code) }
 {
-    if depth == 0 {
-        return Err(AllocError);
-    }
-    let _typed = agreed.covered().program();
-    let Some(layout) = agreed.layouts().get(con.ty as usize) else {
-        return Err(AllocError);
-    };
-    let leaves = layout.leaves.as_slice();
-    match alone(alloc, leaves, con.con)? {
+    match alone_in(alloc, agreed, con)? {
         Some(leaf) => {
             let held = emit_alone(alloc, body, leaf, con, args)?;
             Ok(held)
         }
         None => {
-            let choices = choose_leaf_at(alloc, body, agreed, depth - 1, con, args, shown)?;
-            let held = emit_ways(alloc, body, leaves, con, choices)?;
+            let choices = choose_leaf_at(alloc, body, agreed, depth, con, args, shown)?;
+            let held = emit_choices(alloc, body, agreed, con, choices)?;
             Ok(held)
         }
     }

@@ -13,7 +13,7 @@ ghost use Rattle.rb_fragment.specs.Arms.{AreHoles, ArmsAre, IsJoin};
 ghost use Rattle.rb_compose.specs.Making.{MakesLeaf};
 ghost use Rattle.rb_fetch.specs.Constructing.{Constructs};
 ghost use Rattle.rb_fetch.specs.inner.Choosing.{parts_from};
-ghost use Rattle.rb_fetch.specs.inner.Constructing.{EmitsArm, EmitsArms, IsAlone, IsMet, WaysMeet, meeting_slots, with_moves};
+ghost use Rattle.rb_fetch.specs.inner.Constructing.{AreMet, EmitsArm, EmitsArms, IsAlone, IsAloneIn, IsMet, WaysMeet, meeting_slots, with_moves};
 
 use crate::choice::{Choices, Way};
 use crate::choosing::construct_at;
@@ -73,6 +73,28 @@ pub(crate) fn alone(alloc: Global, leaves: &[Leaf], con: u32) -> Result<Option<&
         }
     }
     Ok(None)
+}
+
+/// The leaf of all values of the constructor `con`, where `alone` finds it among those of the
+/// type's layout; None where there are more.
+///
+/// # Errors
+///
+/// Want of memory; the same answer where the type has no layout.
+pub(crate) fn alone_in(
+    alloc: Global,
+    agreed: &Agreed,
+    con: ConRef,
+) -> Result<Option<&Leaf>, AllocError>
+    ensures { IfOk result (λ found. (leaf : LeafValue) → option_copied found ≡ Some leaf
+        → IsAloneIn agreed.now con leaf) }
+{
+    let _typed = agreed.covered().program();
+    let Some(layout) = agreed.layouts().get(con.ty as usize) else {
+        return Err(AllocError);
+    };
+    let found = alone(alloc, layout.leaves.as_slice(), con.con)?;
+    Ok(found)
 }
 
 /// Code that makes a value in the one leaf for its constructor, from the values of its fields, in
@@ -146,6 +168,26 @@ pub(crate) fn emit_ways(
         ty: Ty::Named(con.ty),
         slots,
     })
+}
+
+/// What `emit_ways` appends, for the leaves of the layout of the constructor's type. Want of memory
+/// is the answer where there are no ways, or no layout.
+pub(crate) fn emit_choices(
+    alloc: Global,
+    body: &mut Body,
+    agreed: &Agreed,
+    con: ConRef,
+    choices: Choices,
+) -> Result<Held, AllocError>
+    requires holes { (from : ℕ) × AreHoles from (length choices.ways) body.old.code choices.holes }
+    ensures { IfOk result (λ held. AreMet agreed.now con.ty choices body.old body.new held) }
+{
+    let _typed = agreed.covered().program();
+    let Some(layout) = agreed.layouts().get(con.ty as usize) else {
+        return Err(AllocError);
+    };
+    let held = emit_ways(alloc, body, layout.leaves.as_slice(), con, choices)?;
+    Ok(held)
 }
 
 // The arms of the ways, one behind the other, each with its words in the slots of the first one.

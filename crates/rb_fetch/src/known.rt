@@ -6,16 +6,21 @@
 
 ghost use Rattle.std.specs.Prelude.{◌≡◌, ◌++◌, [], IfOk, OnOk, map};
 ghost use Rattle.std.specs.Option.{option_copied};
+ghost use Rattle.rb_layout.specs.Positions.{layout_of, leaves_of_layout};
+ghost use Rattle.rb_fetch.specs.inner.Asking.{IsLearnt};
 ghost use Rattle.rb_fetch.specs.inner.Choosing.{HasRootCon};
 ghost use Rattle.rb_fetch.specs.inner.Fields.{leaf_at};
-ghost use Rattle.rb_fetch.specs.inner.Heads.{behind, head_behind, head_under, heads_behind, heads_in, known_con, leaf_known, leaves_beside, leaves_that_can_be, shown_heads, sole};
+ghost use Rattle.rb_fetch.specs.inner.Heads.{behind, head_behind, head_under, heads_behind, heads_in, known_con, leaf_known, leaves_beside, leaves_for, leaves_that_can_be, shown_heads, sole};
 ghost use Rattle.rb_fetch.specs.inner.Seen.{seen_before, seen_more};
 
-use crate::heads::{Place, bare_paths, heads_under, leaf_at, leaves_beside, leaves_with};
+use crate::heads::{
+    Place, bare_paths, heads_under, leaf_at, leaves_beside, leaves_with, take_apart,
+};
 use crate::parts::{leaves_by, root_of};
 use crate::rebuild::copy_path;
 use rb_core::seq::Seq;
 use rb_core::types::{ConRef, DataDecl};
+use rb_layout::agreed::Agreed;
 use rb_layout::layout::Layout;
 use rb_layout::paths::same_path;
 use std::alloc::{AllocError, Global};
@@ -68,6 +73,41 @@ pub(crate) fn below_leaf(
     let with_root = leaves_with(alloc, layouts, ty, leaves, place.path.as_slice(), root)?;
     let kept = leaves_beside(alloc, layouts, ty, with_root, heads.as_slice())?;
     Ok(Below { root, heads, kept })
+}
+
+/// What is learnt where a part has a leaf: the leaves that the whole can still have, and whether
+/// one of them takes the part apart.
+#[derive(Drop)]
+pub(crate) struct Learnt {
+    pub kept: Seq<usize>,
+    pub apart: bool,
+}
+
+/// What follows where the part of a whole at a place has this leaf, as `below_leaf` has it: `seen`
+/// is more by a look there and by the constructors of the part.
+///
+/// # Errors
+///
+/// Want of memory; the same answer where there is no such leaf.
+pub(crate) fn learn(
+    alloc: Global,
+    agreed: &Agreed,
+    ty: u32,
+    leaves: &[usize],
+    place: &Place,
+    leaf: usize,
+    seen: &mut Seen,
+) -> Result<Learnt, AllocError>
+    ensures { IfOk result (λ learnt. IsLearnt agreed.now ty leaves.now place.now leaf seen.old seen.new learnt) }
+{
+    let _typed = agreed.covered().program();
+    let layouts = agreed.layouts();
+    let below = below_leaf(alloc, layouts, ty, leaves, place, leaf)?;
+    let Below { heads, kept, .. } = below;
+    let apart = take_apart(alloc, layouts, ty, kept.as_slice(), place.path.as_slice())?;
+    let types = agreed.covered().program().types.as_slice();
+    see(alloc, types, seen, &place.path, heads)?;
+    Ok(Learnt { kept, apart })
 }
 
 /// Adds to `seen` that a look was at the position `path`, and that the constructors `places` stand
@@ -184,6 +224,26 @@ fn sole(leaves: &[usize]) -> Option<usize>
     }
 }
 
+/// The leaves that a value by the constructor `con` can have, by number and in their order, where
+/// these constructors are known to stand in it; none where its type has no layout.
+///
+/// # Errors
+///
+/// Want of memory.
+pub(crate) fn leaves_known(
+    alloc: Global,
+    layouts: &[Layout],
+    con: ConRef,
+    known: &[Place],
+) -> Result<Seq<usize>, AllocError>
+    ensures { IfOk result (λ found. found ≡ leaves_beside layouts.now con.ty (shown_heads known.now)
+        (leaves_for con.con (leaves_of_layout (layout_of layouts.now con.ty)) 0)) }
+{
+    let all = leaves_by(alloc, layouts, con)?;
+    let leaves = leaves_beside(alloc, layouts, con.ty, all, known)?;
+    Ok(leaves)
+}
+
 /// The leaf of the part of data type `ty` at the position `path`, by number, where `known`, the
 /// constructors that are known of the whole, leave one by what stands there and below. None where
 /// they leave more or none, or tell no constructor at the position itself.
@@ -204,7 +264,6 @@ pub(crate) fn leaf_known(
         return Ok(None);
     };
     let below = heads_behind(alloc, known, path)?;
-    let all = leaves_by(alloc, layouts, ConRef { ty, con })?;
-    let leaves = leaves_beside(alloc, layouts, ty, all, below.as_slice())?;
+    let leaves = leaves_known(alloc, layouts, ConRef { ty, con }, below.as_slice())?;
     Ok(sole(leaves.as_slice()))
 }

@@ -95,6 +95,7 @@
 //! a leaf in which its location does.
 #![tactic(auto)]
 
+mod asking;
 mod choice;
 mod choosing;
 pub mod construct;

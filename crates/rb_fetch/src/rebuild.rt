@@ -4,25 +4,29 @@
 //! constructor is taken apart: the leaf has only its fields, and it is rebuilt, that is,
 //! constructed of them again, in its own type's layout.
 
-ghost use Rattle.std.specs.Prelude.{◌≡◌, Some, IfOk, OnOk};
+ghost use Rattle.std.specs.Prelude.{◌≡◌, ◌++◌, ◌∷◌, [], Some, IfOk, OnOk, slice_get};
 ghost use Rattle.std.specs.Option.{option_copied};
+ghost use Rattle.rb_core.specs.Values.{fields_of};
+ghost use Rattle.rb_layout.specs.Positions.{types_or_none};
 ghost use Rattle.rb_target.specs.Growth.{Grows};
 ghost use Rattle.rb_fetch.specs.Fields.{FetchesField};
-ghost use Rattle.rb_fetch.specs.inner.Rebuilding.{FetchesOpen, pattern_at, sub_at};
+ghost use Rattle.rb_fetch.specs.inner.Rebuilding.{FetchesOpen, IsRootLayer, pattern_at, sub_at};
 
 use crate::choosing::{Source, fetch_part};
 use crate::field::{copy_slots, field_reads};
-use crate::heads::leaf_at;
+use crate::heads::{field_path, leaf_at};
+use rb_core::inference::types_of_fields;
 use rb_core::pattern::Pat;
 use rb_core::seq::Seq;
+use rb_core::types::{ConRef, Ty};
 use rb_fragment::make::make_all;
 use rb_fragment::reads::slot_reads;
 use rb_layout::agreed::Agreed;
 use rb_target::body::Body;
 use std::alloc::{AllocError, Global};
 
-/// So many calls of fetching, constructing and choosing may be nested. They always end before: flattening has no
-/// cycle, and patterns are finite.
+/// So many calls of choosing and fetching may be nested. They always end before: flattening has no cycle, and patterns
+/// are finite.
 pub(crate) const DEPTH: usize = 4294967295;
 
 /// What `fetch_field` appends, where `depth` calls may be nested still: the part at the position
@@ -113,6 +117,65 @@ fn sub_at(pat: &Pat, field: u32) -> Option<&Pat>
         Pat::Wild(_) | Pat::Var(_, _) | Pat::Num(_, _) => None,
         Pat::Con(_, _, subs) => subs.get(field as usize),
     }
+}
+
+/// A constructor of a provenance, and its subpatterns, one a field.
+#[derive(Clone, Copy)]
+pub(crate) struct Layer<'a> {
+    pub con: ConRef,
+    pub subs: &'a [Pat],
+}
+
+/// The constructor at the root of the provenance of leaf number `leaf` of type `ty`.
+///
+/// # Errors
+///
+/// Want of memory, in place of an answer, where there is no such leaf, or no constructor at its
+/// root.
+pub(crate) fn root_layer(agreed: &Agreed, ty: u32, leaf: usize) -> Result<Layer<'_>, AllocError>
+    ensures { IfOk result (λ layer. IsRootLayer agreed.now ty leaf layer.con layer.subs.now) }
+{
+    let _typed = agreed.covered().program();
+    let Some(found) = leaf_at(agreed.layouts(), ty, leaf) else {
+        return Err(AllocError);
+    };
+    match &found.prov {
+        Pat::Wild(_) | Pat::Var(_, _) | Pat::Num(_, _) => Err(AllocError),
+        Pat::Con(_, con, subs) => Ok(Layer {
+            con: *con,
+            subs: subs.as_slice(),
+        }),
+    }
+}
+
+/// A field of a constructor: its type and its position.
+#[derive(Drop)]
+pub(crate) struct Field {
+    pub ty: Ty,
+    pub path: Seq<u32>,
+}
+
+/// The field with this number of the constructor `con`, which stands at the position `path`.
+///
+/// # Errors
+///
+/// Want of memory; the same answer where the constructor has no such field.
+pub(crate) fn field_at(
+    alloc: Global,
+    agreed: &Agreed,
+    con: ConRef,
+    path: &Seq<u32>,
+    number: usize,
+) -> Result<Field, AllocError>
+    ensures { IfOk result (λ field. (field.path ≡ path.now ++ number ∷ [])
+        × (slice_get (types_or_none (fields_of agreed.now.covered.program.types con)) number ≡ Some field.ty)) }
+{
+    let fields = types_of_fields(agreed.covered().program().types.as_slice(), con);
+    let Some(ty) = fields.get(number) else {
+        return Err(AllocError);
+    };
+    let path = field_path(alloc, path, number)?;
+    Ok(Field { ty: *ty, path })
 }
 
 /// Code that leaves the words of the field at `path`, an open position of leaf number `leaf` of

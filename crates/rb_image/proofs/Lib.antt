@@ -66,6 +66,7 @@ pub mod SpotLemmas
 pub mod StandLemmas
 pub mod StandingLeaves
 pub mod StandingParts
+pub mod StepLemmas
 pub mod TreeSpans
 pub mod ViewLemmas
 pub mod VisitLemmas

@@ -12,11 +12,13 @@ use Rattle.rb_layout.specs.declared.layout.Layout.{Layout}
 use Rattle.rb_layout.specs.declared.layout.Leaf.{Leaf}
 use Rattle.rb_image_text.specs.declared.fault.ImageFault.{ImageFault}
 use Rattle.rb_image_text.specs.declared.image.ImageBlock.{ImageBlock}
+use Rattle.rb_image.specs.Given.{IsGiven}
 use Rattle.rb_image.specs.Rebuilds.{leaf_chosen, match_field, match_fields, matches, or_later}
 use Rattle.rb_image.specs.Splits.{and_then}
 use Rattle.rb_image.specs.Views.{LeafPosition, down}
 use Rattle.rb_image.specs.inner.Standing.{first_fault, or_before}
 use Rattle.rb_image.proofs.DropLemmas.{drop_item}
+use Rattle.rb_image.proofs.GivenLemmas.{first_err}
 
 abbrev pub total : List ℕ → ℕ
 total [] = 0
@@ -51,13 +53,24 @@ module _ (types : List DataDecl) (layouts : List Layout) (m : List ImageBlock) w
   abbrev Match : Pat → LeafPosition → Result Bool ImageFault
   Match = matches types layouts m
 
-  -- fields from one on that is there
-  pub fields_on : (ps : List Pat) (i : ℕ) (p : Pat) (x y : LeafPosition) → slice_get ps i ≡ Some p → down types x i ≡ Some y
-      → match_fields types (map Match (drop i ps)) x i
-      ≡ and_then (Match p y) (λ so. if so then match_fields types (map Match (drop (i + 1) ps)) x (i + 1) else Ok false)
-  fields_on ps i p x y is there =
-      ap (λ qs. match_fields types (map Match qs) x i) (drop_item ps i p is)
-      ∙ ap (λ o. and_then (match_field (Match p) o) (λ so. if so then match_fields types (map Match (drop (i + 1) ps)) x (i + 1) else Ok false)) there
+  -- fields from one on
+  module _ (ps : List Pat) (i : ℕ) (p : Pat) (x : LeafPosition) (is : slice_get ps i ≡ Some p) where
+    abbrev from : ℕ → Result Bool ImageFault
+    from k = match_fields types (map Match (drop k ps)) x k
+
+    abbrev here : Result Bool ImageFault
+    here = match_field (Match p) (down types x i)
+
+    abbrev and_rest : Bool → Result Bool ImageFault
+    and_rest so = if so then from (i + 1) else Ok false
+
+    module _ (due : Result Bool ImageFault) (so : ◌≡◌ {A = Result Bool ImageFault} due (from i)) where
+      split : ◌≡◌ {A = Result Bool ImageFault} due (and_then here and_rest)
+      split = so ∙ ap (λ qs. match_fields types (map Match qs) x i) (drop_item ps i p is)
+
+      -- of the first it is not known whether it matches
+      pub field_err : (fault : ImageFault) → IsGiven (λ (b : Bool). b) here (Err fault) → IsGiven (λ (b : Bool). b) due (Err fault)
+      field_err fault given = first_err (λ (b : Bool). b) (λ (b : Bool). b) due here and_rest fault split given
 
   -- Leaves -----------------------------------------------------------------------------------
   module _ (leaves : List Leaf) (k : ℕ) (leaf : Leaf) (x : LeafPosition) (is : slice_get leaves k ≡ Some leaf) where

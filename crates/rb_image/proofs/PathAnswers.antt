@@ -25,7 +25,7 @@ use Rattle.rb_image.specs.Paths.{IsFaultless, IsPathFault, IsWalked, is_there, p
 use Rattle.rb_image.specs.Roots.{WordsFit, kept_from, layout_widths, widths_of}
 use Rattle.rb_image.specs.Sites.{kept_of}
 use Rattle.rb_image.specs.Walks.{Waypoint, Where, end_of_path, where_of}
-use Rattle.rb_image.specs.inner.Checking.{IsFoundOn, all_seen, fault_among, fault_at, fault_of_seen, fault_seen, has_word, is_kept_at, words_of_path}
+use Rattle.rb_image.specs.inner.Checking.{IsFoundOn, all_seen, fault_among, fault_at, fault_of_seen, fault_on_path, fault_seen, has_word, is_kept_at, words_of_path}
 use Rattle.rb_image.proofs.PathSubvalues.{walk_stops}
 use Rattle.rb_image.proofs.PathWalks.{Walks}
 use Rattle.rb_image.proofs.PathWords.{found_fault, no_fault}
@@ -68,18 +68,18 @@ walk_given : (due : Walks) (w : Walk) → IsGiven where_of due (Ok w) → ◌≡
 walk_given (Ok v) w given = ap (λ (x : Where). Ok x) (sym given)
 walk_given (Err fault) w given = absurd given
 
+-- the fault in words that were found is the one in words on the path
+pub same_faults : (layouts : List Layout) (image : Image) (seen : List Waypoint) (found : List WordAt) → IsFoundOn layouts image seen found
+    → fault_of_seen (has_word found) image.blocks seen ≡ fault_on_path layouts image seen
+same_faults layouts image seen found here = seen_same (has_word found) (is_kept_at (words_of_path layouts image seen)) here image.blocks seen
+
 module _ (types : List DataDecl) (layouts : List Layout) (image : Image) (t : ℕ) (path : List ℕ) where
   abbrev due : Walks
   due = end_of_path types layouts image.blocks t (kept_from 0 image.root) path
 
-  -- the walk came to the end
-  pub came : (ws : List Kept) → ws ≡ kept_from 0 image.root → (w : Walk) → IsGiven where_of (end_of_path types layouts image.blocks t ws path) (Ok w) → IsWalked types layouts image t path w
-  came ws same w given = walk_given due w (subst (λ (xs : List Kept). IsGiven where_of (end_of_path types layouts image.blocks t xs path) (Ok w)) same given)
-
   -- the walk stopped
-  pub stopped : AreInPlace image.blocks → AreWell layouts → (ws : List Kept) → ws ≡ kept_from 0 image.root → (fault : ImageFault) → IsGiven where_of (end_of_path types layouts image.blocks t ws path) (Err fault)
-      → IsPathFault types layouts image t path fault
-  stopped placed well ws same fault given = go due refl (subst (λ (xs : List Kept). IsGiven where_of (end_of_path types layouts image.blocks t xs path) (Err fault)) same given)
+  pub stopped : AreInPlace image.blocks → AreWell layouts → (fault : ImageFault) → IsGiven where_of due (Err fault) → IsPathFault types layouts image t path fault
+  stopped placed well fault given = go due refl given
     where
       at : (f : ImageFault) → ◌≡◌ {A = Walks} due (Err f) → IsPathFault types layouts image t path f
       at f is = elim (walk_stops types layouts image t path placed well f is) [
@@ -94,17 +94,15 @@ module _ (types : List DataDecl) (layouts : List Layout) (image : Image) (t : �
         | inr memory ↦ inr (inr memory)
       ]
 
-  module _ (w : Walk) (is : IsWalked types layouts image t path w) (found : List WordAt) (here : IsFoundOn layouts image (all_seen (where_of w)) found) where
-    abbrev seen : List Waypoint
-    seen = all_seen (where_of w)
-
-    same_faults : fault_of_seen (has_word found) image.blocks seen ≡ fault_of_seen (is_kept_at (words_of_path layouts image seen)) image.blocks seen
-    same_faults = seen_same (has_word found) (is_kept_at (words_of_path layouts image seen)) here image.blocks seen
+  module _ (w : Walk) (given : IsGiven where_of due (Ok w)) where
+    -- the walk came to the end
+    pub came : IsWalked types layouts image t path w
+    came = walk_given due w given
 
     -- no fault was found
-    pub faultless : fault_of_seen (has_word found) image.blocks seen ≡ None → IsFaultless types layouts image t path
-    faultless none = no_fault types layouts image t path (where_of w) is (sym same_faults ∙ none)
+    pub faultless : (fault : Option ImageFault) → fault ≡ fault_on_path layouts image (all_seen (where_of w)) → fault ≡ None → IsFaultless types layouts image t path
+    faultless fault is none = no_fault types layouts image t path (where_of w) came (sym is ∙ none)
 
     -- a fault was found
-    pub faulty : (fault : ImageFault) → fault_of_seen (has_word found) image.blocks seen ≡ Some fault → IsPathFault types layouts image t path fault
-    faulty fault some = inl (found_fault types layouts image t path (where_of w) is fault (sym same_faults ∙ some))
+    pub faulty : (found : Option ImageFault) (fault : ImageFault) → found ≡ fault_on_path layouts image (all_seen (where_of w)) → found ≡ Some fault → IsPathFault types layouts image t path fault
+    faulty found fault is some = inl (found_fault types layouts image t path (where_of w) came fault (sym is ∙ some))

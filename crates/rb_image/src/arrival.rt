@@ -96,10 +96,10 @@ fn at_root<'a>(
     })
 }
 
-/// The arrival at the root of its own leaf of a value without pointers, of the data type `ty`, at
-/// these words. An error is the first fault of its splits or of its leaf's parts, or `Memory`, also
-/// for a type without a layout, which no declared type is.
-pub(crate) fn take_apart<'a>(
+// The arrival at the root of its own leaf of a value without pointers, of the data type `ty`, at
+// these words. An error is the first fault of its splits or of its leaf's parts, or `Memory`, also
+// for a type without a layout, which no declared type is.
+fn take_apart<'a>(
     alloc: Global,
     agreed: &'a Agreed,
     ty: u32,
@@ -145,6 +145,38 @@ fn settle<'a>(
             take_apart(alloc, agreed, ty, words)
         }
     }
+}
+
+// The arrival at the position of a view, which lends it the words of the leaf.
+fn lent<'a>(alloc: Global, view: &View<'a>) -> Result<Arrival<'a>, AllocError>
+    ensures come { IfOk result (λ x. come_to x ≡ position_shown view.now) }
+    ensures read { (m : List ImageBlock) → IsShown m view.now → IfOk result (IsArrival m) }
+{
+    let at = Vec::from_slice(alloc, view.at)?;
+    Ok(Arrival {
+        leaf: view.leaf,
+        source: Source::Lent(view.words),
+        at: Seq::from_vec(at),
+        here: view.here,
+    })
+}
+
+/// The arrival at the position of a view, or, where that is an open position of a data type, at the
+/// root of the value's own leaf, with the errors of `take_apart`.
+pub(crate) fn settled<'a>(
+    alloc: Global,
+    agreed: &'a Agreed,
+    image: &Image,
+    view: &View<'a>,
+) -> Result<Arrival<'a>, ImageFault>
+    requires placed { AreInPlace image.now.blocks }
+    requires shown { IsShown image.now.blocks view.now }
+    ensures come { IsGiven come_to
+        (spec.settled_here agreed.now.layouts image.now.blocks (position_shown view.now)) result }
+    ensures read { IfOk result (IsArrival image.now.blocks) }
+{
+    let here = lent(alloc, view)?;
+    settle(alloc, agreed, image, here)
 }
 
 // To a field of the value at an arrival, in its own leaf if the position is open. It is there where
@@ -198,12 +230,7 @@ pub(crate) fn along<'a>(
         (position_shown from.now) path.now) result }
     ensures read { IfOk result (IsArrival image.now.blocks) }
 {
-    let mut here = Arrival {
-        leaf: from.leaf,
-        source: Source::Lent(from.words),
-        at: Seq::from_vec(Vec::from_slice(alloc, from.at)?),
-        here: from.here,
-    };
+    let mut here = lent(alloc, from)?;
     for field in path {
         here = step_down(alloc, agreed, image, here, *field)?;
     }

@@ -16,8 +16,8 @@ ghost use Rattle.rb_image.specs.LeafWords.{HasNumbers};
 ghost use Rattle.rb_image.specs.Orders.{order_of};
 ghost use Rattle.rb_image.specs.Paths as spec;
 ghost use Rattle.rb_image.specs.Walks.{ArePassed, IsPassed, seen_of, where_of};
-ghost use Rattle.rb_image.specs.inner.Checking.{all_seen, fault_among, fault_at, fault_of_seen, fault_seen, has_word};
-ghost use Rattle.rb_image.specs.inner.Checking.{IsFoundOn, first_ahead, stand_of, words_seen};
+ghost use Rattle.rb_image.specs.inner.Checking.{all_seen, fault_among, fault_at, fault_of_seen, fault_on_path};
+ghost use Rattle.rb_image.specs.inner.Checking.{IsFoundOn, fault_seen, first_ahead, has_word, stand_of, words_seen};
 ghost use Rattle.rb_image.specs.inner.Reaching.{IsLeafPart};
 ghost use Rattle.rb_image.specs.inner.Viewing.{spot_part};
 ghost use Rattle.rb_image_text.specs.Places.{AreInPlace};
@@ -84,7 +84,8 @@ fn add_splits(
     Ok(())
 }
 
-// Adds the words of a subvalue on a path: those that its splits read, and those that hold what comes next.
+// Adds the words of a subvalue on a path: those that its splits read, and those that hold what
+// comes next.
 fn add_seen(
     alloc: Global,
     agreed: &Agreed,
@@ -101,9 +102,9 @@ fn add_seen(
     add_ahead(alloc, image, passed, found)
 }
 
-/// The words on the path of a walk: those of the root; those that the splits of each subvalue on it read; those that
-/// hold what comes next on it or below that; and those whose pointers lead to them.
-pub(crate) fn words_of(
+// The words on the path of a walk: those of the root; those that the splits of each subvalue on it
+// read; those that hold what comes next on it or below that; and those whose pointers lead to them.
+fn words_of(
     alloc: Global,
     agreed: &Agreed,
     image: &Image,
@@ -207,9 +208,9 @@ fn fault_seen(
     fault_among(alloc, image, path, visited.leaf, &visited.words)
 }
 
-/// The first fault of the leaves of the subvalues on the path of a walk in words on the path, outer
-/// subvalues first; none where they have none.
-pub(crate) fn fault_of(
+// The first fault of the leaves of the subvalues on the path of a walk in the words `path`, outer
+// subvalues first; none where they have none.
+fn fault_of(
     alloc: Global,
     image: &Image,
     path: &PathWords,
@@ -227,4 +228,21 @@ pub(crate) fn fault_of(
         }
     }
     fault_seen(alloc, image, path, &walk.last)
+}
+
+/// The first fault of the leaves of the subvalues on the path of a walk in words on the path, outer
+/// subvalues first; none where they have none.
+pub(crate) fn fault_on_path(
+    alloc: Global,
+    agreed: &Agreed,
+    image: &Image,
+    walk: &Walk,
+) -> Result<Option<ImageFault>, AllocError>
+    requires placed { AreInPlace image.now.blocks }
+    requires passed { ArePassed image.now walk.now }
+    ensures { IfOk result
+        (λ fault. fault ≡ fault_on_path agreed.now.layouts image.now (all_seen (where_of walk.now))) }
+{
+    let words = words_of(alloc, agreed, image, walk)?;
+    fault_of(alloc, image, &words, walk)
 }

@@ -11,13 +11,13 @@ ghost use Rattle.std.specs.Prelude.{◌≡◌, ◌↔◌, IsTrue, map};
 ghost use Rattle.rb_core.specs.declared.pattern.Pat.{out-Pat};
 ghost use Rattle.rb_image.specs.Given.{IsGiven};
 ghost use Rattle.rb_image.specs.Rebuilds as spec;
+ghost use Rattle.rb_image.specs.Views.{down};
 ghost use Rattle.rb_image.specs.inner.Standing.{IsShown, first_fault, position_shown};
 ghost use Rattle.rb_image_text.specs.Places.{AreInPlace};
 ghost use Rattle.rb_image_text.specs.declared.fault.ImageFault.TheVariants.{Memory};
 
-use crate::arrival::take_apart;
+use crate::arrival::settled;
 use crate::view::View;
-use crate::walk::open_data;
 use rb_core::pattern::Pat;
 use rb_core::types::ConRef;
 use rb_image_text::fault::ImageFault;
@@ -55,14 +55,10 @@ fn matches(
         Pat::Wild(_) => Ok(true),
         Pat::Var(_, _) => Ok(true),
         Pat::Num(_, _) => Ok(false),
-        Pat::Con(_, con, pats) => match open_data(view.here) {
-            None => match_con(alloc, agreed, image, *con, pats.as_slice(), view),
-            Some(ty) => {
-                let words = view.words_here(alloc, image, agreed.layouts(), ty)?;
-                let own = take_apart(alloc, agreed, ty, words)?;
-                match_con(alloc, agreed, image, *con, pats.as_slice(), &own.view())
-            }
-        },
+        Pat::Con(_, con, pats) => {
+            let own = settled(alloc, agreed, image, &*view)?;
+            match_con(alloc, agreed, image, *con, pats.as_slice(), &own.view())
+        }
     }
 }
 
@@ -110,18 +106,38 @@ fn match_fields(
         (map (spec.matches agreed.now.covered.program.types agreed.now.layouts image.now.blocks) pats.now)
         (position_shown view.now) 0) result }
 {
-    let types = agreed.covered().program().types.as_slice();
     for (i, pat) in pats.iter().enumerate() {
-        let field = number_of(i)?;
-        let at = path_below(alloc, view.at, field as usize)?;
-        let Some(below) = view.down(image, types, at.as_slice(), field) else {
-            return Ok(false);
-        };
-        if !matches(alloc, agreed, image, pat, &below)? {
+        if !match_field(alloc, agreed, image, pat, view, i)? {
             return Ok(false);
         }
     }
     Ok(true)
+}
+
+// Whether a pattern matches field `i` of the constructor at a position, and false where that has no
+// such field.
+#[cycle(matching)]
+fn match_field(
+    alloc: Global,
+    agreed: &Agreed,
+    image: &Image,
+    pat: &Pat,
+    view: &View,
+    i: usize,
+) -> Result<bool, ImageFault>
+    requires placed { AreInPlace image.now.blocks }
+    requires shown { IsShown image.now.blocks view.now }
+    ensures { IsGiven (λ so. so) (spec.match_field
+        (spec.matches agreed.now.covered.program.types agreed.now.layouts image.now.blocks pat.now)
+        (down agreed.now.covered.program.types (position_shown view.now) i)) result }
+{
+    let types = agreed.covered().program().types.as_slice();
+    let field = number_of(i)?;
+    let at = path_below(alloc, view.at, field as usize)?;
+    match (&*view).down(image, types, at.as_slice(), field) {
+        None => Ok(false),
+        Some(below) => matches(alloc, agreed, image, pat, &below),
+    }
 }
 
 // Whether a fault is want of memory, which ends the choice of a leaf at once.

@@ -100,8 +100,8 @@ fn add_part<'a>(
     }
 }
 
-// Adds the parts of word `number`, which begins at byte `byte` of its block, by offset, behind each those of the block
-// to which it points.
+// Adds the parts of word `number`, which begins at byte `byte` of its block, by offset, behind each
+// those of the block to which it points.
 #[cycle(ordering)]
 fn add_word<'a>(
     alloc: Global,

@@ -4,18 +4,21 @@
 //! subvalues of data types on it. `agreed` has the program's types and their layouts, and `steps`
 //! counts the words that are read.
 
-ghost use Rattle.std.specs.Prelude.{◌+◌, ◌<◌, ◌≤◌, IfErr, IfOk, OnOk, length};
+ghost use Rattle.std.specs.Prelude.{◌≡◌, ◌+◌, ◌<◌, ◌≤◌, IfErr, IfOk, OnOk, length};
 ghost use Rattle.rb_core.specs.TypedPrograms.{IsTyped};
 ghost use Rattle.rb_core.specs.declared.types.Ty.TheVariants.{Named};
+ghost use Rattle.rb_layout.specs.Agreement.{Agrees};
+ghost use Rattle.rb_layout.specs.Flattening.{flat_layouts};
 ghost use Rattle.rb_image.specs.FieldSites.{AreWords};
+ghost use Rattle.rb_image.specs.Given.{IsGiven};
 ghost use Rattle.rb_image.specs.Paths.{IsFaultless, IsPathFault, IsWalked};
 ghost use Rattle.rb_image.specs.Roots.{WordsFit, kept_from, widths_of};
 ghost use Rattle.rb_image.specs.Values.{IsDeclared};
 ghost use Rattle.rb_image.specs.Walks as spec;
-ghost use Rattle.rb_image.specs.Walks.{ArePassed};
+ghost use Rattle.rb_image.specs.Walks.{ArePassed, where_of};
 ghost use Rattle.rb_image_text.specs.Places.{AreInPlace};
 
-use crate::check::{fault_of, words_of};
+use crate::check::fault_on_path;
 use crate::fields::root_sites;
 use crate::walk::{Walk, tell_orderly, walk_along};
 use rb_core::types::Ty;
@@ -33,6 +36,15 @@ pub(crate) fn tell_typed(agreed: &Agreed)
     let _ = agreed.covered().program();
 }
 
+// Tells proofs that the layouts are those of the program, and agree with its types. Nothing else is
+// done.
+fn tell_agreed(agreed: &Agreed)
+    ensures flat { agreed.now.layouts ≡ flat_layouts agreed.now.covered.program }
+    ensures agree { Agrees agreed.now.covered.program }
+{
+    let _ = agreed.layouts();
+}
+
 // Tells proofs that these words have at most 64 bits. Nothing else is done.
 fn tell_words(words: &[u64])
     ensures { AreWords words.now }
@@ -40,6 +52,32 @@ fn tell_words(words: &[u64])
     for word in words {
         let _ = *word;
     }
+}
+
+// Where `walk_along` leads from the root words of an image, which fit the type, with its errors.
+fn walk_from_root<'a, L: Ledger>(
+    alloc: Global,
+    agreed: &'a Agreed,
+    image: &Image,
+    ty: u32,
+    path: &[u32],
+    steps: &mut Steps<L>,
+) -> Result<Walk<'a>, ImageFault>
+    requires placed { AreInPlace image.now.blocks }
+    requires declared { ty < length agreed.now.covered.program.types }
+    requires fit { WordsFit (widths_of agreed.now.layouts (Named ty)) image.now.root }
+    ensures walk { IsGiven where_of (spec.end_of_path agreed.now.covered.program.types agreed.now.layouts
+        image.now.blocks ty (kept_from 0 image.now.root) path.now) result }
+    ensures passed { IfOk result (ArePassed image.now) }
+    ensures least { steps.old.taken ≤ steps.new.taken }
+    ensures most { steps.new.taken ≤ steps.old.taken
+        + spec.walk_span agreed.now.covered.program.types agreed.now.layouts image.now.blocks
+        ty (kept_from 0 image.now.root) path.now }
+{
+    tell_words(image.root.as_slice());
+    let count = word_count(agreed.layouts(), Ty::Named(ty));
+    let sites = root_sites(alloc, count)?;
+    walk_along(alloc, agreed, image, ty, sites, path, steps)
 }
 
 /// Where a path of field numbers leads from the root of an image, whose words fit the type, if no word on the path is
@@ -81,12 +119,9 @@ pub fn follow_path<'a, L: Ledger>(
 {
     tell_orderly(agreed);
     tell_typed(agreed);
-    tell_words(image.root.as_slice());
-    let count = word_count(agreed.layouts(), Ty::Named(ty));
-    let sites = root_sites(alloc, count)?;
-    let walk = walk_along(alloc, agreed, image, ty, sites, path, steps)?;
-    let words = words_of(alloc, agreed, image, &walk)?;
-    match fault_of(alloc, image, &words, &walk)? {
+    tell_agreed(agreed);
+    let walk = walk_from_root(alloc, agreed, image, ty, path, steps)?;
+    match fault_on_path(alloc, agreed, image, &walk)? {
         None => Ok(walk),
         Some(fault) => Err(fault),
     }

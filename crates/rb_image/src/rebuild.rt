@@ -8,12 +8,13 @@
 //! known, or `Memory`: want of memory, or that there is no layout, leaf, field or level to go on
 //! with.
 
-ghost use Rattle.std.specs.Prelude.{◌≡◌, ◌∷◌, [], IfOk, Ok};
+ghost use Rattle.std.specs.Prelude.{◌≡◌, ◌++◌, ◌∷◌, [], IfOk, Ok, OnOk};
+ghost use Rattle.rb_layout.specs.Opens.{opens_at};
+ghost use Rattle.rb_layout.specs.Positions.{open_positions};
 ghost use Rattle.rb_image.specs.Given.{IsGiven};
 ghost use Rattle.rb_image.specs.Rebuilds as spec;
 ghost use Rattle.rb_image.specs.Views.{integer_here, words_here};
-ghost use Rattle.rb_image.specs.Walks.{ArePassed, where_of};
-ghost use Rattle.rb_layout.specs.Opens.{opens_at};
+ghost use Rattle.rb_image.specs.Walks.{ArePassed, layout_at, where_of};
 ghost use Rattle.rb_image.specs.inner.Standing.{IsShown, position_shown};
 ghost use Rattle.rb_image_text.specs.Places.{AreInPlace};
 
@@ -30,6 +31,7 @@ use rb_core::types::Ty;
 use rb_image_text::fault::ImageFault;
 use rb_image_text::image::Image;
 use rb_layout::agreed::Agreed;
+use rb_layout::layout::Leaf;
 use rb_layout::opens::{OpenPosition, opens};
 use std::alloc::{AllocError, Global};
 
@@ -77,6 +79,53 @@ fn open_words(
     Ok(numbers)
 }
 
+// The leaf in whose layout a value of a data type that a leaf has taken apart is rebuilt, the one
+// whose provenance matches it. For a type without a layout, which no declared type is, the error is
+// `Memory`.
+fn leaf_for<'a>(
+    alloc: Global,
+    agreed: &'a Agreed,
+    image: &Image,
+    ty: u32,
+    view: &View,
+) -> Result<&'a Leaf, ImageFault>
+    requires placed { AreInPlace image.now.blocks }
+    requires shown { IsShown image.now.blocks view.now }
+    ensures { IsGiven (λ leaf. leaf.now) (spec.leaf_chosen agreed.now.covered.program.types agreed.now.layouts
+        image.now.blocks (layout_at agreed.now.layouts ty).leaves (position_shown view.now)) result }
+{
+    match agreed.layouts().get(ty as usize) {
+        None => Err(ImageFault::Memory),
+        Some(layout) => choose(alloc, agreed, image, layout.leaves.as_slice(), view),
+    }
+}
+
+// The positions that a leaf leaves open, from left to right.
+fn opens_of(alloc: Global, agreed: &Agreed, leaf: &Leaf) -> Result<Seq<OpenPosition>, AllocError>
+    ensures { IfOk result
+        (λ found. opens_at found ≡ open_positions agreed.now.covered.program.types leaf.now.prov) }
+{
+    opens(
+        alloc,
+        agreed.covered().program().types.as_slice(),
+        &leaf.prov,
+    )
+}
+
+// Adds a field at a path with its words to those that were found.
+fn add_field(
+    alloc: Global,
+    path: &[u32],
+    words: Seq<u64>,
+    fields: &mut Seq<FieldWords>,
+) -> Result<(), AllocError>
+    ensures { OnOk result
+        (fields.new ≡ fields.old ++ record { path = path.now; words = words } ∷ []) }
+{
+    let path = Seq::from_vec(Vec::from_slice(alloc, path)?);
+    fields.push(FieldWords { path, words })
+}
+
 // The words of a value of a data type that a leaf has taken apart, in the leaf whose provenance
 // matches it. Values that are rebuilt may stand one inside the other so many levels deep; at none
 // it is `Memory`.
@@ -97,12 +146,8 @@ fn rebuild_within<'a>(
     if depth == 0 {
         return Err(ImageFault::Memory);
     }
-    let types = agreed.covered().program().types.as_slice();
-    let Some(layout) = agreed.layouts().get(ty as usize) else {
-        return Err(ImageFault::Memory);
-    };
-    let leaf = choose(alloc, agreed, image, layout.leaves.as_slice(), view)?;
-    let opens = opens(alloc, types, &leaf.prov)?;
+    let leaf = leaf_for(alloc, agreed, image, ty, view)?;
+    let opens = opens_of(alloc, agreed, leaf)?;
     let fields = fields_at(alloc, agreed, image, depth - 1, opens.as_slice(), view)?;
     let words = pack_all(alloc, leaf.root.as_slice(), fields.as_slice())?;
     Ok(words)
@@ -128,9 +173,9 @@ fn fields_at<'a>(
 {
     let mut fields = Seq::new(alloc);
     for open in opens {
-        let words = words_along(alloc, agreed, image, depth, open.path.as_slice(), view)?;
-        let path = open.path.copy(alloc)?;
-        fields.push(FieldWords { path, words })?;
+        let path = open.path.as_slice();
+        let words = words_along(alloc, agreed, image, depth, path, view)?;
+        add_field(alloc, path, words, &mut fields)?;
     }
     Ok(fields)
 }

@@ -5,6 +5,7 @@ mod ClauseForms
 mod Composing
 mod Deepness
 mod Edges
+mod FieldSources
 mod Following
 mod Landing
 mod Groups

@@ -11,9 +11,11 @@
 //! value there. A read says where a word of the part is: bits of slots and of memory. `agreed` is
 //! the program with its layouts, and `body` the code so far, at whose end new code is appended.
 
-ghost use Rattle.std.specs.Prelude.{◌≡◌, ◌++◌, ◌<◌, ◌^◌, [], IfOk, OnOk, true, is_some, slice_get};
+ghost use Rattle.std.specs.Prelude.{◌≡◌, ◌+◌, ◌++◌, ◌<◌, ◌^◌, [], IfOk, OnOk, true, None, is_some, length, slice_get};
 ghost use Rattle.rb_core.specs.declared.value.Value.TheOpen as Layers;
+ghost use Rattle.rb_target.specs.declared.instr.Instr.TheVariants.{Jump};
 ghost use Rattle.rb_target.specs.Growth.{Grows};
+ghost use Rattle.rb_target.specs.Sheet.{with_more};
 ghost use Rattle.rb_fetch.specs.Finding.{leaf_count};
 ghost use Rattle.rb_match.specs.inner.Asking.{number_arm, number_arms, is_number, are_numbers, is_test, known_at_node, edge_at, edge_in, arm_edges, else_edges, leaf_con, link_at, take_link, node_for, facts_for, IsGrouped, AreGroups, edge_for, leaf_edges_of, StandOpen, AsksNumber, AsksLeaf};
 ghost use Rattle.rb_match.specs.inner.Opening.{Asks};
@@ -106,6 +108,26 @@ pub fn edge<'a>(
         },
         known,
     })
+}
+
+/// An open jump at the end of the code, and the edge by it to a node, with what is known there.
+///
+/// # Errors
+///
+/// Want of memory.
+pub fn open_jump<'a>(
+    alloc: Global,
+    body: &mut Body,
+    node: u32,
+    known: &[Known<'a>],
+) -> Result<Edge<'a>, AllocError>
+    ensures jump { OnOk result (body.new ≡ with_more body.old (Jump (length body.old.code + 1))) }
+    ensures edge { IfOk result (λ e. e ≡ edge_at (length body.old.code) None node known.now) }
+{
+    let pc = body.len();
+    body.push(Instr::Jump(pc + 1))?;
+    let edge = edge(alloc, pc, None, node, known)?;
+    Ok(edge)
 }
 
 /// The edge that [`edge`] makes to a node of a graph, but what is known goes with it only where the

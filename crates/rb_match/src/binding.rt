@@ -8,15 +8,14 @@
 //! both in their order. `agreed` is the program with its layouts, and `body` the code so far, at
 //! whose end new code is appended.
 
-ghost use Rattle.std.specs.Prelude.{◌≡◌, ◌∷◌, [], IfOk, IfSome, OnOk, true, false};
+ghost use Rattle.std.specs.Prelude.{◌≡◌, ◌∷◌, ◌++◌, [], IfOk, IfSome, OnOk, true, false};
 ghost use Rattle.rb_core.specs.declared.types.Ty.TheVariants.{Named};
+ghost use Rattle.rb_core.specs.Typing.{field_types};
 ghost use Rattle.rb_target.specs.Growth.{Grows};
 ghost use Rattle.rb_fetch.specs.Finding.{leaf_count};
 ghost use Rattle.rb_match.specs.Choosing.{BindsPattern};
-ghost use Rattle.rb_match.specs.inner.Binding.{IsLeftOut, IsOnly, IsOnlyLeaf, BindsDeep, BindsFields, BindsField, BindsSpot, BindsSpots, SavesTogether};
+ghost use Rattle.rb_match.specs.inner.Binding.{IsLeftOut, IsOnly, IsOnlyLeaf, BindsFieldFrom, BindsFieldsFrom, FieldStands, GivesFields, SavesTogether, StandsInSpot};
 ghost use Rattle.rb_match.specs.Bounding.{takes_none_apart};
-ghost use Rattle.rb_match.specs.inner.Knowing.{FollowsSaved};
-ghost use Rattle.rb_match.specs.inner.Saving.{IsSpotAt};
 
 use crate::asking::count_leaves;
 use crate::deep::ask_deep;
@@ -87,6 +86,30 @@ fn only_leaf(agreed: &Agreed, ty: u32, pat: &Pat) -> Option<usize>
     None
 }
 
+// The variable that a pattern binds which is one: it has the value's own slots.
+fn bound_variable(
+    alloc: Global,
+    ty: Ty,
+    words: &[usize],
+    var: u32,
+) -> Result<Seq<Local>, AllocError>
+    ensures { IfOk result (λ bound. bound ≡ record { var = var; ty = ty; slots = words.now } ∷ []) }
+{
+    let slots = copy_slots(alloc, words)?;
+    let mut bound = Seq::new(alloc);
+    bound.push(Local { var, ty, slots })?;
+    Ok(bound)
+}
+
+// The types of a constructor's fields, in their order; none where the program has no such
+// constructor.
+fn fields_of_con(agreed: &Agreed, con: ConRef) -> &[Ty]
+    ensures { result.now ≡ field_types agreed.now.covered.program.types con }
+{
+    let types = agreed.covered().program().types.as_slice();
+    types_of_fields(types, con)
+}
+
 // Code that binds what a pattern binds at a value of this type, whose words stand in some slots:
 // the variables with their slots. A variable that is the whole pattern has these very slots. There
 // is no code for a pattern without variables.
@@ -106,38 +129,18 @@ fn bind_at(
         Pat::Wild(_) => Ok(Seq::new(alloc)),
         Pat::Num(_, _) => Ok(Seq::new(alloc)),
         Pat::Var(_, var) => {
-            let slots = copy_slots(alloc, words)?;
-            let mut bound = Seq::new(alloc);
-            bound.push(Local {
-                var: *var,
-                ty,
-                slots,
-            })?;
+            let bound = bound_variable(alloc, ty, words, *var)?;
             Ok(bound)
         }
         Pat::Con(_, con, subs) => {
             if binds_nothing(pat) {
                 return Ok(Seq::new(alloc));
             }
-            let types = agreed.covered().program().types.as_slice();
-            let _flat = agreed.layouts();
-            let fields = types_of_fields(types, *con);
+            let fields = fields_of_con(agreed, *con);
             let subs = subs.as_slice();
-            match leaf_for(agreed, ty, *con, pat) {
-                Some(leaf) => {
-                    let value = LeafSlots {
-                        ty: con.ty,
-                        leaf,
-                        words,
-                    };
-                    let bound = bind_fields(alloc, body, agreed, &value, subs, fields, 0)?;
-                    Ok(bound)
-                }
-                None => {
-                    let bound = bind_deep(alloc, body, agreed, ty, *con, words, subs, fields)?;
-                    Ok(bound)
-                }
-            }
+            let source = field_source(alloc, body, agreed, ty, *con, words, pat, subs, fields)?;
+            let bound = bind_fields(alloc, body, agreed, &source, subs, fields, 0)?;
+            Ok(bound)
         }
     }
 }
@@ -229,122 +232,142 @@ fn save_together(
     Ok(known)
 }
 
-// The number of the spot of a field of this type, where the field is known to be saved; else None.
-fn saved_spot(spots: &[Spot], known: &[Known], field: u32, ty: Ty) -> Option<usize>
-    ensures { IfSome result (λ k. IsSpotAt spots.now (field ∷ []) ty k × FollowsSaved known.now k) }
+// The slots of the spot of a field of this type. A field that is not known to be saved is an error.
+fn saved_slots(
+    alloc: Global,
+    spots: &[Spot],
+    known: &[Known],
+    field: u32,
+    ty: Ty,
+) -> Result<Seq<usize>, AllocError>
+    ensures { IfOk result (λ slots. StandsInSpot spots.now known.now field ty slots) }
 {
     let path = [field];
-    let k = spot_at(spots, &path, ty)?;
-    if saved_known(known, k) {
-        return Some(k);
-    }
-    None
-}
-
-// Code that binds what the pattern of field number `i` binds, from the spot of the field. A field
-// whose pattern has a variable and that is not saved is an error.
-#[cycle(binding)]
-fn bind_spot(
-    alloc: Global,
-    body: &mut Body,
-    agreed: &Agreed,
-    spots: &[Spot],
-    known: &[Known],
-    sub: &Pat,
-    field: Ty,
-    i: u32,
-) -> Result<Seq<Local>, AllocError>
-    ensures binds { IfOk result
-        (λ bound. BindsSpot agreed.now spots.now known.now sub.now field i body.old body.new bound) }
-    ensures grows { OnOk result (Grows body.old.code body.new.code) }
-{
-    if binds_nothing(sub) {
-        return Ok(Seq::new(alloc));
-    }
-    let Some(k) = saved_spot(spots, known, i, field) else {
+    let Some(k) = spot_at(spots, &path, ty) else {
         return Err(AllocError);
     };
-    let slots = spots[k].slots.as_slice();
-    let bound = bind_at(alloc, body, agreed, field, slots, sub)?;
-    Ok(bound)
-}
-
-// Code that binds what the patterns of saved fields bind, the first of which is field i, each from
-// its spot. Fewer types than patterns, or a field with a variable that is not saved, are an error.
-#[cycle(binding)]
-fn bind_spots(
-    alloc: Global,
-    body: &mut Body,
-    agreed: &Agreed,
-    spots: &[Spot],
-    known: &[Known],
-    subs: &[Pat],
-    fields: &[Ty],
-    i: usize,
-) -> Result<Seq<Local>, AllocError>
-    ensures binds { IfOk result
-        (λ bound. BindsSpots agreed.now spots.now known.now subs.now fields.now i body.old body.new bound) }
-    ensures grows { OnOk result (Grows body.old.code body.new.code) }
-{
-    let [sub, subs @ ..] = subs else {
-        return Ok(Seq::new(alloc));
-    };
-    let [field, fields @ ..] = fields else {
+    if !saved_known(known, k) {
         return Err(AllocError);
-    };
-    let number = number_of(i)?;
-    let mut bound = bind_spot(alloc, body, agreed, spots, known, sub, *field, number)?;
-    let more = bind_spots(alloc, body, agreed, spots, known, subs, fields, i + 1)?;
-    match bound.append(more) {
-        None => Ok(bound),
-        Some(_) => Err(AllocError),
     }
+    let words = spots[k].slots.as_slice();
+    let slots = copy_slots(alloc, words)?;
+    Ok(slots)
 }
 
-// What a constructor binds whose pattern values of several leaves match: the ways of the type's leaves save its fields
-// and meet. Where no leaf takes a subvalue apart each constructor has one leaf, so that this is
-// never met: it is an error, as is a constructor of another type.
-#[cycle(binding)]
-fn bind_deep(
+// Where the words of a constructor's fields are got from.
+#[derive(Drop)]
+enum FieldSource<'b> {
+    // The value's own words, as its leaf has them.
+    Leaf(LeafSlots<'b>),
+    // Spots, with what is known: which of them hold their fields.
+    Spots(Seq<Spot>, Seq<Known<'static>>),
+}
+
+// Where the fields are got from of a value that the pattern `pat` matches, a constructor with these
+// subpatterns: from the value's words, where that constructor's values have one leaf. Where they
+// have several, the code saves fields on the way of each leaf, and these ways meet at its end.
+// Where no leaf takes a subvalue apart each constructor has one leaf, so that this is never met: it
+// is an error, as is a constructor of another type.
+fn field_source<'b>(
     alloc: Global,
     body: &mut Body,
     agreed: &Agreed,
     ty: Ty,
     con: ConRef,
-    words: &[usize],
+    words: &'b [usize],
+    pat: &Pat,
     subs: &[Pat],
     fields: &[Ty],
-) -> Result<Seq<Local>, AllocError>
-    ensures binds { IfOk result
-        (λ bound. BindsDeep agreed.now ty con words.now subs.now fields.now body.old body.new bound) }
+) -> Result<FieldSource<'b>, AllocError>
+    ensures gives { IfOk result (λ source. GivesFields agreed.now ty con words.now pat.now subs.now fields.now source
+        body.old body.new) }
     ensures grows { OnOk result (Grows body.old.code body.new.code) }
 {
+    let _agree = agreed.covered();
+    let _flat = agreed.layouts();
+    if let Some(leaf) = leaf_for(agreed, ty, con, pat) {
+        return Ok(FieldSource::Leaf(LeafSlots {
+            ty: con.ty,
+            leaf,
+            words,
+        }));
+    }
     if !is_deep_at(agreed, ty, con.ty) {
         return Err(AllocError);
     }
     let wanted = bound_fields(alloc, subs, fields)?;
     let spots = give_spots(alloc, body, agreed, wanted.as_slice())?;
-    let spots = spots.as_slice();
-    let known = save_together(alloc, body, agreed, con, words, spots)?;
-    let known = known.as_slice();
-    let bound = bind_spots(alloc, body, agreed, spots, known, subs, fields, 0)?;
+    let known = save_together(alloc, body, agreed, con, words, spots.as_slice())?;
+    Ok(FieldSource::Spots(spots, known))
+}
+
+// Code that leaves the words of field number `i`, of this type, in slots: new ones, the value's own
+// or those of the field's spot. A field that the value's leaf takes apart is rebuilt. A leaf
+// without this field is an error, as is a field that is not saved.
+fn field_slots(
+    alloc: Global,
+    body: &mut Body,
+    agreed: &Agreed,
+    source: &FieldSource,
+    field: Ty,
+    i: u32,
+) -> Result<Seq<usize>, AllocError>
+    ensures stands { IfOk result (λ slots. FieldStands agreed.now source.now field i body.old body.new slots) }
+    ensures grows { OnOk result (Grows body.old.code body.new.code) }
+{
+    match source {
+        FieldSource::Leaf(value) => {
+            let path = [i];
+            let slots = fetch_part(alloc, body, agreed, value, &path, field)?;
+            Ok(slots)
+        }
+        FieldSource::Spots(spots, known) => {
+            let spots = spots.as_slice();
+            let known = known.as_slice();
+            let slots = saved_slots(alloc, spots, known, i, field)?;
+            Ok(slots)
+        }
+    }
+}
+
+// Code that binds what the pattern of field number `i` binds. There is no code for a pattern
+// without variables.
+#[cycle(binding)]
+fn bind_field(
+    alloc: Global,
+    body: &mut Body,
+    agreed: &Agreed,
+    source: &FieldSource,
+    sub: &Pat,
+    field: Ty,
+    i: u32,
+) -> Result<Seq<Local>, AllocError>
+    ensures binds { IfOk result
+        (λ bound. BindsFieldFrom agreed.now source.now sub.now field i body.old body.new bound) }
+    ensures grows { OnOk result (Grows body.old.code body.new.code) }
+{
+    if binds_nothing(sub) {
+        return Ok(Seq::new(alloc));
+    }
+    let slots = field_slots(alloc, body, agreed, source, field, i)?;
+    let bound = bind_at(alloc, body, agreed, field, slots.as_slice(), sub)?;
     Ok(bound)
 }
 
-// Code that binds what the patterns of a value's fields bind, the first of which is field i, where
-// the value's leaf is known. Fewer types than patterns are an error.
+// Code that binds what the patterns of fields bind, the first of which is field i. Fewer types than
+// patterns are an error.
 #[cycle(binding)]
 fn bind_fields(
     alloc: Global,
     body: &mut Body,
     agreed: &Agreed,
-    value: &LeafSlots,
+    source: &FieldSource,
     subs: &[Pat],
     fields: &[Ty],
     i: usize,
 ) -> Result<Seq<Local>, AllocError>
-    ensures binds { IfOk result (λ bound. BindsFields agreed.now value.now.ty value.now.leaf value.now.words.now
-        subs.now fields.now i body.old body.new bound) }
+    ensures binds { IfOk result
+        (λ bound. BindsFieldsFrom agreed.now source.now subs.now fields.now i body.old body.new bound) }
     ensures grows { OnOk result (Grows body.old.code body.new.code) }
 {
     let [sub, subs @ ..] = subs else {
@@ -354,37 +377,21 @@ fn bind_fields(
         return Err(AllocError);
     };
     let number = number_of(i)?;
-    let mut bound = bind_field(alloc, body, agreed, value, sub, *field, number)?;
-    let more = bind_fields(alloc, body, agreed, value, subs, fields, i + 1)?;
+    let bound = bind_field(alloc, body, agreed, source, sub, *field, number)?;
+    let more = bind_fields(alloc, body, agreed, source, subs, fields, i + 1)?;
+    let all = joined(bound, more)?;
+    Ok(all)
+}
+
+// The variables of one list, and behind them those of another.
+fn joined(bound: Seq<Local>, more: Seq<Local>) -> Result<Seq<Local>, AllocError>
+    ensures { IfOk result (λ all. all ≡ bound ++ more) }
+{
+    let mut bound = bound;
     match bound.append(more) {
         None => Ok(bound),
         Some(_) => Err(AllocError),
     }
-}
-
-// Code that binds what the pattern of field number `i` binds, where the value's leaf is known. A
-// field that the leaf takes apart is rebuilt. There is no code for a pattern without variables.
-#[cycle(binding)]
-fn bind_field(
-    alloc: Global,
-    body: &mut Body,
-    agreed: &Agreed,
-    value: &LeafSlots,
-    sub: &Pat,
-    field: Ty,
-    i: u32,
-) -> Result<Seq<Local>, AllocError>
-    ensures binds { IfOk result (λ bound. BindsField agreed.now value.now.ty value.now.leaf value.now.words.now
-        sub.now field i body.old body.new bound) }
-    ensures grows { OnOk result (Grows body.old.code body.new.code) }
-{
-    if binds_nothing(sub) {
-        return Ok(Seq::new(alloc));
-    }
-    let path = [i];
-    let slots = fetch_part(alloc, body, agreed, value, &path, field)?;
-    let bound = bind_at(alloc, body, agreed, field, slots.as_slice(), sub)?;
-    Ok(bound)
 }
 
 /// Code that leaves the values of a pattern's variables in slots, where the pattern matches the value

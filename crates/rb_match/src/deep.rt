@@ -16,16 +16,20 @@
 //! which spots hold theirs. `agreed` is the program with its layouts, and `body` the code so far,
 //! at whose end new code is appended. Where `graph` has no nodes, all that has a spot is saved.
 
-ghost use Rattle.std.specs.Prelude.{◌≡◌, ◌∷◌, [], IfOk, OnOk, length};
+ghost use Rattle.std.specs.Prelude.{◌≡◌, ◌∷◌, ◌++◌, List, [], IfOk, OnOk, Some, length};
 ghost use Rattle.rb_target.specs.Growth.{Grows};
 ghost use Rattle.rb_fragment.specs.Arms.{with_targets};
 ghost use Rattle.rb_match.specs.inner.Clauses.{way_holes};
 ghost use Rattle.rb_fetch.specs.Finding.{leaf_count};
+ghost use Rattle.rb_match.specs.declared.knowledge.Edge.{Edge};
 ghost use Rattle.rb_match.specs.inner.Asking.{AreGroups, StandOpen};
+ghost use Rattle.rb_match.specs.inner.Saving.{SavesFields};
 ghost use Rattle.rb_match.specs.inner.Threading.{AllFollow};
 ghost use Rattle.rb_match.specs.inner.Opening.{AsksDeep, CanOpen, HasGroupOnward, LeadsFrom, LeadsLeaf, LeadsWays, StepsWay, group_onward, shared_edges};
 
-use crate::asking::{con_of, count_leaves, edge, edge_within, link_of, mark_tested_below, prov_of};
+use crate::asking::{
+    con_of, count_leaves, edge_within, link_of, mark_tested_below, open_jump, prov_of,
+};
 use crate::clauses::holes_of;
 use crate::knowledge::{Edge, Known, Spot, Test, copy_known, with_known};
 use crate::saving::{Source, save_fields};
@@ -40,7 +44,6 @@ use rb_fragment::patch::patch_all;
 use rb_fragment::reads::Read;
 use rb_layout::agreed::Agreed;
 use rb_target::body::{Body, Hole};
-use rb_target::instr::Instr;
 use std::alloc::{AllocError, Global};
 
 // Sets those of the holes that have the number of a leaf to the end of the code.
@@ -216,9 +219,60 @@ pub struct Tested<'b, 'a> {
     pub position: &'a [u32],
 }
 
-// The way of a leaf that is a group by itself: what other tests need of its fields is saved, and it
-// goes on by an open jump. The answer is the given edges and that of the jump. For a leaf that
-// leads nowhere, or of which nothing is saved, there is no code, and the edges stay as they are.
+// Saves what other tests need of the fields of a leaf that is a group by itself. The answer is what
+// is known then.
+fn save_onward<'a>(
+    alloc: Global,
+    body: &mut Body,
+    agreed: &Agreed,
+    part: &Tested<'_, 'a>,
+    leaf: usize,
+    onward: &Onward<'a>,
+) -> Result<Seq<Known<'a>>, AllocError>
+    ensures saves { IfOk result (λ more. SavesFields agreed.now part.now.ty leaf part.now.words.now part.now.spots.now
+        part.now.position.now onward.now.known more body.old body.new) }
+    ensures grows { OnOk result (Grows body.old.code body.new.code) }
+{
+    let needs = needs_from(alloc, part.nodes, onward.node as usize)?;
+    let facts = copy_known(alloc, onward.known.as_slice())?;
+    let source = Source {
+        ty: part.ty,
+        leaf,
+        words: part.words,
+        position: part.position,
+        spots: part.spots,
+        needs: &needs,
+    };
+    let known = save_fields(alloc, body, agreed, &source, facts)?;
+    Ok(known)
+}
+
+// The code of the way of a leaf that is a group by itself: what other tests need of its fields is
+// saved, and it goes on by an open jump. The answer is the edge by that jump, which goes behind any
+// edges of the ways before.
+fn way_behind<'a>(
+    alloc: Global,
+    body: &mut Body,
+    agreed: &Agreed,
+    part: &Tested<'_, 'a>,
+    holes: &[Hole],
+    leaf: usize,
+    onward: &Onward<'a>,
+) -> Result<Edge<'a>, AllocError>
+    requires { CanOpen body.old.code holes.now leaf }
+    ensures steps { IfOk result (λ edge. (edges : List Edge) → StepsWay agreed.now part.now.ty part.now.words.now
+        part.now.spots.now part.now.position holes.now leaf (Some onward.now) body.old edges body.new
+        (edges ++ edge ∷ [])) }
+{
+    land_leaf(alloc, body, holes, leaf)?;
+    let known = save_onward(alloc, body, agreed, part, leaf, onward)?;
+    let edge = open_jump(alloc, body, onward.node, known.as_slice())?;
+    Ok(edge)
+}
+
+// The given edges, and the one by which the way of a leaf that is a group by itself goes on. For a
+// leaf that leads nowhere, or of which nothing is saved, there is no code, and the edges stay as
+// they are.
 fn open_way<'a>(
     alloc: Global,
     body: &mut Body,
@@ -240,23 +294,7 @@ fn open_way<'a>(
         return Ok(edges);
     }
     let mut edges = edges;
-    land_leaf(alloc, body, holes, leaf)?;
-    let needs = needs_from(alloc, part.nodes, onward.node as usize)?;
-    let told = onward.known.as_slice();
-    let known = copy_known(alloc, told)?;
-    let source = Source {
-        ty: part.ty,
-        leaf,
-        words: part.words,
-        position: part.position,
-        spots: part.spots,
-        needs: &needs,
-    };
-    let known = save_fields(alloc, body, agreed, &source, known)?;
-    let node = onward.node;
-    let pc = body.len();
-    body.push(Instr::Jump(pc + 1))?;
-    edges.push(edge(alloc, pc, None, node, known.as_slice())?)?;
+    edges.push(way_behind(alloc, body, agreed, part, holes, leaf, onward)?)?;
     Ok(edges)
 }
 

@@ -19,7 +19,7 @@ ghost use Rattle.rb_fragment.specs.Arms.{AreHoles, AreOfOneWay, with_targets};
 ghost use Rattle.rb_match.specs.inner.Asking.{AreOpen};
 ghost use Rattle.rb_match.specs.inner.Flowing.{landing_of, others_of, StepsNode, RootStands, IsClauseHole, AreClauseHoles, TakesGraph};
 
-use crate::asking::{ask, edge};
+use crate::asking::{ask, open_jump};
 use crate::knowledge::{Edge, Subject, Test, node_known};
 use crate::spots::Whole;
 use crate::threading::thread;
@@ -28,7 +28,6 @@ use rb_decide::decision_graph::GraphNode;
 use rb_fragment::patch::patch_all;
 use rb_layout::agreed::Agreed;
 use rb_target::body::{Body, Hole};
-use rb_target::instr::Instr;
 use std::alloc::{AllocError, Global};
 
 // The holes of the edges that lead to a node, in their order. Each has the number 0 in place of the
@@ -159,10 +158,8 @@ fn begin<'a>(
             Ok(onward)
         }
         GraphNode::Clause(_) => {
-            let pc = body.len();
-            body.push(Instr::Jump(pc + 1))?;
             let mut edges = Seq::new(alloc);
-            edges.push(edge(alloc, pc, None, root, &[])?)?;
+            edges.push(open_jump(alloc, body, root, &[])?)?;
             Ok(edges)
         }
     }

@@ -16,7 +16,7 @@ use Rattle.rb_matrix.specs.Heads.{any_begins, column_begins, some_head, fields_a
 use Rattle.rb_matrix.specs.FirstHead.{first_head}
 use Rattle.rb_matrix.specs.Specialize.{special, defaults}
 use Rattle.rb_matrix.specs.Search.{IsTypeIn, AreTypesIn, AreInhabited, RowIsFound, AreUseless}
-use Rattle.rb_matrix.specs.inner.Problems.{row_for_parent, step_of, FoundIn, NoneIn, NoneBy, IsPart, IsPartAt}
+use Rattle.rb_matrix.specs.inner.Problems.{row_for_parent, step_of, FoundIn, NoneIn, NoneBy, IsPart, IsPartAt, IsSpecialized}
 use Rattle.rb_matrix.specs.Signature.{IsAbsent}
 use Rattle.rb_matrix.specs.inner.Left.{IsSplit}
 use Rattle.rb_matrix.proofs.Laws.{special-length, defaults-length, no-head}
@@ -68,6 +68,18 @@ module _ (types : List DataDecl) where
 
     pub part-gone : (h : Head) (fs : List Ty) → fields_at types ty h ≡ Some fs → (w : List (List Pat)) → w ≡ special h (length fs) p.wanted → length w < length p.wanted → NoneBy types ty ts p h
     part-gone h fs at w e lt = part-lost types ty ts p.wanted p.unwanted h fs at (subst (λ l. length l < length p.wanted) e lt)
+
+    -- the part that there may be, where the columns and the steps of q are those of the part already, and the rows p's
+    pub specialized-part : (h : Head) (fs : List Ty) → fields_at types ty h ≡ Some fs → (q : Problem) → q.tys ≡ fs ++ ts → q.wanted ≡ p.wanted → q.unwanted ≡ p.unwanted
+        → q.steps ≡ p.steps ++ step_of ty h (length fs) ∷ [] → AreInhabited types → AreTypesIn types ts → 1 ≤ some_head (first_head p.wanted) + some_head (first_head p.unwanted)
+        → (o : Option Problem) → IsSpecialized h (length fs) q o → IsPartAt types ty ts p h o
+    specialized-part h fs at q tys w u steps i lives stands None lost =
+        part-gone h fs at (special h (length fs) q.wanted) (ap (special h (length fs)) w) (subst (λ rows. length (special h (length fs) q.wanted) < length rows) w lost)
+    specialized-part h fs at q tys w u steps i lives stands (Some c) made =
+        let is_wanted = ap (λ (x : Problem). x.wanted) made.0 in
+        let long : length p.wanted ≤ length c.wanted = (let a = ap (λ (l : List (List Pat)). length l) w in let b = ap (λ (l : List (List Pat)). length l) is_wanted in let k = made.1 in omega (arith, a, b, k)) in
+        part-at h fs at c (ap (λ (x : Problem). x.tys) made.0 ∙ tys) (is_wanted ∙ ap (special h (length fs)) w) (ap (λ (x : Problem). x.unwanted) made.0 ∙ ap (special h (length fs)) u)
+        long i lives stands (ap (λ (x : Problem). x.steps) made.0 ∙ steps)
 
     -- the part by the default matrix
     pub rest-split : (q : Pat) → first_head p.wanted ≡ None → IsAbsent types ty (column_begins p.unwanted) q → AreTypesIn types ts

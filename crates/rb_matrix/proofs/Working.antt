@@ -1,6 +1,8 @@
 -- The list of what is left of a search.
-use Rattle.std.proofs.Common.{◌≡◌, ◌+◌, ◌<◌, List, [], ◌∷◌, ◌++◌, length, Bool, true, false, ◌&&◌, not, refl, sym, ap, ◌∙◌, arith, subst}
+use Rattle.std.proofs.Common.{◌≡◌, ◌+◌, ◌<◌, List, [], ◌∷◌, ◌++◌, length, Bool, true, false, ◌&&◌, not, refl, sym, ap, ◌∙◌, arith, subst, Vec, Global, Result}
+use Rattle.std.specs.Prelude.{IfOk}
 use Rattle.std.proofs.lemmas.Bool.{false≢true}
+use Rattle.std.proofs.lemmas.Result.{IfOk-weaker}
 use Rattle.rb_core.specs.declared.value.Value.{Value}
 use Rattle.rb_core.specs.declared.types.DataDecl.{DataDecl}
 use Rattle.rb_core.specs.declared.types.Ty.{Ty}
@@ -22,6 +24,11 @@ some-left types (ByHead b) = omega arith
 -- nothing is left in place of what has no vector
 pub no-split : (types : List DataDecl) (l : Left) (ls : List Left) → ls ≡ [] → NoneOf types l → IsSplit types l ls
 no-split types l ls e none = subst (IsSplit types l) (sym e) (record { none = λ all. none; within = λ root w. tt; fewer = some-left types l })
+
+-- what is left is a list that answers for what was left
+pub split-made : {E : Type 0} (types : List DataDecl) (l : Left) (ls : List Left) (r : Result (Vec Left Global) E) → IfOk r (λ v. v.items ≡ ls) → IsSplit types l ls
+    → IfOk r (λ v. IsSplit types l v.items)
+split-made types l ls r made split = IfOk-weaker r (λ v. v.items ≡ ls) (λ v. IsSplit types l v.items) (λ v e. subst (IsSplit types l) (sym e) split) made
 
 -- the last step first
 pub row_for_root-append : (ss : List Step) (s : Step) (row : List Pat) → row_for_root (ss ++ s ∷ []) row ≡ row_for_root ss (row_for_parent s row)

@@ -334,6 +334,35 @@ fn outlook_of(
     })
 }
 
+// The numbers, ascending, of the patterns that are the first match of no value of the type. They
+// are gone over one by one: `outlook` was made of them all, and `passed` tells of none at first,
+// and of all in the end.
+fn unreached_by(
+    alloc: Global,
+    types: &[DataDecl],
+    ty: Ty,
+    pats: &[Pat],
+    outlook: &Outlook,
+    passed: &mut Passed,
+) -> Result<Vec<usize>, AllocError>
+    requires inhabited { AreInhabited types.now }
+    requires ty { IsTypeIn types.now ty }
+    requires end { IsEnd types.now ty pats.now outlook.now.end }
+    requires none { ArePassed [] passed.old }
+    ensures { IfOk result (λ v. AreUnreached types.now ty pats.now v.items) }
+{
+    let mut numbers = Vec::new(alloc);
+    for i in 0..pats.len() {
+        let reached = is_reached(alloc, types, ty, pats, i, passed, outlook)?;
+        passed.add(alloc, i, &pats[i])?;
+        if reached {
+            continue;
+        }
+        numbers.push(i)?;
+    }
+    Ok(numbers)
+}
+
 /// The numbers, ascending, of the patterns that are the first match of no value of the type: none
 /// of them is useful behind those before it, as one that matches no value of the type never is. The
 /// first pattern has number 0.
@@ -351,19 +380,9 @@ pub fn unreached(
     requires ty { IsTypeIn types.now ty }
     ensures { IfOk result (λ v. AreUnreached types.now ty rows.now v.items) }
 {
-    let mut numbers = Vec::new(alloc);
     let outlook = outlook_of(alloc, types, ty, rows)?;
     let mut passed = Passed::new(alloc, best_paths(alloc, rows)?);
-    for i in 0..rows.len() {
-        let reached = is_reached(alloc, types, ty, rows, i, &passed, &outlook)?;
-        let pat = &rows[i];
-        passed.add(alloc, i, pat)?;
-        if reached {
-            continue;
-        }
-        numbers.push(i)?;
-    }
-    Ok(numbers)
+    unreached_by(alloc, types, ty, rows, &outlook, &mut passed)
 }
 
 /// A pattern of numbers, constructors and wildcards that matches a value of the type, such that

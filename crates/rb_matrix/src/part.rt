@@ -3,13 +3,13 @@
 //! which is one in the default matrices. A problem is given without its first column's type, which
 //! stands beside it.
 
-ghost use Rattle.std.specs.Prelude.{◌≡◌, ◌+◌, ◌≤◌, ◌∷◌, ◌++◌, [], IfOk, OnOk, None};
+ghost use Rattle.std.specs.Prelude.{◌≡◌, ◌+◌, ◌≤◌, ◌∷◌, ◌++◌, [], length, IfOk, OnOk, None};
 ghost use Rattle.rb_matrix.specs.declared.problem.Left.TheVariants.{Whole, ByHead};
 ghost use Rattle.rb_matrix.specs.Heads.{column_begins, some_head};
 ghost use Rattle.rb_matrix.specs.FirstHead.{first_head};
 ghost use Rattle.rb_matrix.specs.Search.{AreInhabited, IsTypeIn, AreTypesIn};
 ghost use Rattle.rb_matrix.specs.inner.Groups.{AreGrouped};
-ghost use Rattle.rb_matrix.specs.inner.Problems.{IsPartAt, step_of, with_column};
+ghost use Rattle.rb_matrix.specs.inner.Problems.{IsPartAt, IsSpecialized, step_of, with_column};
 ghost use Rattle.rb_matrix.specs.Signature.{IsAbsent};
 ghost use Rattle.rb_matrix.specs.inner.Left.{IsReady, IsSplit, wholes};
 
@@ -144,6 +144,59 @@ fn part_at<'a>(
     }))
 }
 
+impl Problem<'_> {
+    // Gives the problem the columns and the steps of its part for a head with fields of these
+    // types: the fields' types stand before those of its columns, and behind its steps stands the
+    // one from the part to it, whose first column is of type `ty`. The rows stay.
+    fn unfold_columns(
+        &mut self,
+        alloc: Global,
+        ty: Ty,
+        head: Head,
+        fields: &[Ty],
+    ) -> Result<(), AllocError>
+        ensures tys { OnOk result (self.new.tys ≡ fields.now ++ self.old.tys) }
+        ensures wanted { OnOk result (self.new.wanted ≡ self.old.wanted) }
+        ensures unwanted { OnOk result (self.new.unwanted ≡ self.old.unwanted) }
+        ensures steps { OnOk result (self.new.steps ≡ self.old.steps ++ step_of ty head (length fields.now) ∷ []) }
+    {
+        let first = Seq::from_vec(Vec::from_slice(alloc, fields)?);
+        self.tys.push_all(first)?;
+        self.steps.push(step_for(ty, head, fields.len()))?;
+        Ok(())
+    }
+}
+
+// The problem with the specialised rows of its rows for a head with so many fields in their place;
+// the columns' types and the steps stay. None where a wanted row has no specialised row.
+fn specialized<'a>(
+    alloc: Global,
+    problem: Problem<'a>,
+    head: Head,
+    fields: usize,
+) -> Result<Option<Problem<'a>>, AllocError>
+    ensures { IfOk result (λ r. IsSpecialized head fields problem.entry r) }
+{
+    let Problem {
+        tys,
+        wanted,
+        unwanted,
+        steps,
+    } = problem;
+    let count = wanted.len();
+    let wanted = into_specialized(alloc, wanted, head, fields)?;
+    if wanted.len() < count {
+        return Ok(None);
+    }
+    let unwanted = into_specialized(alloc, unwanted, head, fields)?;
+    Ok(Some(Problem {
+        tys,
+        wanted,
+        unwanted,
+        steps,
+    }))
+}
+
 // The part of a problem for a head, made of the problem itself: what is left where the first value
 // begins with the head. None where there is no such vector, since the head is not of the type, or a
 // wanted row has no specialised row for it.
@@ -151,7 +204,7 @@ fn last_part<'a>(
     alloc: Global,
     types: &[DataDecl],
     ty: Ty,
-    behind: Problem<'a>,
+    mut behind: Problem<'a>,
     head: Head,
 ) -> Result<Option<Problem<'a>>, AllocError>
     requires inhabited { AreInhabited types.now }
@@ -162,26 +215,8 @@ fn last_part<'a>(
     let Some(fields) = head_fields(types, ty, head) else {
         return Ok(None);
     };
-    let Problem {
-        mut tys,
-        wanted,
-        unwanted,
-        mut steps,
-    } = behind;
-    let count = wanted.len();
-    let wanted = into_specialized(alloc, wanted, head, fields.len())?;
-    if wanted.len() < count {
-        return Ok(None);
-    }
-    let unwanted = into_specialized(alloc, unwanted, head, fields.len())?;
-    tys.push_all(Seq::from_vec(Vec::from_slice(alloc, fields)?))?;
-    steps.push(step_for(ty, head, fields.len()))?;
-    Ok(Some(Problem {
-        tys,
-        wanted,
-        unwanted,
-        steps,
-    }))
+    behind.unfold_columns(alloc, ty, head, fields)?;
+    specialized(alloc, behind, head, fields.len())
 }
 
 // Adds a part to what is left, as a whole problem; None adds nothing.
@@ -197,6 +232,29 @@ fn add_part<'a>(left: &mut Vec<Left<'a>>, part: Option<Problem<'a>>) -> Result<(
     }
 }
 
+// The part that there may be, as all that is left; nothing for None.
+fn part_left<'a>(alloc: Global, part: Option<Problem<'a>>) -> Result<Vec<Left<'a>>, AllocError>
+    ensures { IfOk result (λ r. r.items ≡ wholes part.entry) }
+{
+    let mut left = Vec::new(alloc);
+    add_part(&mut left, part)?;
+    Ok(left)
+}
+
+// Branches, and behind them the part that there may be, as all that is left.
+fn branches_left<'a>(
+    alloc: Global,
+    branches: Branches<'a>,
+    part: Option<Problem<'a>>,
+) -> Result<Vec<Left<'a>>, AllocError>
+    ensures { IfOk result (λ r. r.items ≡ ByHead branches.entry ∷ wholes part.entry) }
+{
+    let mut left = Vec::new(alloc);
+    left.push(Left::ByHead(branches))?;
+    add_part(&mut left, part)?;
+    Ok(left)
+}
+
 /// Takes the last head off some branches and makes its part, which is to be searched first and so
 /// stands last; the other heads are left for later, so that of each problem one part is held at a
 /// time. Where there are no other heads, the part is made of the problem itself, and no row is
@@ -209,73 +267,92 @@ fn add_part<'a>(left: &mut Vec<Left<'a>>, part: Option<Problem<'a>>) -> Result<(
 pub fn next_part<'a>(
     alloc: Global,
     types: &[DataDecl],
-    branches: Branches<'a>,
+    mut branches: Branches<'a>,
 ) -> Result<Vec<Left<'a>>, AllocError>
     requires inhabited { AreInhabited types.now }
     requires ready { IsReady types.now (ByHead branches) }
     ensures { IfOk result (λ r. IsSplit types.now (ByHead branches.entry) r.items) }
 {
-    let Branches {
-        ty,
-        behind,
-        mut heads,
-        groups,
-    } = branches;
-    let mut left = Vec::new(alloc);
-    let Some(head) = heads.pop() else {
-        return Ok(left);
+    let Some(head) = branches.heads.pop() else {
+        return Ok(Vec::new(alloc));
     };
-    if heads.is_empty() {
-        let part = last_part(alloc, types, ty, behind, head)?;
-        add_part(&mut left, part)?;
-        return Ok(left);
+    if branches.heads.is_empty() {
+        let part = last_part(alloc, types, branches.ty, branches.behind, head)?;
+        return part_left(alloc, part);
     }
-    let part = part_at(alloc, types, ty, &behind, &groups, head)?;
-    left.push(Left::ByHead(Branches {
-        ty,
-        behind,
-        heads,
-        groups,
-    }))?;
-    add_part(&mut left, part)?;
-    Ok(left)
+    let (behind, groups) = (&branches.behind, &branches.groups);
+    let part = part_at(alloc, types, branches.ty, behind, groups, head)?;
+    branches_left(alloc, branches, part)
 }
 
-// The part of a problem for all values that begin with no head of its first column, of which
-// `absent` matches some. It is made of the problem itself, and its rows are those of the default
-// matrices. No wanted row begins with a head. None where there is no vector, since a wanted row has
-// no default row, as an empty one has none.
-fn rest_part<'a>(
+// What is left of a problem of all values that begin with no head of its first column, of which
+// `absent` matches some: one part, made of the problem itself, whose rows are those of the default
+// matrices. No wanted row begins with a head. Nothing is left where there is no vector, since a
+// wanted row has no default row, as an empty one has none.
+fn rest_left<'a>(
     alloc: Global,
     types: &[DataDecl],
     ty: Ty,
-    behind: Problem<'a>,
+    mut behind: Problem<'a>,
     absent: Pat,
-) -> Result<Option<Problem<'a>>, AllocError>
+) -> Result<Vec<Left<'a>>, AllocError>
     requires lives { AreTypesIn types.now behind.tys }
     requires none { first_head behind.wanted ≡ None }
     requires absent { IsAbsent types.now ty (column_begins behind.unwanted) absent }
-    ensures { IfOk result (λ r. IsSplit types.now (Whole (with_column ty behind.entry)) (wholes r)) }
+    ensures { IfOk result (λ r. IsSplit types.now (Whole (with_column ty behind.entry)) r.items) }
 {
+    behind.steps.push(Step::Front(absent))?;
     let Problem {
         tys,
         wanted,
         unwanted,
-        mut steps,
+        steps,
     } = behind;
     let count = wanted.len();
     let wanted = into_default(alloc, wanted)?;
     if wanted.len() < count {
-        return Ok(None);
+        return Ok(Vec::new(alloc));
     }
     let unwanted = into_default(alloc, unwanted)?;
-    steps.push(Step::Front(absent))?;
-    Ok(Some(Problem {
+    let part = Problem {
         tys,
         wanted,
         unwanted,
         steps,
-    }))
+    };
+    part_left(alloc, Some(part))
+}
+
+// What is left of a problem whose first column has type `ty`, and none of whose wanted rows begins
+// with a head. Where the heads that unwanted rows begin with are a complete signature, which is to
+// say that each value of the type begins with one, all of them count, each with its specialised
+// matrix. Where they are an incomplete signature, the default matrix answers for all values.
+fn parts_by_signature<'a>(
+    alloc: Global,
+    types: &[DataDecl],
+    ty: Ty,
+    behind: Problem<'a>,
+) -> Result<Vec<Left<'a>>, AllocError>
+    requires inhabited { AreInhabited types.now }
+    requires live { IsTypeIn types.now ty }
+    requires lives { AreTypesIn types.now behind.tys }
+    requires none { first_head behind.wanted ≡ None }
+    ensures { IfOk result (λ r. IsSplit types.now (Whole (with_column ty behind.entry)) r.items) }
+{
+    let heads = heads_in(alloc, behind.unwanted.as_slice())?;
+    match absent_pattern(alloc, types, ty, heads.as_slice())? {
+        None => {
+            let groups = groups_of(alloc, behind.unwanted.as_slice())?;
+            let branches = Branches {
+                ty,
+                behind,
+                heads,
+                groups,
+            };
+            branches_left(alloc, branches, None)
+        }
+        Some(absent) => rest_left(alloc, types, ty, behind, absent),
+    }
 }
 
 /// What is left of a problem whose first column has type `ty`. Where a wanted row begins with a
@@ -299,28 +376,11 @@ pub fn parts_of<'a>(
     requires lives { AreTypesIn types.now behind.tys }
     ensures { IfOk result (λ r. IsSplit types.now (Whole (with_column ty behind.entry)) r.items) }
 {
-    let mut left = Vec::new(alloc);
-    if let Some(head) = first_head_in(behind.wanted.as_slice()) {
-        let part = last_part(alloc, types, ty, behind, head)?;
-        add_part(&mut left, part)?;
-        return Ok(left);
-    }
-    let heads = heads_in(alloc, behind.unwanted.as_slice())?;
-    match absent_pattern(alloc, types, ty, heads.as_slice())? {
-        None => {
-            let groups = groups_of(alloc, behind.unwanted.as_slice())?;
-            left.push(Left::ByHead(Branches {
-                ty,
-                behind,
-                heads,
-                groups,
-            }))?;
-            Ok(left)
-        }
-        Some(absent) => {
-            let part = rest_part(alloc, types, ty, behind, absent)?;
-            add_part(&mut left, part)?;
-            Ok(left)
+    match first_head_in(behind.wanted.as_slice()) {
+        None => parts_by_signature(alloc, types, ty, behind),
+        Some(head) => {
+            let part = last_part(alloc, types, ty, behind, head)?;
+            part_left(alloc, part)
         }
     }
 }

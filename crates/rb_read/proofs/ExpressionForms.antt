@@ -21,17 +21,17 @@ use Rattle.rb_syntax.proofs.SpellingLemmas.{expr-Num, expr-Var, expr-Call, expr-
 use Rattle.rb_read.specs.declared.starting.Form.{Form}
 use Rattle.rb_read.specs.declared.starting.Form.TheVariants as form
 use Rattle.rb_read.specs.inner.Starting.{is_symbol, form_of}
-use Rattle.rb_read.specs.inner.Combining.{Reader, into, nothing, pair, expect, expect_word, optional, in_parens, some_closed, any_closed, beyond}
+use Rattle.rb_read.specs.inner.Combining.{Reader, into, nothing, pair, expect, closed_by, optional, in_parens, some_closed, any_closed, beyond}
 use Rattle.rb_read.proofs.Open as open_at
 use Rattle.rb_read.proofs.Open.{one, maybe, next, the, the_word, a_lower, a_width, a_type, fields, begins, as_expr, ahead_of, if_so}
-use Rattle.rb_read.specs.inner.Tokens.{lower_name, width}
-use Rattle.rb_read.specs.inner.Reading.{name_tree, name_or_call, type_tree, begins_expression, is_form, expression_one, expression, binding_of, clause_of, conversion_of, matching_of, operation_of}
+use Rattle.rb_read.specs.inner.Tokens.{width}
+use Rattle.rb_read.specs.inner.Reading.{name_tree, name_or_call, begins_expression, is_form, expression_one, expression, binding_of, clause_of, conversion_of, matching_of, operation_of}
 use Rattle.rb_read.specs.inner.Reading as reading
 use Rattle.rb_read.proofs.Forms.{IsRight, Again, Clear, IsForm}
 use Rattle.rb_read.proofs.FormLaws.{nothing-form, pair-form, first-strict, iso-form, into-strict, alias-form}
 use Rattle.rb_read.proofs.NodeForms.{AtToken, IsPart, part-form, none-at, node-at, node-again, IsDeep, IsDeepBegun, zero-form}
 use Rattle.rb_read.proofs.TokenForms.{symbol-part, word-part, lower-part, width-part}
-use Rattle.rb_read.proofs.TypeForms.{opens_paren, all-clear, before-any, type-part}
+use Rattle.rb_read.proofs.TypeForms.{opens_paren, all-clear, before-any, closed_by-form, closed_by-strict, type-part}
 use Rattle.rb_read.proofs.ListForms.{perhaps, optional-form, in_parens-form, some_closed-form, any_closed-form}
 use Rattle.rb_read.proofs.PatternForms.{at_level-map, within, not-within, pattern-part}
 
@@ -186,77 +186,86 @@ module _ (total limit l : ℕ) (small : nat_lt limit l ≡ false) {inside : Read
 
   -- What stands behind the word of each form.
 
-  abbrev operands_written : Unit {0} × (ExprTree × (Unit {0} × (ExprTree × Unit {0}))) → Writing
-  operands_written (_, (first, (_, (second, _)))) rest = token (tok.Symbol symbol.OpenParen)
+  abbrev operands_written : Unit {0} × (ExprTree × ExprTree) → Writing
+  operands_written (_, (first, second)) rest = token (tok.Symbol symbol.OpenParen)
       ∷ at_expr (suc l) first (token (tok.Symbol symbol.Comma)
       ∷ at_expr (suc l) second (token (tok.Symbol symbol.CloseParen) ∷ rest))
 
   operands-form : IsForm total limit none
       (one (the symbol.OpenParen) ∷ one (open_at.expr (suc l)) ∷ one (the symbol.Comma) ∷ one (open_at.expr (suc l)) ∷ one (the symbol.CloseParen) ∷ [])
       operands_written
-      (pair (expect symbol.OpenParen) (pair inner (pair (expect symbol.Comma) (pair inner (expect symbol.CloseParen)))))
+      (pair (expect symbol.OpenParen) (pair (closed_by inner symbol.Comma) (closed_by inner symbol.CloseParen)))
   operands-form =
       before-any (symbol-part total limit symbol.OpenParen).form
-      (pair-form expr-in.form
-      (before-any (symbol-part total limit symbol.Comma).form
-      (pair-form expr-in.form (symbol-part total limit symbol.CloseParen).form
-      (λ b rest c. refl))) (λ b rest c. refl))
+      (before-any (closed_by-form expr-in.form symbol.Comma refl) (closed_by-form expr-in.form symbol.CloseParen refl))
 
-  abbrev conversion_written : ℕ × (Unit {0} × (ExprTree × Unit {0})) → Writing
-  conversion_written (bits, (_, (converted, _))) rest = uint_written bits (token (tok.Symbol symbol.OpenParen)
+  abbrev conversion_written : ℕ × (Unit {0} × ExprTree) → Writing
+  conversion_written (bits, (_, converted)) rest = uint_written bits (token (tok.Symbol symbol.OpenParen)
       ∷ at_expr (suc l) converted (token (tok.Symbol symbol.CloseParen) ∷ rest))
 
   conversion-form : IsForm total limit none
       (one a_width ∷ one (the symbol.OpenParen) ∷ one (open_at.expr (suc l)) ∷ one (the symbol.CloseParen) ∷ [])
       conversion_written
-      (pair width (pair (expect symbol.OpenParen) (pair inner (expect symbol.CloseParen))))
+      (pair width (pair (expect symbol.OpenParen) (closed_by inner symbol.CloseParen)))
   conversion-form =
       before-any (width-part total limit).form
-      (before-any (symbol-part total limit symbol.OpenParen).form
-      (pair-form expr-in.form (symbol-part total limit symbol.CloseParen).form (λ b rest c. refl)))
+      (before-any (symbol-part total limit symbol.OpenParen).form (closed_by-form expr-in.form symbol.CloseParen refl))
 
-  abbrev binding_written : NameTree × (Unit {0} × (TyTree × (Unit {0} × (ExprTree × (Unit {0} × ExprTree))))) → Writing
-  binding_written (name, (_, (ty, (_, (bound, (_, body)))))) rest = lower_written name (token (tok.Symbol symbol.Colon)
+  abbrev variable_written : NameTree × TyTree → Writing
+  variable_written (name, ty) rest =
+      lower_written name (token (tok.Symbol symbol.Colon) ∷ ty_written ty (token (tok.Symbol symbol.Equals) ∷ rest))
+
+  variable-form : IsForm total limit none (one a_lower ∷ one (the symbol.Colon) ∷ one a_type ∷ one (the symbol.Equals) ∷ [])
+      variable_written (reading.typed_variable total)
+  unfolding reading.typed_variable
+  variable-form = before-any (closed_by-form (lower-part total limit).form symbol.Colon refl) (closed_by-form (type-part total limit).form symbol.Equals refl)
+
+  abbrev bound_written : ExprTree × ExprTree → Writing
+  bound_written (bound, body) rest = at_expr (suc l) bound (token (tok.Reserved word.In) ∷ at_expr (suc l) body rest)
+
+  bound-form : IsForm total limit opens_paren (one (open_at.expr (suc l)) ∷ one (the_word word.In) ∷ one (open_at.expr (suc l)) ∷ [])
+      bound_written (reading.bound_and_body inner)
+  unfolding reading.bound_and_body
+  bound-form = iso-form reading.bound_of (λ (bound, body). (bound, (tt, body))) (λ p. refl) (λ p rest. refl)
+      (pair-form expr-in.form (before-any (word-part total limit word.In).form expr-in.form) (λ b rest c. refl))
+
+  abbrev binding_written : (NameTree × TyTree) × (ExprTree × ExprTree) → Writing
+  binding_written ((name, ty), (bound, body)) rest = lower_written name (token (tok.Symbol symbol.Colon)
       ∷ ty_written ty (token (tok.Symbol symbol.Equals)
       ∷ at_expr (suc l) bound (token (tok.Reserved word.In) ∷ at_expr (suc l) body rest)))
 
   binding-form : IsForm total limit opens_paren
       (one a_lower ∷ one (the symbol.Colon) ∷ one a_type ∷ one (the symbol.Equals) ∷ one (open_at.expr (suc l)) ∷ one (the_word word.In) ∷ one (open_at.expr (suc l)) ∷ [])
       binding_written
-      (pair (lower_name total) (pair (expect symbol.Colon) (pair (type_tree total) (pair (expect symbol.Equals) (pair inner (pair (expect_word word.In) inner))))))
-  binding-form =
-      before-any (lower-part total limit).form
-      (before-any (symbol-part total limit symbol.Colon).form
-      (before-any (type-part total limit).form
-      (before-any (symbol-part total limit symbol.Equals).form
-      (pair-form expr-in.form
-      (before-any (word-part total limit word.In).form expr-in.form)
-      (λ b rest c. refl)))))
+      (pair (reading.typed_variable total) (reading.bound_and_body inner))
+  binding-form = before-any variable-form bound-form
 
   abbrev one_clause : Reader ClauseTree
-  one_clause = into clause_of (pair inside (pair (expect symbol.FatArrow) inner))
+  one_clause = into clause_of (pair (closed_by inside symbol.FatArrow) inner)
+
+  arrow-form : IsForm total limit none (one (open_at.pat (suc l)) ∷ one (the symbol.FatArrow) ∷ [])
+      (λ p rest. pat_written p (suc l) (token (tok.Symbol symbol.FatArrow) ∷ rest)) (closed_by inside symbol.FatArrow)
+  arrow-form = closed_by-form pat-in.form symbol.FatArrow refl
 
   clause-part : IsPart total limit opens_paren (open_at.clause (suc l)) (at_clause (suc l)) one_clause
   unfolding begins
   clause-part = record {
-    form = alias-form (λ t. refl) (iso-form clause_of (λ c. (c.pat, (tt, c.body))) (λ c. refl) (λ p rest. clause-is _ (suc l) rest)
-        (pair-form pat-in.form (before-any (symbol-part total limit symbol.FatArrow).form expr-in.form) (λ b rest c. refl)));
-    strict = into-strict _ _ (first-strict pat-in.form (before-any (symbol-part total limit symbol.FatArrow).form expr-in.form) pat-in.strict);
+    form = alias-form (λ t. refl) (iso-form clause_of (λ c. (c.pat, c.body)) (λ c. refl) (λ p rest. clause-is _ (suc l) rest)
+        (before-any arrow-form expr-in.form));
+    strict = into-strict _ _ (first-strict arrow-form expr-in.form (closed_by-strict pat-in.form symbol.FatArrow pat-in.strict));
   }
 
-  abbrev matching_written : ExprTree × (Unit {0} × List ClauseTree) → Writing
-  matching_written (matched, (_, clauses)) rest = at_expr (suc l) matched (token (tok.Symbol symbol.OpenBrace)
+  abbrev matching_written : ExprTree × List ClauseTree → Writing
+  matching_written (matched, clauses) rest = at_expr (suc l) matched (token (tok.Symbol symbol.OpenBrace)
       ∷ some_with (tok.Symbol symbol.Comma) (map (at_clause (suc l)) clauses)
       (token (tok.Symbol symbol.CloseBrace) ∷ rest))
 
   matching-form : IsForm total limit none
       (one (open_at.expr (suc l)) ∷ one (the symbol.OpenBrace) ∷ one (open_at.clause (suc l)) ∷ next (open_at.clause (suc l)) symbol.Comma symbol.CloseBrace ∷ [])
       matching_written
-      (pair inner (pair (expect symbol.OpenBrace) (some_closed one_clause symbol.Comma symbol.CloseBrace)))
+      (pair (closed_by inner symbol.OpenBrace) (some_closed one_clause symbol.Comma symbol.CloseBrace))
   matching-form =
-      pair-form expr-in.form
-      (before-any (symbol-part total limit symbol.OpenBrace).form (some_closed-form clause-part symbol.Comma symbol.CloseBrace refl refl refl))
-      (λ b rest c. refl)
+      before-any (closed_by-form expr-in.form symbol.OpenBrace refl) (some_closed-form clause-part symbol.Comma symbol.CloseBrace refl refl refl)
 
   -- by the first token
   abbrev marks : ℕ → List Written
@@ -287,16 +296,16 @@ module _ (total limit l : ℕ) (small : nat_lt limit l ≡ false) {inside : Read
   unfolding begins expression_one reading.expression_from reading.from_form reading.operation reading.conversion reading.binding reading.matching reading.clause_tree
   form-at w (form.Operation o) e h = node-at operands-form l (rw e refl) small (λ at. operation_of at o) (λ ts. rw e refl) marks
       (λ at. tt) (λ at. (refl, tt)) (λ at. rw small refl)
-      (λ at (_, (first, (_, (second, _)))) rest. rw h (expr-Binary at o first second l rest))
+      (λ at (_, (first, second)) rest. rw h (expr-Binary at o first second l rest))
   form-at w form.Conversion e h = node-at conversion-form l (rw e refl) small (λ at. conversion_of at) (λ ts. rw e refl) marks
       (λ at. tt) (λ at. (refl, tt)) (λ at. rw small refl)
-      (λ at (bits, (_, (converted, _))) rest. rw h (expr-To at bits converted l rest))
+      (λ at (bits, (_, converted)) rest. rw h (expr-To at bits converted l rest))
   form-at w form.Binding e h = node-at binding-form l (rw e refl) small (λ at. binding_of at) (λ ts. rw e refl) marks
       (λ at. tt) (λ at. (refl, tt)) (λ at. rw small refl)
-      (λ at (name, (_, (ty, (_, (bound, (_, body)))))) rest. rw h (expr-Let at name ty bound body l rest))
+      (λ at ((name, ty), (bound, body)) rest. rw h (expr-Let at name ty bound body l rest))
   form-at w form.Matching e h = node-at matching-form l (rw e refl) small (λ at. matching_of at) (λ ts. rw e refl) marks
       (λ at. tt) (λ at. (refl, tt)) (λ at. rw small refl)
-      (λ at (matched, (_, clauses)) rest. rw h (match-written at matched clauses l rest))
+      (λ at (matched, clauses) rest. rw h (match-written at matched clauses l rest))
   form-at w form.Other e h = none-at (rw e refl) (λ ts. rw e refl)
 
   expression-on : (t : Token) → AtToken total limit (open_at.expr l) (at_expr l) this t
@@ -322,13 +331,13 @@ module _ (total limit l : ℕ) (small : nat_lt limit l ≡ false) {inside : Read
       (call-written at x es l rest) (λ m h. rw (h.0, ← h.1.0) refl) i c)
       (λ at x es i. node-again build-form (tok.Upper x.text) (λ m es. X.Build m (name_tree m x.text) es) (λ ts. refl) (node l ∷ number at ∷ number x.at ∷ []) tt (rw small refl) _ es rest _
       (build-written at x es l rest) (λ m h. rw (h.0, ← h.1.0) refl) i c)
-      (λ at o a b i. node-again operands-form (tok.Reserved (op_word o)) (λ m. operation_of m o) (λ ts. rw (form_of-op_word o) refl) (marks at) tt (rw small refl) _ (tt, (a, (tt, (b, tt)))) rest _
+      (λ at o a b i. node-again operands-form (tok.Reserved (op_word o)) (λ m. operation_of m o) (λ ts. rw (form_of-op_word o) refl) (marks at) tt (rw small refl) _ (tt, (a, b)) rest _
       (expr-Binary at o a b l rest) (λ m h. rw h.0 refl) i clear)
-      (λ at bits a i. node-again conversion-form (tok.Reserved word.To) (λ m. conversion_of m) (λ ts. refl) (marks at) tt (rw small refl) _ (bits, (tt, (a, tt))) rest _
+      (λ at bits a i. node-again conversion-form (tok.Reserved word.To) (λ m. conversion_of m) (λ ts. refl) (marks at) tt (rw small refl) _ (bits, (tt, a)) rest _
       (expr-To at bits a l rest) (λ m h. rw h.0 refl) i clear)
-      (λ at x t a b i. node-again binding-form (tok.Reserved word.Let) (λ m. binding_of m) (λ ts. refl) (marks at) tt (rw small refl) _ (x, (tt, (t, (tt, (a, (tt, b)))))) rest _
+      (λ at x t a b i. node-again binding-form (tok.Reserved word.Let) (λ m. binding_of m) (λ ts. refl) (marks at) tt (rw small refl) _ ((x, t), (a, b)) rest _
       (expr-Let at x t a b l rest) (λ m h. rw h.0 refl) i c)
-      (λ at a cs i. node-again matching-form (tok.Reserved word.Match) (λ m. matching_of m) (λ ts. refl) (marks at) tt (rw small refl) _ (a, (tt, cs)) rest _
+      (λ at a cs i. node-again matching-form (tok.Reserved word.Match) (λ m. matching_of m) (λ ts. refl) (marks at) tt (rw small refl) _ (a, cs) rest _
       (match-written at a cs l rest) (λ m h. rw h.0 refl) i clear) where
         clear : Clear none (tokens_in rest)
         clear = all-clear (tokens_in rest)

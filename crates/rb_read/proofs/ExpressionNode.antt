@@ -11,12 +11,12 @@ use Rattle.rb_read.proofs.Loops.{tokens-length, tokens-rest}
 
 pub lower-node : (inside : Reader PatTree) (inner : Reader ExprTree) (total at : ℕ) (ps : List Placed) (p : Placed) (name : List ℕ)
     → 1 ≤ length ps → p ≡ get_or ps 0 p → p.token ≡ token.Lower name → at ≡ total - length ps
-    → expression_one inside inner total (tokens ps) ≡ into (λ o. name_or_call at name o) (arguments inside inner total at) (tokens (take (length ps - 1) (drop 1 ps)))
+    → expression_one inside inner total (tokens ps) ≡ into (λ o. name_or_call at name o) (arguments inner) (tokens (take (length ps - 1) (drop 1 ps)))
 unfolding expression_one expression_from
 lower-node inside inner total at [] p name some first is numbered = absurd (omega arith)
 lower-node inside inner total at (q ∷ qs) p name some first is numbered =
     let h : q.token ≡ token.Lower name = ap (λ x. x.token) (sym first) ∙ is in
     let k : total - suc (length (tokens qs)) ≡ at = ap (λ n. total - n) (sym (tokens-length (q ∷ qs))) ∙ sym numbered in
     ap (λ t. expression_from inside inner total (total - suc (length (tokens qs))) t (tokens qs)) h
-    ∙ ap (λ a. into (λ o. name_or_call a name o) (arguments inside inner total a) (tokens qs)) k
-    ∙ ap (λ us. into (λ o. name_or_call at name o) (arguments inside inner total at) us) (sym (tokens-rest (q ∷ qs)))
+    ∙ ap (λ a. into (λ o. name_or_call a name o) (arguments inner) (tokens qs)) k
+    ∙ ap (λ us. into (λ o. name_or_call at name o) (arguments inner) us) (sym (tokens-rest (q ∷ qs)))

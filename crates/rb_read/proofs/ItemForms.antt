@@ -17,18 +17,18 @@ use Rattle.rb_syntax.specs.declared.tree.ItemTree.TheVariants as top
 use Rattle.rb_syntax.specs.Written.{Written, Writing, token, number, tokens_in, each, some_with, any_with}
 use Rattle.rb_syntax.specs.Spelling as spelling
 use Rattle.rb_syntax.specs.Spelling.{word_token, upper_written, lower_written, ty_written, con_written, param_written, width_written, item_written}
-use Rattle.rb_read.specs.inner.Combining.{Reader, pair, into, nothing, expect, some_closed, any_closed}
+use Rattle.rb_read.specs.inner.Combining.{Reader, pair, into, nothing, expect, closed_by, some_closed, any_closed}
 use Rattle.rb_read.proofs.Open.{one, first, next, the, a_number, a_lower, an_upper, a_type, a_con, a_param, derived, layout_rest, item, begins, start}
 use Rattle.rb_read.proofs.Open as open_at
 use Rattle.rb_read.specs.inner.Tokens as tokens
 use Rattle.rb_read.specs.inner.Tokens.{lower_name, upper_name}
-use Rattle.rb_read.specs.inner.Reading.{LayoutRest, laid_out, auto_from, auto_word, layout_of, con_tree, param_tree, type_tree, expression, layout_tree, begins_item, file_items, fun_of, laid_out_of, type_item_of}
+use Rattle.rb_read.specs.inner.Reading.{LayoutRest, laid_out, auto_from, auto_word, layout_of, con_tree, param_tree, expression, layout_tree, begins_item, file_items, fun_of, laid_out_of, type_item_of}
 use Rattle.rb_read.specs.inner.Reading as reading
 use Rattle.rb_read.proofs.Forms.{IsRight, Again, Clear, IsForm}
-use Rattle.rb_read.proofs.FormLaws.{nat_lt-zero, nothing-form, pair-form}
+use Rattle.rb_read.proofs.FormLaws.{nat_lt-zero, nothing-form, iso-form}
 use Rattle.rb_read.proofs.NodeForms.{AtToken, IsPart, part-form, none-at, node-at, node-at-by, node-again, AreMarks, AllAre, is_deeper}
 use Rattle.rb_read.proofs.TokenForms.{symbol-part, lower-part, upper-part, number-part}
-use Rattle.rb_read.proofs.TypeForms.{before-any, type-part, con-part, param-part}
+use Rattle.rb_read.proofs.TypeForms.{before-any, closed_by-form, type-part, con-part, param-part}
 use Rattle.rb_read.proofs.ExpressionForms.{expression-part}
 use Rattle.rb_read.proofs.ListForms.{some_closed-form, any_closed-form, each-form}
 use Rattle.rb_read.proofs.TreeForms.{at_tree, tree-part}
@@ -113,28 +113,29 @@ module _ (total limit : ℕ) where
   layout-form = before-any (upper-part total limit).form rest-part.form
 
   -- what stands behind `fun`
-  abbrev fun_written : NameTree × (Unit {0} × (List ParamTree × (Unit {0} × (TyTree × (Unit {0}
-      × (ExprTree × Unit {0})))))) → Writing
-  fun_written (name, (_, (params, (_, (result, (_, (body, _))))))) rest = lower_written name
+  abbrev fun_written : NameTree × (List ParamTree × (TyTree × ExprTree)) → Writing
+  fun_written (name, (params, (result, body))) rest = lower_written name
       (token (tok.Symbol symbol.OpenParen) ∷ any_with (tok.Symbol symbol.Comma) (map param_written params)
       (token (tok.Symbol symbol.CloseParen) ∷ token (tok.Symbol symbol.Colon)
       ∷ ty_written result (token (tok.Symbol symbol.Equals)
       ∷ spelling.expr_written body 1 (token (tok.Symbol symbol.Semicolon) ∷ rest))))
 
+  result-form : IsForm total limit none (one (the symbol.Colon) ∷ one a_type ∷ one (the symbol.Equals) ∷ [])
+      (λ ty rest. token (tok.Symbol symbol.Colon) ∷ ty_written ty (token (tok.Symbol symbol.Equals) ∷ rest)) (reading.result_type total)
+  unfolding reading.result_type
+  result-form = iso-form (λ p. p.1) (λ ty. (tt, ty)) (λ ty. refl) (λ p rest. refl)
+      (before-any (symbol-part total limit symbol.Colon).form (closed_by-form (type-part total limit).form symbol.Equals refl))
+
   fun-form : IsForm total limit none (one a_lower ∷ one (the symbol.OpenParen) ∷ first a_param symbol.CloseParen
       ∷ one (the symbol.Colon) ∷ one a_type ∷ one (the symbol.Equals) ∷ one (open_at.expr 1) ∷ one (the symbol.Semicolon) ∷ [])
       fun_written
-      (pair (lower_name total) (pair (expect symbol.OpenParen) (pair (any_closed (param_tree total) symbol.CloseParen)
-      (pair (expect symbol.Colon) (pair (type_tree total) (pair (expect symbol.Equals) (pair (expression limit total) (expect symbol.Semicolon))))))))
+      (pair (closed_by (lower_name total) symbol.OpenParen) (pair (any_closed (param_tree total) symbol.CloseParen)
+      (pair (reading.result_type total) (closed_by (expression limit total) symbol.Semicolon))))
   unfolding begins
   fun-form =
-      before-any (lower-part total limit).form
-      (before-any (symbol-part total limit symbol.OpenParen).form
+      before-any (closed_by-form (lower-part total limit).form symbol.OpenParen refl)
       (before-any (any_closed-form (param-part total limit) symbol.CloseParen refl refl refl refl)
-      (before-any (symbol-part total limit symbol.Colon).form
-      (before-any (type-part total limit).form
-      (before-any (symbol-part total limit symbol.Equals).form
-      (pair-form (expression-part total limit limit 1 (omega arith)).form (symbol-part total limit symbol.Semicolon).form (λ b rest c. refl)))))))
+      (before-any result-form (closed_by-form (expression-part total limit limit 1 (omega arith)).form symbol.Semicolon refl)))
 
   -- a layout that is written out has the number of its word
   abbrev layout_marks : ℕ → NameTree × LayoutRest → List Written
@@ -176,7 +177,7 @@ module _ (total limit : ℕ) where
       (λ at h. rw (← h.0) refl) i c
   item-again (top.Derived name a) rest i c = node-again layout-form (tok.Reserved word.Layout) (λ at p. layout_of limit total at p.0 p.1) (λ ts. refl) [] tt refl _ (name, reading.derived a) rest _ refl (λ at h. refl) i c
   item-again (top.Funs f) rest i c = node-again fun-form (tok.Reserved word.Fun) (λ at. fun_of) (λ ts. refl)
-      [] tt refl _ (f.name, (tt, (f.params, (tt, (f.result, (tt, (f.body, tt))))))) rest _ refl (λ at h. refl) i c
+      [] tt refl _ (f.name, (f.params, (f.result, f.body))) rest _ refl (λ at h. refl) i c
 
   one_item-part : IsPart total limit none item item_written this
   unfolding reading.file_item

@@ -22,6 +22,7 @@ pub mod Open
 mod OpenExamples
 pub mod PatternForms
 pub mod Pointers
+pub mod Sameness
 mod Steps
 pub mod Taking
 pub mod TokenForms

@@ -9,14 +9,14 @@
 --
 --     on (tok.Reserved word.Add) = node-at operands l refl small (λ at. operation_of at op.Add) (λ ts. refl)
 --         (λ at. node l ∷ number at ∷ []) (λ at. tt) (λ at. (refl, tt)) (λ at. rw small refl)
---         (λ at (_, (first, (_, (second, _)))) rest. expr-Binary at op.Add first second l rest)
+--         (λ at (_, (first, second)) rest. expr-Binary at op.Add first second l rest)
 --
 --     add at a b = node-again operands (tok.Reserved word.Add) (λ at. operation_of at op.Add) (λ ts. refl)
---         (node l ∷ number at ∷ []) tt (rw small refl) (X.Binary at op.Add a b) (tt, (a, (tt, (b, tt)))) rest _
+--         (node l ∷ number at ∷ []) tt (rw small refl) (X.Binary at op.Add a b) (tt, (a, b)) rest _
 --         (expr-Binary at op.Add a b l rest) (λ m h. rw h.0 refl) i c
 --
--- where `operands` is the form of `(a, b)`, by `pair-form` of forms of its symbols and of the expressions one level
--- below, and `operation_of` makes a tree of its parts.
+-- where `operands` is the form of `(a, b)`, by `pair-form` and `closed_by-form` of forms of its symbols and of the
+-- expressions one level below, and `operation_of` makes a tree of its parts.
 use Rattle.std.proofs.Common.{◌≡◌, ℕ, suc, ◌-◌, ◌≤◌, List, [], ◌∷◌, ◌++◌, length, Bool, true, false, nat_lt, if◌then◌else◌, Some, None, Err, IfOk, refl, sym, ◌∙◌, ap, subst, arith}
 use Rattle.std.proofs.lemmas.Grind.{common_steps}
 use Rattle.rb_syntax.specs.declared.token.Token.{Token}

@@ -163,7 +163,7 @@ abbrev pub field_number : ℕ → Writing
 field_number n rest = flaw_unless (nat_lt n (2 ^ 32)) (num n ∷ rest)
 
 pub field-part : (total limit : ℕ) → IsPart total limit (λ _. false) a_field field_number tokens.field
-unfolding begins tokens.field into nothing
+unfolding begins tokens.field tokens.number into nothing
 field-part total limit = part-form refl on
     (λ x rest i c. let e : nat_lt x (2 ^ 32) ≡ true = checked-right total _ _ i in
     node-again (nothing-form total limit) (tok.Num x) (λ at y. x) (λ ts. rw e refl) [] tt refl x tt rest _ (rw e refl) (λ at h. refl) i c) where

@@ -17,19 +17,20 @@ use Rattle.rb_syntax.specs.declared.tree.SplitTree as S
 use Rattle.rb_syntax.specs.declared.tree.SplitTree.TheOpen as split
 use Rattle.rb_syntax.specs.declared.tree.SplitTree.TheOpen.{SplitTree-F}
 use Rattle.rb_syntax.specs.Written.{Written, Writing, token, number, node, flaw, tokens_in, each, some_with}
-use Rattle.rb_syntax.specs.Spelling.{fields_written, below_written, prov_written, loc_written, split_written, arm_written}
+use Rattle.rb_syntax.specs.Spelling.{num, fields_written, below_written, prov_written, loc_written, split_written, arm_written}
 use Rattle.rb_syntax.proofs.SpellingLemmas.{arm-is, split-Leaf, split-None, split-Some}
 use Rattle.rb_syntax.proofs.LayoutSpelling.{below-Var, below-Num}
 use Rattle.rb_read.specs.inner.Starting.{is_word, is_number}
-use Rattle.rb_read.specs.inner.Combining.{Reader, pair, expect, optional, some_closed, each_of, beyond}
-use Rattle.rb_read.proofs.Open.{Open, one, maybe, many, first, next, the, a_number, a_range, begins, if_so, ahead_of}
+use Rattle.rb_read.specs.inner.Combining.{Reader, pair, expect, closed_by, optional, some_closed, each_of, beyond}
+use Rattle.rb_read.specs.inner.Tokens as tokens
+use Rattle.rb_read.proofs.Open.{Open, one, maybe, many, first, next, the, the_word, a_number, a_range, begins, if_so, ahead_of}
 use Rattle.rb_read.proofs.Open as open_at
-use Rattle.rb_read.specs.inner.Reading.{begins_tree, arm_tree, else_tree, split_rest, leaf, tree_by, layout_tree, location, lay_item_tree, provenance, arm_of, else_of, leaf_of, split_of}
+use Rattle.rb_read.specs.inner.Reading.{begins_tree, arm_tree, else_arrow, else_tree, other_arm, branches, split_rest, leaf, tree_by, layout_tree, location, lay_item_tree, provenance, arm_of, else_of, leaf_of, split_of}
 use Rattle.rb_read.proofs.Forms.{IsRight, Again, Clear, IsForm}
-use Rattle.rb_read.proofs.FormLaws.{all-clear, pair-form, first-strict, iso-form, into-strict, alias-form}
+use Rattle.rb_read.proofs.FormLaws.{IsStrict, all-clear, pair-form, first-strict, iso-form, into-strict, alias-form}
 use Rattle.rb_read.proofs.NodeForms.{AtToken, IsPart, part-form, none-at, node-at, node-again, whole-at, whole-again, IsDeep, IsDeepBegun, zero-form}
 use Rattle.rb_read.proofs.TokenForms.{symbol-part, word-part, number-part}
-use Rattle.rb_read.proofs.TypeForms.{opens_paren, before-any}
+use Rattle.rb_read.proofs.TypeForms.{opens_paren, before-any, closed_by-form, closed_by-strict}
 use Rattle.rb_read.proofs.ListForms.{perhaps, some_closed-form, optional-form, each-form}
 use Rattle.rb_read.proofs.PatternForms.{by_form, at_level-map, within, not-within, below-con-written, provenance-part}
 use Rattle.rb_read.proofs.LocationForms.{location-form}
@@ -152,16 +153,26 @@ module _ (total limit l n : ℕ) (fits : l + suc n ≡ suc limit) {inner : Reade
   small : nat_lt limit l ≡ false
   small = within limit l n fits
 
-  arm-behind : IsForm total limit none (one (the symbol.FatArrow) ∷ one (open_at.tree (suc l)) ∷ []) (λ p rest. token (tok.Symbol symbol.FatArrow) ∷ at_tree (suc l) p.1 rest)
-      (pair (expect symbol.FatArrow) inner)
-  arm-behind = before-any (symbol-part total limit symbol.FatArrow).form tree-in.form
+  literal-form : IsForm total limit none (one a_number ∷ one (the symbol.FatArrow) ∷ []) (λ n rest. num n ∷ token (tok.Symbol symbol.FatArrow) ∷ rest)
+      (closed_by tokens.number symbol.FatArrow)
+  literal-form = closed_by-form (number-part total limit).form symbol.FatArrow refl
+
+  else-form : IsForm total limit none (one (the_word word.Else) ∷ one (the symbol.FatArrow) ∷ [])
+      (λ _ rest. token (tok.Reserved word.Else) ∷ token (tok.Symbol symbol.FatArrow) ∷ rest) else_arrow
+  unfolding else_arrow
+  else-form = closed_by-form (word-part total limit word.Else).form symbol.FatArrow refl
+
+  else-strict : IsStrict else_arrow
+  unfolding else_arrow
+  else-strict = closed_by-strict (word-part total limit word.Else).form symbol.FatArrow (word-part total limit word.Else).strict
 
   arm-part : IsPart total limit none (open_at.arm (suc l)) (at_arm (suc l)) (arm_tree inner)
   unfolding begins arm_tree
   arm-part = record {
-    form = alias-form begun (iso-form arm_of (λ a. (a.literal, (tt, a.under))) (λ a. refl) (λ p rest. arm-is _ (suc l) rest)
-        (before-any (number-part total limit).form arm-behind));
-    strict = into-strict _ _ (first-strict (number-part total limit).form arm-behind (number-part total limit).strict);
+    form = alias-form begun (iso-form arm_of (λ a. (a.literal, a.under)) (λ a. refl) (λ p rest. arm-is _ (suc l) rest)
+        (before-any literal-form tree-in.form));
+    strict = into-strict _ _ (first-strict literal-form tree-in.form
+        (closed_by-strict (number-part total limit).form symbol.FatArrow (number-part total limit).strict));
   } where
     begun : (t : Token) → begins (open_at.arm (suc l)) t ≡ ahead_of (one (the symbol.FatArrow) ∷ one (open_at.tree (suc l)) ∷ []) (begins a_number t)
     begun (tok.Num x) = refl
@@ -170,9 +181,9 @@ module _ (total limit l n : ℕ) (fits : l + suc n ≡ suc limit) {inner : Reade
   else-part : IsPart total limit none (open_at.other (suc l)) (else_behind (suc l)) (else_tree inner)
   unfolding begins else_tree
   else-part = record {
-    form = alias-form (λ t. by_word word.Else _ t) (iso-form else_of (λ t. (tt, (tt, t))) (λ t. refl) (λ p rest. refl)
-        (before-any (word-part total limit word.Else).form arm-behind));
-    strict = into-strict _ _ (first-strict (word-part total limit word.Else).form arm-behind (word-part total limit word.Else).strict);
+    form = alias-form (λ t. by_word word.Else _ t) (iso-form else_of (λ t. (tt, t)) (λ t. refl) (λ p rest. refl)
+        (before-any else-form tree-in.form));
+    strict = into-strict _ _ (first-strict else-form tree-in.form else-strict);
   }
 
   arms-form : IsForm total limit is_number (many (open_at.arm (suc l)) ∷ []) (λ xs rest. each (map (at_arm (suc l)) xs) rest) (each_of is_number (arm_tree inner))
@@ -187,21 +198,18 @@ module _ (total limit l n : ℕ) (fits : l + suc n ≡ suc limit) {inner : Reade
   other-form = optional-form else-part is_else (λ t. is-so (is_word word.Else t) _) (λ t h. refl)
 
   -- what stands behind `split`
-  abbrev split_parts_written : Loc × (Unit {0} × (List ArmTree × (Option SplitTree × Unit {0}))) → Writing
-  split_parts_written (loc, (_, (arms, (other, _)))) rest = loc_written loc (token (tok.Symbol symbol.OpenBrace)
+  abbrev split_parts_written : Loc × (List ArmTree × Option SplitTree) → Writing
+  split_parts_written (loc, (arms, other)) rest = loc_written loc (token (tok.Symbol symbol.OpenBrace)
       ∷ each (map (at_arm (suc l)) arms) (perhaps (else_behind (suc l)) other (token (tok.Symbol symbol.CloseBrace) ∷ rest)))
 
   split-form : IsForm total limit none (one a_number ∷ one a_range ∷ many open_at.loc_step ∷ one (the symbol.OpenBrace)
       ∷ many (open_at.arm (suc l)) ∷ maybe (open_at.other (suc l)) ∷ one (the symbol.CloseBrace) ∷ [])
       split_parts_written
-      (pair location (pair (expect symbol.OpenBrace) (pair (each_of is_number (arm_tree inner)) (pair (optional is_else (else_tree inner)) (expect symbol.CloseBrace)))))
+      (pair (closed_by location symbol.OpenBrace) (branches inner))
+  unfolding branches other_arm
   split-form =
-      pair-form (location-form total limit)
-      (before-any (symbol-part total limit symbol.OpenBrace).form
-      (pair-form arms-form
-      (pair-form other-form (symbol-part total limit symbol.CloseBrace).form (λ b rest c. refl))
-      (λ b rest c. clear b.0 rest)))
-      (λ b rest c. refl) where
+      before-any (closed_by-form (location-form total limit) symbol.OpenBrace refl)
+      (pair-form arms-form (closed_by-form other-form symbol.CloseBrace refl) (λ b rest c. clear b rest)) where
         clear : (o : Option SplitTree) (rest : List Written) → Clear is_number (tokens_in (perhaps (else_behind (suc l)) o (token (tok.Symbol symbol.CloseBrace) ∷ rest)))
         clear None rest = refl
         clear (Some t) rest = refl
@@ -234,7 +242,7 @@ module _ (total limit l n : ℕ) (fits : l + suc n ≡ suc limit) {inner : Reade
   unfolding begins tree_by split_rest leaf
   tree-on (tok.Reserved word.Split) = node-at split-form l refl small (λ at. split_of) (λ ts. refl) (λ at. node l ∷ [])
       (λ at. tt) (λ at. tt) (λ at. rw small refl)
-      (λ at (loc, (_, (arms, (other, _)))) rest. split-written loc arms other l rest)
+      (λ at (loc, (arms, other)) rest. split-written loc arms other l rest)
   tree-on (tok.Upper x) = whole-at leaf-form refl (λ at. leaf_of at) (λ ts. refl) (first-strict provenance-in.form leaf-behind provenance-in.strict) (λ at. node l ∷ number at ∷ [])
       (λ at. tt) (λ at. (refl, tt)) (λ at. rw small refl)
       (λ at (provenance, (_, (_, items))) rest. leaf-written at provenance items l rest)
@@ -255,7 +263,7 @@ module _ (total limit l n : ℕ) (fits : l + suc n ≡ suc limit) {inner : Reade
   tree-again : (rest : List Written) → (t : SplitTree) → IsRight total (at_tree l t rest) → Again total limit this t (at_tree l t rest) rest
   unfolding tree_by split_rest
   tree-again rest = tree_by_form (λ t. IsRight total (at_tree l t rest) → Again total limit this t (at_tree l t rest) rest)
-      (λ loc arms other i. node-again split-form (tok.Reserved word.Split) (λ at. split_of) (λ ts. refl) (node l ∷ []) tt (rw small refl) _ (loc, (tt, (arms, (other, tt)))) rest _
+      (λ loc arms other i. node-again split-form (tok.Reserved word.Split) (λ at. split_of) (λ ts. refl) (node l ∷ []) tt (rw small refl) _ (loc, (arms, other)) rest _
       (split-written loc arms other l rest) (λ at h. refl) i (all-clear (tokens_in rest)))
       (λ at p items i. leaf-again rest at p items i)
 

@@ -1,5 +1,6 @@
 -- Types, constructors and parameters.
 use Rattle.std.proofs.Common.{◌≡◌, ℕ, suc, ◌-◌, List, [], ◌∷◌, ◌++◌, map, length, Bool, true, false, Ok, Err, refl, sym, ◌∙◌, ap}
+use Rattle.rb_syntax.specs.declared.token.Symbol.{Symbol}
 use Rattle.rb_syntax.specs.declared.token.Symbol.TheVariants as symbol
 use Rattle.rb_syntax.specs.declared.token.Token.{Token}
 use Rattle.rb_syntax.specs.declared.token.Token.TheVariants as tok
@@ -8,12 +9,12 @@ use Rattle.rb_syntax.specs.declared.tree.TyTree.TheVariants as ty
 use Rattle.rb_syntax.specs.Written.{Written, Writing, token, number, tokens_in}
 use Rattle.rb_syntax.specs.Spelling.{is_uint_width, ty_written, fields_written, con_written, param_written}
 use Rattle.rb_read.specs.inner.Starting.{is_symbol}
-use Rattle.rb_read.specs.inner.Combining.{ReadOutcome, Reader, ◌>>=◌, pair, into, nothing, expect, in_parens}
+use Rattle.rb_read.specs.inner.Combining.{ReadOutcome, Reader, ◌>>=◌, pair, into, nothing, expect, closed_by, in_parens}
 use Rattle.rb_read.specs.inner.Tokens.{lower_name}
 use Rattle.rb_read.proofs.Open.{Open, one, maybe, the, an_upper, fields, a_type, a_con, a_param, begins, ahead_of}
 use Rattle.rb_read.specs.inner.Reading.{name_tree, type_from, type_tree, con_tree, param_tree, parameter_of}
 use Rattle.rb_read.proofs.Forms.{IsRight, Again, Clear, IsForm}
-use Rattle.rb_read.proofs.FormLaws.{nat_lt-zero, nothing-form, pair-form, first-strict, iso-form, into-strict, alias-form}
+use Rattle.rb_read.proofs.FormLaws.{IsStrict, nat_lt-zero, nothing-form, pair-form, first-strict, iso-form, into-strict, alias-form}
 use Rattle.rb_read.proofs.ListForms.{in_parens-form}
 use Rattle.rb_read.proofs.NodeForms.{AtToken, IsPart, part-form, none-at, node-at, node-again, if-at}
 use Rattle.rb_read.proofs.TokenForms.{checked-right, upper-part, symbol-part}
@@ -27,6 +28,19 @@ pub before-any : {A B : Type 0} {total limit : ℕ} {bars : Token → Bool} {o1 
     → IsForm total limit (λ _. false) o1 w1 r → IsForm total limit bars o2 w2 s
     → IsForm total limit bars (o1 ++ o2) (λ p rest. w1 p.0 (w2 p.1 rest)) (pair r s)
 before-any {w2 = w2} f g = pair-form f g (λ b rest c. all-clear (tokens_in (w2 b rest)))
+
+-- a part, and the symbol that closes it, which would not go on with the part
+module _ {A : Type 0} {total limit : ℕ} {bars : Token → Bool} {opens : List Open} {written : A → Writing} {r : Reader A}
+    (f : IsForm total limit bars opens written r) (s : Symbol) where
+  pub closed_by-form : bars (tok.Symbol s) ≡ false
+      → IsForm total limit (λ _. false) (opens ++ one (the s) ∷ []) (λ a rest. written a (token (tok.Symbol s) ∷ rest)) (closed_by r s)
+  unfolding closed_by
+  closed_by-form clear = iso-form (λ p. p.0) (λ a. (a, tt)) (λ a. refl) (λ p rest. refl)
+      (pair-form f (symbol-part total limit s).form (λ b rest c. clear))
+
+  pub closed_by-strict : IsStrict r → IsStrict (closed_by r s)
+  unfolding closed_by
+  closed_by-strict h = into-strict _ _ (first-strict f (symbol-part total limit s).form h)
 
 pub type-part : (total limit : ℕ) → IsPart total limit (λ _. false) a_type ty_written (type_tree total)
 unfolding begins type_tree type_from into nothing

@@ -21,16 +21,16 @@ ghost use Rattle.rb_read.specs.inner.Reading as reading;
 ghost use Rattle.rb_read.specs.inner.Gives.{Gives};
 
 use crate::beyond::beyond;
-use crate::list::{read_any_closed, read_in_parens, read_some_closed};
+use crate::list::read_some_closed;
 use crate::pattern::read_pattern;
 use crate::starting::{Form, form_of};
 use crate::stop::Stop;
-use crate::tokens::{begins_with, expect, expect_word, number_of, read_lower, read_width};
-use crate::types::read_type;
+use crate::tokens::{begins_with, expect, expect_word, number_of, read_lower_before, read_width};
+use crate::types::read_type_before;
 use rb_core::boxed::Boxed;
 use rb_core::seq::Seq;
 use rb_syntax::token::{Placed, ReservedWord, Symbol, Token};
-use rb_syntax::tree::{ClauseTree, ExprTree, Name, NameTree, Op};
+use rb_syntax::tree::{ClauseTree, ExprTree, Name, NameTree, Op, PatTree, TyTree};
 use std::alloc::Global;
 
 // Whether the first token begins an expression; not where there is no token.
@@ -95,6 +95,25 @@ fn read_boxed<'a>(
     Ok((Boxed::new(alloc, inner)?, rest))
 }
 
+// An expression with so many levels left, in a box, and the symbol `close` behind it.
+#[cycle(expressions)]
+#[tactic(auto, unfolding(crate::specs::inner::Combining::closed_by, crate::specs::inner::Combining::pair, crate::specs::inner::Combining::into))]
+fn read_boxed_before<'a>(
+    alloc: Global,
+    levels: u32,
+    total: usize,
+    close: Symbol,
+    placed: &'a [Placed],
+) -> Result<(Boxed<ExprTree>, &'a [Placed]), Stop>
+    requires { total < 2 ^ 32 }
+    ensures { Gives (λ x. (x.0, tokens x.1.now)) result
+        (combining.closed_by (λ ts. reading.expression levels total ts) close (tokens placed.now)) }
+{
+    let (inner, rest) = read_boxed(alloc, levels, total, placed)?;
+    let rest = expect(close, rest)?;
+    Ok((inner, rest))
+}
+
 // An expression whose parts have so many levels left.
 #[cycle(expressions)]
 #[tactic(auto, unfolding(crate::specs::inner::Reading::expression_one, crate::specs::inner::Reading::expression_from))]
@@ -127,7 +146,7 @@ fn read_expression_node<'a>(
 // A variable or a call of a function, behind its `name`: a call where a parenthesis stands there,
 // else a variable. Arguments have so many levels left.
 #[cycle(expressions)]
-#[tactic(auto, unfolding(crate::specs::inner::Reading::arguments, crate::specs::inner::Combining::optional, crate::specs::inner::Combining::pair, crate::specs::inner::Combining::into))]
+#[tactic(auto, unfolding(crate::specs::inner::Combining::into))]
 fn read_called<'a>(
     alloc: Global,
     levels: u32,
@@ -139,22 +158,49 @@ fn read_called<'a>(
     requires { total < 2 ^ 32 }
     ensures { Gives (λ x. (x.0, tokens x.1.now)) result
         (combining.into (λ o. reading.name_or_call at name.now o)
-        (reading.arguments (λ ts. reading.pattern levels total ts)
-        (λ ts. reading.expression levels total ts) total at) (tokens placed.now)) }
+        (reading.arguments (λ ts. reading.expression levels total ts)) (tokens placed.now)) }
 {
     let text = name.copy(alloc)?;
-    let name = NameTree { at, text };
-    if begins_with(Symbol::OpenParen, placed) {
-        let rest = expect(Symbol::OpenParen, placed)?;
-        let (arguments, rest) = read_arguments(alloc, levels, total, rest)?;
-        return Ok((ExprTree::Call(at, name, arguments), rest));
+    let (arguments, rest) = read_call(alloc, levels, total, placed)?;
+    Ok((name_or_call(NameTree { at, text }, arguments), rest))
+}
+
+// What a name is: a variable where no arguments stand behind it, else a call with these.
+fn name_or_call(name: NameTree, arguments: Option<Seq<ExprTree>>) -> ExprTree
+    ensures { result ≡ reading.name_or_call name.at name.text arguments }
+{
+    let at = name.at;
+    match arguments {
+        None => ExprTree::Var(at, name),
+        Some(arguments) => ExprTree::Call(at, name, arguments),
     }
-    Ok((ExprTree::Var(at, name), placed))
+}
+
+// The arguments of a call in parentheses, any number; None where no parenthesis opens.
+#[cycle(expressions)]
+#[tactic(auto, unfolding(crate::specs::inner::Reading::arguments, crate::specs::inner::Combining::optional, crate::specs::inner::Combining::pair, crate::specs::inner::Combining::into))]
+fn read_call<'a>(
+    alloc: Global,
+    levels: u32,
+    total: usize,
+    placed: &'a [Placed],
+) -> Result<(Option<Seq<ExprTree>>, &'a [Placed]), Stop>
+    requires { total < 2 ^ 32 }
+    ensures { Gives (λ x. (x.0, tokens x.1.now)) result
+        (reading.arguments (λ ts. reading.expression levels total ts) (tokens placed.now)) }
+{
+    if !begins_with(Symbol::OpenParen, placed) {
+        return Ok((None, placed));
+    }
+    let rest = expect(Symbol::OpenParen, placed)?;
+    let (arguments, rest) = read_arguments(alloc, levels, total, rest)?;
+    Ok((Some(arguments), rest))
 }
 
 // The arguments of a call behind its opening parenthesis: any number of expressions with commas
 // between, and the parenthesis that closes them.
 #[cycle(expressions)]
+#[tactic(auto, unfolding(crate::specs::inner::Combining::any_closed))]
 fn read_arguments<'a>(
     alloc: Global,
     levels: u32,
@@ -165,12 +211,32 @@ fn read_arguments<'a>(
     ensures { Gives (λ x. (x.0, tokens x.1.now)) result
         (combining.any_closed (λ ts. reading.expression levels total ts) symbols.CloseParen (tokens placed.now)) }
 {
-    read_any_closed(
+    if begins_with(Symbol::CloseParen, placed) {
+        return Ok((Seq::new(alloc), &placed[1..]));
+    }
+    read_some_expressions(alloc, levels, total, placed)
+}
+
+// One expression or more with commas between, and the parenthesis that closes them.
+#[cycle(expressions)]
+fn read_some_expressions<'a>(
+    alloc: Global,
+    levels: u32,
+    total: usize,
+    placed: &'a [Placed],
+) -> Result<(Seq<ExprTree>, &'a [Placed]), Stop>
+    requires { total < 2 ^ 32 }
+    ensures { Gives (λ x. (x.0, tokens x.1.now)) result
+        (combining.some_closed (λ ts. reading.expression levels total ts) symbols.Comma symbols.CloseParen
+        (tokens placed.now)) }
+{
+    read_some_closed(
         alloc,
         |rest|
             requires { total < 2 ^ 32 }
             ensures { Gives (λ x. (x.0, tokens x.1.now)) result (reading.expression levels total (tokens rest.now)) }
         { read_expression(alloc, levels, total, rest) },
+        Symbol::Comma,
         Symbol::CloseParen,
         placed,
     )
@@ -200,6 +266,7 @@ fn read_built<'a>(
 
 // A constructor's fields in parentheses, one or more, or nothing, which is no field.
 #[cycle(expressions)]
+#[tactic(auto, unfolding(crate::specs::inner::Combining::in_parens))]
 fn read_fields<'a>(
     alloc: Global,
     levels: u32,
@@ -210,14 +277,10 @@ fn read_fields<'a>(
     ensures { Gives (λ x. (x.0, tokens x.1.now)) result
         (combining.in_parens (λ ts. reading.expression levels total ts) (tokens placed.now)) }
 {
-    read_in_parens(
-        alloc,
-        |rest|
-            requires { total < 2 ^ 32 }
-            ensures { Gives (λ x. (x.0, tokens x.1.now)) result (reading.expression levels total (tokens rest.now)) }
-        { read_expression(alloc, levels, total, rest) },
-        placed,
-    )
+    if begins_with(Symbol::OpenParen, placed) {
+        return read_some_expressions(alloc, levels, total, &placed[1..]);
+    }
+    Ok((Seq::new(alloc), placed))
 }
 
 // An expression behind the reserved word that it begins with, by the `form` that this word tells.
@@ -263,10 +326,8 @@ fn read_operation<'a>(
         (λ ts. reading.expression levels total ts) total at op (tokens placed.now)) }
 {
     let rest = expect(Symbol::OpenParen, placed)?;
-    let (first, rest) = read_boxed(alloc, levels, total, rest)?;
-    let rest = expect(Symbol::Comma, rest)?;
-    let (second, rest) = read_boxed(alloc, levels, total, rest)?;
-    let rest = expect(Symbol::CloseParen, rest)?;
+    let (first, rest) = read_boxed_before(alloc, levels, total, Symbol::Comma, rest)?;
+    let (second, rest) = read_boxed_before(alloc, levels, total, Symbol::CloseParen, rest)?;
     Ok((ExprTree::Binary(at, op, first, second), rest))
 }
 
@@ -287,9 +348,42 @@ fn read_conversion<'a>(
 {
     let (bits, rest) = read_width(placed)?;
     let rest = expect(Symbol::OpenParen, rest)?;
-    let (inner, rest) = read_boxed(alloc, levels, total, rest)?;
-    let rest = expect(Symbol::CloseParen, rest)?;
+    let (inner, rest) = read_boxed_before(alloc, levels, total, Symbol::CloseParen, rest)?;
     Ok((ExprTree::To(at, bits, inner), rest))
+}
+
+// The variable of a `let` with its type, and the equals sign behind them: `x: T =`.
+#[tactic(auto, unfolding(crate::specs::inner::Reading::typed_variable, crate::specs::inner::Combining::pair))]
+fn read_typed_variable<'a>(
+    alloc: Global,
+    total: usize,
+    placed: &'a [Placed],
+) -> Result<((NameTree, TyTree), &'a [Placed]), Stop>
+    requires { total < 2 ^ 32 }
+    ensures { Gives (λ x. (x.0, tokens x.1.now)) result (reading.typed_variable total (tokens placed.now)) }
+{
+    let (name, rest) = read_lower_before(alloc, total, Symbol::Colon, placed)?;
+    let (ty, rest) = read_type_before(alloc, total, Symbol::Equals, rest)?;
+    Ok(((name, ty), rest))
+}
+
+// What a `let` binds and its body: `a in b`.
+#[cycle(expressions)]
+#[tactic(auto, unfolding(crate::specs::inner::Reading::bound_and_body, crate::specs::inner::Combining::pair, crate::specs::inner::Combining::into))]
+fn read_bound_and_body<'a>(
+    alloc: Global,
+    levels: u32,
+    total: usize,
+    placed: &'a [Placed],
+) -> Result<((Boxed<ExprTree>, Boxed<ExprTree>), &'a [Placed]), Stop>
+    requires { total < 2 ^ 32 }
+    ensures { Gives (λ x. (x.0, tokens x.1.now)) result
+        (reading.bound_and_body (λ ts. reading.expression levels total ts) (tokens placed.now)) }
+{
+    let (bound, rest) = read_boxed(alloc, levels, total, placed)?;
+    let rest = expect_word(ReservedWord::In, rest)?;
+    let (body, rest) = read_boxed(alloc, levels, total, rest)?;
+    Ok(((bound, body), rest))
 }
 
 // A `let` behind its word: `x: T = a in b`.
@@ -307,13 +401,8 @@ fn read_binding<'a>(
         (reading.binding (λ ts. reading.pattern levels total ts) (λ ts. reading.expression levels total ts) total at
         (tokens placed.now)) }
 {
-    let (name, rest) = read_lower(alloc, total, placed)?;
-    let rest = expect(Symbol::Colon, rest)?;
-    let (ty, rest) = read_type(alloc, total, rest)?;
-    let rest = expect(Symbol::Equals, rest)?;
-    let (bound, rest) = read_boxed(alloc, levels, total, rest)?;
-    let rest = expect_word(ReservedWord::In, rest)?;
-    let (body, rest) = read_boxed(alloc, levels, total, rest)?;
+    let ((name, ty), rest) = read_typed_variable(alloc, total, placed)?;
+    let ((bound, body), rest) = read_bound_and_body(alloc, levels, total, rest)?;
     Ok((ExprTree::Let(at, name, ty, bound, body), rest))
 }
 
@@ -332,8 +421,7 @@ fn read_matching<'a>(
         (reading.matching (λ ts. reading.pattern levels total ts)
         (λ ts. reading.expression levels total ts) total at (tokens placed.now)) }
 {
-    let (matched, rest) = read_boxed(alloc, levels, total, placed)?;
-    let rest = expect(Symbol::OpenBrace, rest)?;
+    let (matched, rest) = read_boxed_before(alloc, levels, total, Symbol::OpenBrace, placed)?;
     let (clauses, rest) = read_clauses(alloc, levels, total, rest)?;
     Ok((ExprTree::Match(at, matched, clauses), rest))
 }
@@ -366,6 +454,23 @@ fn read_clauses<'a>(
     )
 }
 
+// The pattern of a clause, with the arrow behind it: `p =>`.
+#[tactic(auto, unfolding(crate::specs::inner::Combining::closed_by, crate::specs::inner::Combining::pair, crate::specs::inner::Combining::into))]
+fn read_clause_pattern<'a>(
+    alloc: Global,
+    levels: u32,
+    total: usize,
+    placed: &'a [Placed],
+) -> Result<(PatTree, &'a [Placed]), Stop>
+    requires { total < 2 ^ 32 }
+    ensures { Gives (λ x. (x.0, tokens x.1.now)) result
+        (combining.closed_by (λ ts. reading.pattern levels total ts) symbols.FatArrow (tokens placed.now)) }
+{
+    let (pat, rest) = read_pattern(alloc, levels, total, placed)?;
+    let rest = expect(Symbol::FatArrow, rest)?;
+    Ok((pat, rest))
+}
+
 // A clause of a match, `p => e`.
 #[cycle(expressions)]
 #[tactic(auto, unfolding(crate::specs::inner::Reading::clause_tree, crate::specs::inner::Combining::pair, crate::specs::inner::Combining::into))]
@@ -380,8 +485,7 @@ fn read_clause<'a>(
         (reading.clause_tree (λ ts. reading.pattern levels total ts)
         (λ ts. reading.expression levels total ts) total 0 (tokens placed.now)) }
 {
-    let (pat, rest) = read_pattern(alloc, levels, total, placed)?;
-    let rest = expect(Symbol::FatArrow, rest)?;
+    let (pat, rest) = read_clause_pattern(alloc, levels, total, placed)?;
     let (body, rest) = read_expression(alloc, levels, total, rest)?;
     Ok((ClauseTree { pat, body }, rest))
 }

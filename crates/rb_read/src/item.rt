@@ -27,13 +27,13 @@ use crate::expression::read_expression;
 use crate::layout::read_layout_tree;
 use crate::list::{read_any_closed, read_some_closed};
 use crate::stop::Stop;
-use crate::tokens::{expect, number_of, read_lower, read_number, read_upper};
-use crate::types::{read_constructor, read_parameter, read_type};
+use crate::tokens::{expect, number_of, read_lower_before, read_number, read_upper};
+use crate::types::{read_constructor, read_parameter, read_type_before};
 use rb_core::limits::MOST_LEVELS;
 use rb_core::seq::Seq;
 use rb_syntax::token::{Placed, ReservedWord, Symbol, Token};
 use rb_syntax::tree::{
-    Auto, ConTree, FunTree, ItemTree, LayoutTree, ParamTree, SplitTree, TypeTree,
+    Auto, ConTree, ExprTree, FunTree, ItemTree, LayoutTree, ParamTree, SplitTree, TyTree, TypeTree,
 };
 use std::alloc::Global;
 
@@ -200,6 +200,38 @@ fn read_type_item(
     Ok((ItemTree::Types(TypeTree { name, cons }), rest))
 }
 
+// The type of a function's results between the symbols beside it: `: U =`.
+#[tactic(auto, unfolding(crate::specs::inner::Reading::result_type, crate::specs::inner::Combining::pair, crate::specs::inner::Combining::into))]
+fn read_result_type(
+    alloc: Global,
+    total: usize,
+    placed: &[Placed],
+) -> Result<(TyTree, &[Placed]), Stop>
+    requires { total < 2 ^ 32 }
+    ensures { Gives (λ x. (x.0, tokens x.1.now)) result (reading.result_type total (tokens placed.now)) }
+{
+    let rest = expect(Symbol::Colon, placed)?;
+    let (ty, rest) = read_type_before(alloc, total, Symbol::Equals, rest)?;
+    Ok((ty, rest))
+}
+
+// A function's body, with the semicolon behind it: `e;`.
+#[tactic(auto, unfolding(crate::specs::inner::Combining::closed_by, crate::specs::inner::Combining::pair, crate::specs::inner::Combining::into))]
+fn read_body(
+    alloc: Global,
+    levels: u32,
+    total: usize,
+    placed: &[Placed],
+) -> Result<(ExprTree, &[Placed]), Stop>
+    requires { total < 2 ^ 32 }
+    ensures { Gives (λ x. (x.0, tokens x.1.now)) result
+        (combining.closed_by (reading.expression levels total) symbol.Semicolon (tokens placed.now)) }
+{
+    let (body, rest) = read_expression(alloc, levels, total, placed)?;
+    let rest = expect(Symbol::Semicolon, rest)?;
+    Ok((body, rest))
+}
+
 // A function behind the word `fun`: `f(x: T): U = e;`.
 #[tactic(auto, unfolding(crate::specs::inner::Reading::fun_item, crate::specs::inner::Combining::pair, crate::specs::inner::Combining::into))]
 fn read_fun(
@@ -211,14 +243,10 @@ fn read_fun(
     requires { total < 2 ^ 32 }
     ensures { Gives (λ x. (x.0, tokens x.1.now)) result (reading.fun_item levels total (tokens placed.now)) }
 {
-    let (name, rest) = read_lower(alloc, total, placed)?;
-    let rest = expect(Symbol::OpenParen, rest)?;
+    let (name, rest) = read_lower_before(alloc, total, Symbol::OpenParen, placed)?;
     let (params, rest) = read_parameters(alloc, total, rest)?;
-    let rest = expect(Symbol::Colon, rest)?;
-    let (result, rest) = read_type(alloc, total, rest)?;
-    let rest = expect(Symbol::Equals, rest)?;
-    let (body, rest) = read_expression(alloc, levels, total, rest)?;
-    let rest = expect(Symbol::Semicolon, rest)?;
+    let (result, rest) = read_result_type(alloc, total, rest)?;
+    let (body, rest) = read_body(alloc, levels, total, rest)?;
     let fun = FunTree {
         name,
         params,

@@ -15,10 +15,12 @@
 
 ghost use Rattle.std.specs.Prelude.{◌≡◌, ◌-◌, ◌<◌, ◌^◌, length};
 ghost use Rattle.rb_syntax.specs.declared.token.ReservedWord.TheVariants as word;
+ghost use Rattle.rb_syntax.specs.declared.token.Symbol.TheVariants as symbol;
 ghost use Rattle.rb_syntax.specs.Tokens.{tokens};
 ghost use Rattle.rb_read.specs.inner.Combining as combining;
 ghost use Rattle.rb_read.specs.inner.Reading as reading;
 ghost use Rattle.rb_read.specs.inner.Starting as starting;
+ghost use Rattle.rb_read.specs.inner.Tokens.{number};
 ghost use Rattle.rb_read.specs.inner.Gives.{Gives};
 
 use crate::beyond::beyond;
@@ -27,11 +29,11 @@ use crate::leaf::read_some_items;
 use crate::location::read_location;
 use crate::provenance::read_provenance;
 use crate::stop::Stop;
-use crate::tokens::{expect, expect_word, number_of, read_number};
+use crate::tokens::{begins_with_word, expect, expect_word, number_of, read_number};
 use rb_core::boxed::Boxed;
 use rb_core::seq::Seq;
 use rb_syntax::token::{Placed, ReservedWord, Symbol, Token};
-use rb_syntax::tree::{ArmTree, SplitTree};
+use rb_syntax::tree::{ArmTree, Loc, SplitTree};
 use std::alloc::Global;
 
 // Whether the first token begins a layout's tree; not where there is no token.
@@ -61,17 +63,35 @@ fn begins_arm(placed: &[Placed]) -> bool
     }
 }
 
-// Whether the first token is the word `else`.
-fn begins_else(placed: &[Placed]) -> bool
-    ensures { result ≡ combining.at_front (λ t. starting.is_word word.Else t) (tokens placed.now) }
+// The number of an arm, with the arrow behind it: `0 =>`.
+#[tactic(auto, unfolding(crate::specs::inner::Combining::closed_by, crate::specs::inner::Combining::pair, crate::specs::inner::Combining::into))]
+fn read_literal(placed: &[Placed]) -> Result<(u64, &[Placed]), Stop>
+    ensures { Gives (λ x. (x.0, tokens x.1.now)) result
+        (combining.closed_by number symbol.FatArrow (tokens placed.now)) }
 {
-    match placed {
-        [] => false,
-        [first, ..] => match first.token {
-            Token::Reserved(word) => word == ReservedWord::Else,
-            _ => false,
-        },
-    }
+    let (literal, rest) = read_number(placed)?;
+    let rest = expect(Symbol::FatArrow, rest)?;
+    Ok((literal, rest))
+}
+
+// Takes `else =>` from the front, and gives the tokens behind it.
+#[tactic(auto, unfolding(crate::specs::inner::Reading::else_arrow, crate::specs::inner::Combining::closed_by, crate::specs::inner::Combining::pair, crate::specs::inner::Combining::into))]
+fn expect_else(placed: &[Placed]) -> Result<&[Placed], Stop>
+    ensures { Gives (λ r. (tt, tokens r.now)) result (reading.else_arrow (tokens placed.now)) }
+{
+    let rest = expect_word(ReservedWord::Else, placed)?;
+    expect(Symbol::FatArrow, rest)
+}
+
+// The location by which a split goes, with the brace behind it: `0[0:1] {`.
+#[tactic(auto, unfolding(crate::specs::inner::Combining::closed_by, crate::specs::inner::Combining::pair, crate::specs::inner::Combining::into))]
+fn read_split_location(alloc: Global, placed: &[Placed]) -> Result<(Loc, &[Placed]), Stop>
+    ensures { Gives (λ x. (x.0, tokens x.1.now)) result
+        (combining.closed_by reading.location symbol.OpenBrace (tokens placed.now)) }
+{
+    let (loc, rest) = read_location(alloc, placed)?;
+    let rest = expect(Symbol::OpenBrace, rest)?;
+    Ok((loc, rest))
 }
 
 // A leaf, `Cons(_, _) : { word 64 { [0:64] .0 } }`, with so many levels left for what is in it.
@@ -107,8 +127,7 @@ fn read_arm<'a>(
     ensures { Gives (λ x. (x.0, tokens x.1.now)) result
         (reading.arm_tree (λ us. reading.layout_tree levels total us) (tokens placed.now)) }
 {
-    let (literal, rest) = read_number(placed)?;
-    let rest = expect(Symbol::FatArrow, rest)?;
+    let (literal, rest) = read_literal(placed)?;
     let (under, rest) = read_layout_tree(alloc, levels, total, rest)?;
     Ok((ArmTree { literal, under }, rest))
 }
@@ -152,14 +171,49 @@ fn read_else<'a>(
         (combining.optional (λ t. starting.is_word word.Else t)
         (reading.else_tree (λ us. reading.layout_tree levels total us)) (tokens placed.now)) }
 {
-    if !begins_else(placed) {
+    if !begins_with_word(ReservedWord::Else, placed) {
         return Ok((None, placed));
     }
-    let rest = expect_word(ReservedWord::Else, placed)?;
-    let rest = expect(Symbol::FatArrow, rest)?;
+    let rest = expect_else(placed)?;
     let (tree, rest) = read_layout_tree(alloc, levels, total, rest)?;
     let tree = Boxed::new(alloc, tree)?;
     Ok((Some(tree), rest))
+}
+
+// The `else` of a split, or None, and the brace that closes the split.
+#[cycle(splits)]
+#[tactic(auto, unfolding(crate::specs::inner::Reading::other_arm, crate::specs::inner::Combining::closed_by, crate::specs::inner::Combining::pair, crate::specs::inner::Combining::into))]
+fn read_other_arm<'a>(
+    alloc: Global,
+    levels: u32,
+    total: usize,
+    placed: &'a [Placed],
+) -> Result<(Option<Boxed<SplitTree>>, &'a [Placed]), Stop>
+    requires { total < 2 ^ 32 }
+    ensures { Gives (λ x. (x.0, tokens x.1.now)) result
+        (reading.other_arm (λ us. reading.layout_tree levels total us) (tokens placed.now)) }
+{
+    let (other, rest) = read_else(alloc, levels, total, placed)?;
+    let rest = expect(Symbol::CloseBrace, rest)?;
+    Ok((other, rest))
+}
+
+// The arms of a split and its `else`, with the brace behind them.
+#[cycle(splits)]
+#[tactic(auto, unfolding(crate::specs::inner::Reading::branches, crate::specs::inner::Combining::pair))]
+fn read_branches<'a>(
+    alloc: Global,
+    levels: u32,
+    total: usize,
+    placed: &'a [Placed],
+) -> Result<((Seq<ArmTree>, Option<Boxed<SplitTree>>), &'a [Placed]), Stop>
+    requires { total < 2 ^ 32 }
+    ensures { Gives (λ x. (x.0, tokens x.1.now)) result
+        (reading.branches (λ us. reading.layout_tree levels total us) (tokens placed.now)) }
+{
+    let (arms, rest) = read_arms(alloc, levels, total, placed)?;
+    let (other, rest) = read_other_arm(alloc, levels, total, rest)?;
+    Ok(((arms, other), rest))
 }
 
 // A split behind its word: `0[0:1] { 0 => ... else => ... }`.
@@ -175,11 +229,8 @@ fn read_split<'a>(
     ensures { Gives (λ x. (x.0, tokens x.1.now)) result
         (reading.split_rest (λ us. reading.layout_tree levels total us) (tokens placed.now)) }
 {
-    let (loc, rest) = read_location(alloc, placed)?;
-    let rest = expect(Symbol::OpenBrace, rest)?;
-    let (arms, rest) = read_arms(alloc, levels, total, rest)?;
-    let (other, rest) = read_else(alloc, levels, total, rest)?;
-    let rest = expect(Symbol::CloseBrace, rest)?;
+    let (loc, rest) = read_split_location(alloc, placed)?;
+    let ((arms, other), rest) = read_branches(alloc, levels, total, rest)?;
     Ok((SplitTree::Split(loc, arms, other), rest))
 }
 

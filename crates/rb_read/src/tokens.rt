@@ -36,8 +36,8 @@ pub fn begins_with(symbol: Symbol, placed: &[Placed]) -> bool
     }
 }
 
-// Whether there is a first token, and it is this reserved word.
-fn begins_with_word(word: ReservedWord, placed: &[Placed]) -> bool
+/// Whether there is a first token, and it is this reserved word.
+pub fn begins_with_word(word: ReservedWord, placed: &[Placed]) -> bool
     ensures { result ≡ combining.at_front (λ t. starting.is_word word t) (tokens placed.now) }
 {
     match placed {
@@ -104,6 +104,27 @@ pub fn read_lower(
     }
 }
 
+/// A name that begins with a small letter, with the symbol `close` behind it.
+///
+/// # Errors
+///
+/// `Stuck` at the first of the two that does not stand there; or want of memory.
+#[tactic(auto, unfolding(crate::specs::inner::Combining::closed_by, crate::specs::inner::Combining::pair, crate::specs::inner::Combining::into))]
+pub fn read_lower_before<'a>(
+    alloc: Global,
+    total: usize,
+    close: Symbol,
+    placed: &'a [Placed],
+) -> Result<(NameTree, &'a [Placed]), Stop>
+    requires { total < 2 ^ 32 }
+    ensures { Gives (λ x. (x.0, tokens x.1.now)) result
+        (combining.closed_by (reading.lower_name total) close (tokens placed.now)) }
+{
+    let (name, rest) = read_lower(alloc, total, placed)?;
+    let rest = expect(close, rest)?;
+    Ok((name, rest))
+}
+
 /// A name that begins with a capital.
 ///
 /// # Errors
@@ -158,13 +179,11 @@ pub fn read_number(placed: &[Placed]) -> Result<(u64, &[Placed]), Stop>
 pub fn read_field(placed: &[Placed]) -> Result<(u32, &[Placed]), Stop>
     ensures { Gives (λ x. (x.0, tokens x.1.now)) result (reading.field (tokens placed.now)) }
 {
-    match placed {
-        [] => Err(Stop::Stuck(0)),
-        [first, rest @ ..] => match first.token {
-            Token::Num(n) if n < 1 << 32 => Ok((n as u32, rest)),
-            _ => Err(Stop::Stuck(placed.len())),
-        },
+    let (number, rest) = read_number(placed)?;
+    if number < 1 << 32 {
+        return Ok((number as u32, rest));
     }
+    Err(Stop::Stuck(placed.len()))
 }
 
 /// The width of a type of integers, 1 to 64.

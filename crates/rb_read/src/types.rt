@@ -47,6 +47,27 @@ pub fn read_type(
     }
 }
 
+/// A type, with the symbol `close` behind it.
+///
+/// # Errors
+///
+/// `Stuck` at the first of the two that does not stand there; or want of memory.
+#[tactic(auto, unfolding(crate::specs::inner::Combining::closed_by, crate::specs::inner::Combining::pair, crate::specs::inner::Combining::into))]
+pub fn read_type_before<'a>(
+    alloc: Global,
+    total: usize,
+    close: Symbol,
+    placed: &'a [Placed],
+) -> Result<(TyTree, &'a [Placed]), Stop>
+    requires { total < 2 ^ 32 }
+    ensures { Gives (λ x. (x.0, tokens x.1.now)) result
+        (combining.closed_by (reading.type_tree total) close (tokens placed.now)) }
+{
+    let (ty, rest) = read_type(alloc, total, placed)?;
+    let rest = expect(close, rest)?;
+    Ok((ty, rest))
+}
+
 // The types of a constructor's fields in parentheses, one or more, or nothing, which is no field.
 fn read_fields(
     alloc: Global,

@@ -9,7 +9,7 @@
 use crate::fact::{Content, Fact};
 use crate::hints::RETURNS;
 use crate::knowing::source;
-use crate::learning::{facts_at, holder, numbers, read_by, set_by, slots_at};
+use crate::learning::{empty_lists, facts_at, holder, numbers, read_by, set_by, slots_at};
 use crate::moving::number_at;
 use crate::returning::is_whole;
 use crate::telling::sets;
@@ -361,6 +361,37 @@ pub(crate) fn clear_unreached(given: &mut Seq<usize>, reached: &[usize]) {
     }
 }
 
+// What is wanted of a body, and what is read, before any of its instructions is gone back to:
+// nothing is, and a jump to an instruction goes on there.
+fn nothing_wanted(alloc: Global, fun: &CodeFun) -> Result<Rest, AllocError> {
+    let count = fun.body.len();
+    Ok(Rest {
+        wanted: numbers(alloc, count, 0, 0)?,
+        dead: empty_lists(alloc, count)?,
+        ends: numbers(alloc, count, 0, 1)?,
+        reads: numbers(alloc, fun.slots, 0, 0)?,
+    })
+}
+
+// Goes back over all instructions of a body, from the last one to the first. `met` has for each 1
+// where a run may come to it, else 0.
+fn choose_each(
+    alloc: Global,
+    rest: &mut Rest,
+    body: &[Instr],
+    facts: &[Seq<Fact>],
+    late: &[Seq<usize>],
+    met: &[usize],
+) -> Result<(), AllocError> {
+    for (pc, instr) in body.iter().enumerate().rev() {
+        let known = facts_at(facts, pc);
+        let slots = slots_at(late, pc);
+        let is_met = number_at(met, pc) > 0;
+        choose_one(alloc, rest, known, slots, pc, instr, is_met)?;
+    }
+    Ok(())
+}
+
 /// What is wanted of a body and what is read, found from the last instruction back. `facts` has for
 /// each instruction what is known before it, and `late` some slots that were set on a way to it and
 /// not read on that way.
@@ -371,23 +402,9 @@ pub(crate) fn choose(
     late: &[Seq<usize>],
 ) -> Result<Rest, AllocError> {
     let body = fun.body.as_slice();
-    let mut dead = Seq::new(alloc);
-    for _ in 0..body.len() {
-        dead.push(Seq::new(alloc))?;
-    }
-    let mut rest = Rest {
-        wanted: numbers(alloc, body.len(), 0, 0)?,
-        dead,
-        ends: numbers(alloc, body.len(), 0, 1)?,
-        reads: numbers(alloc, fun.slots, 0, 0)?,
-    };
+    let mut rest = nothing_wanted(alloc, fun)?;
     let met = reach(alloc, body, rest.ends.as_slice(), &[])?;
-    for (pc, instr) in body.iter().enumerate().rev() {
-        let known = facts_at(facts, pc);
-        let slots = slots_at(late, pc);
-        let is_met = number_at(met.as_slice(), pc) > 0;
-        choose_one(alloc, &mut rest, known, slots, pc, instr, is_met)?;
-    }
+    choose_each(alloc, &mut rest, body, facts, late, met.as_slice())?;
     Ok(rest)
 }
 

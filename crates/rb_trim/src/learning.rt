@@ -29,6 +29,15 @@ pub(crate) fn numbers(
     Ok(numbers)
 }
 
+/// So many empty lists of numbers.
+pub(crate) fn empty_lists(alloc: Global, count: usize) -> Result<Seq<Seq<usize>>, AllocError> {
+    let mut lists = Seq::new(alloc);
+    for _ in 0..count {
+        lists.push(Seq::new(alloc))?;
+    }
+    Ok(lists)
+}
+
 // What is known before each instruction, as far as the walk has come: `is_met` is false, and no
 // fact is known, where it has noted no way to the instruction yet.
 #[derive(Drop)]
@@ -369,10 +378,7 @@ pub(crate) fn written_slots(
     body: &[Instr],
     facts: &[Seq<Fact>],
 ) -> Result<Seq<Seq<usize>>, AllocError> {
-    let mut late = Seq::new(alloc);
-    for _ in 0..body.len() {
-        late.push(Seq::new(alloc))?;
-    }
+    let mut late = empty_lists(alloc, body.len())?;
     for (pc, instr) in body.iter().enumerate() {
         let slots = slots_at(late.as_slice(), pc);
         let after = later(alloc, slots, facts_at(facts, pc), instr)?;

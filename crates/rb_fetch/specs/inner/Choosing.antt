@@ -180,6 +180,10 @@ pub record IsEndOf (agreed : LaidOut) (t n : ℕ) (xs : List Subvalue) (old new 
   pub is_way : way ≡ record { pc = length old.code; leaf = n; fields = xs }
   pub code : new ≡ with_more old (Jump (length old.code + 1))
 
+-- there is one way, and it ends so
+abbrev pub AreEndOf : LaidOut → ℕ → ℕ → List Subvalue → Sheet → Sheet → List Way → Type 0
+AreEndOf agreed t n xs old new ways = (way : Way) × (ways ≡ way ∷ []) × IsEndOf agreed t n xs old new way
+
 -- the way's leaf is one of the layout, and the way has parts at all its open positions, in slots below n
 abbrev pub IsWayOf : Plan → Layout → ℕ → Way → Type 0
 IsWayOf plan layout n way =

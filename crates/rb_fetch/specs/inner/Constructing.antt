@@ -3,9 +3,11 @@
 -- in slots; its arm is the code behind it, which makes the value in that leaf. The slots that arms share are those in
 -- which the first arm has the value's words; the others copy theirs there. Each arm ends with an open jump, which is
 -- set to where all meet. A leaf's provenance is the pattern of the values that it holds; its wildcards are the open
--- positions. A plan has a program and its layouts, and a sheet is a function's code so far.
+-- positions. A plan has a program and its layouts, and a sheet is a function's code so far. `agreed` is a program with
+-- layouts that agree with its types.
 use Rattle.std.specs.Prelude.{◌≡◌, ℕ, zero, suc, ◌+◌, ◌<◌, ◌≤◌, Bool, true, List, [], ◌++◌, length, Option, Some, None, slice_get}
 use Rattle.rb_core.specs.declared.value.Value.{Value}
+use Rattle.rb_core.specs.declared.types.ConRef.{ConRef}
 use Rattle.rb_core.specs.declared.types.Ty.TheVariants.{Named}
 use Rattle.rb_core.specs.TypedPrograms.{IsTyped}
 use Rattle.rb_bytes.specs.Memory.{IsGood}
@@ -15,6 +17,7 @@ use Rattle.rb_target.specs.Growth.{AgreesBut}
 use Rattle.rb_target.specs.Laws.{Law}
 use Rattle.rb_target.specs.Meaning.{World, Next, Callee}
 use Rattle.rb_target.specs.Sheet.{Sheet}
+use Rattle.rb_layout.specs.declared.agreed.LaidOut.{LaidOut}
 use Rattle.rb_layout.specs.declared.layout.Layout.{Layout}
 use Rattle.rb_layout.specs.declared.layout.Leaf.{Leaf}
 use Rattle.rb_layout.specs.Agreement.{AreAgreed}
@@ -31,6 +34,7 @@ use Rattle.rb_fetch.specs.declared.choice.Choices.{Choices}
 use Rattle.rb_fetch.specs.declared.choice.Way.{Way}
 use Rattle.rb_fetch.specs.declared.construct.Met.{Met}
 use Rattle.rb_fetch.specs.inner.Choice.{IsWay}
+use Rattle.rb_fetch.specs.inner.Sound.{IsSound}
 
 -- One leaf -------------------------------------------------------------------------------------
 
@@ -41,6 +45,13 @@ pub record IsAlone (con : ℕ) (leaves : List Leaf) (leaf : Leaf) : Type 0 where
   pub root : is_leaf_for con leaf ≡ true
   pub shallow : inner_heads leaf ≡ []
   pub before : (i : ℕ) (x : Leaf) → i < number → slice_get leaves i ≡ Some x → is_leaf_for con x ≡ true → ⊥
+
+-- of the leaves of its type's layout, this one is that of all values of constructor con
+pub record IsAloneIn (agreed : LaidOut) (con : ConRef) (leaf : Leaf) : Type 0 where
+  pub sound : IsSound agreed
+  pub layout : Layout
+  pub is_layout : layout_of agreed.layouts con.ty ≡ Some layout
+  pub is_alone : IsAlone con.con layout.leaves leaf
 
 -- no leaf with a number below n is for the values of constructor con
 abbrev pub NoneFor : ℕ → List Leaf → ℕ → Type 0
@@ -155,3 +166,10 @@ pub record WaysMeet (t : ℕ) (leaves : List Leaf) (choices : Choices) (e new : 
   pub are : ArmsAre (length choices.ways) e last joins starts
   pub emits : EmitsArms t leaves choices.ways (length choices.ways) e last (Some held.slots) joins starts
   pub code : new ≡ whole_match last choices.holes starts joins
+
+-- the same for the leaves of the layout of type t
+pub record AreMet (agreed : LaidOut) (t : ℕ) (choices : Choices) (e new : Sheet) (held : Held) : Type 0 where
+  pub sound : IsSound agreed
+  pub layout : Layout
+  pub is_layout : layout_of agreed.layouts t ≡ Some layout
+  pub meets : WaysMeet t layout.leaves choices e new held

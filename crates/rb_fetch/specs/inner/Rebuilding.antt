@@ -18,6 +18,7 @@ use Rattle.rb_target.specs.Meaning.{slots_at}
 use Rattle.rb_target.specs.Sheet.{Sheet}
 use Rattle.rb_layout.specs.declared.agreed.LaidOut.{LaidOut}
 use Rattle.rb_layout.specs.declared.layout.Layout.{Layout}
+use Rattle.rb_layout.specs.declared.layout.Leaf.{Leaf}
 use Rattle.rb_layout.specs.Positions.{leaf_of, sub_of_layer, types_or_none}
 use Rattle.rb_fragment.specs.declared.held.Held.{Held}
 use Rattle.rb_fragment.specs.Plan.{Plan, Rep, words_needed}
@@ -28,6 +29,8 @@ use Rattle.rb_fragment.specs.Slots.{AllBelow, IsOneOf}
 use Rattle.rb_fetch.specs.Fields.{FieldAt, FieldIsFetched}
 use Rattle.rb_fetch.specs.Finding.{IsPlanOf}
 use Rattle.rb_fetch.specs.Positions.{PositionAt, mend_under}
+use Rattle.rb_fetch.specs.inner.Fields.{leaf_at}
+use Rattle.rb_fetch.specs.inner.Sound.{IsSound}
 
 -- the subpattern for field i of a pattern; none where it is no constructor pattern, and past its fields
 abbrev pub sub_at : Pat → ℕ → Option Pat
@@ -38,6 +41,14 @@ abbrev pub pattern_at : Option Pat → List ℕ → Option Pat
 pattern_at None path = None
 pattern_at (Some p) [] = Some p
 pattern_at (Some p) (i ∷ path) = pattern_at (sub_at p i) path
+
+-- type t has a leaf n, and its provenance is constructor c with the subpatterns ps
+pub record IsRootLayer (agreed : LaidOut) (t n : ℕ) (c : ConRef) (ps : List Pat) : Type 0 where
+  pub sound : IsSound agreed
+  pub leaf : Leaf
+  pub is_leaf : leaf_at agreed.layouts t n ≡ Some leaf
+  pub at : ℕ
+  pub is_root : leaf.prov ≡ Con at c ps
 
 -- in every plan of the agreed program, the code from old to new leaves in `slots` the part at `path`, not the root,
 -- of a value of leaf n of type t, whose words are in slots; pattern `pat` stands there in the leaf's provenance

@@ -95,3 +95,8 @@ module _ (on : ℕ → ℕ → Bool) (m : List ImageBlock) where
   abbrev pub fault_of_seen : List Waypoint → Option ImageFault
   fault_of_seen [] = None
   fault_of_seen (s ∷ ss) = option_or (fault_seen s) (fault_of_seen ss)
+
+-- the first fault of the leaves of these subvalues, those of the first subvalue first, in words on a path on which
+-- these are the subvalues of data types; none where there is none
+abbrev pub fault_on_path : List Layout → Image → List Waypoint → Option ImageFault
+fault_on_path layouts image seen = fault_of_seen (is_kept_at (words_of_path layouts image seen)) image.blocks seen

@@ -45,12 +45,14 @@ use Rattle.rb_bytes.specs.Memory.{Memory}
 use Rattle.rb_core.specs.declared.types.ConRef.{ConRef}
 use Rattle.rb_core.specs.declared.value.Value.{out-Value}
 use Rattle.rb_core.specs.declared.value.Value.TheOpen as V
+use Rattle.rb_match.specs.declared.binding.FieldSource.{FieldSource}
+use Rattle.rb_match.specs.declared.binding.FieldSource.TheVariants as F
 use Rattle.rb_match.specs.declared.knowledge.Known.{Known}
 use Rattle.rb_match.specs.declared.knowledge.Spot.{Spot}
-use Rattle.rb_match.specs.inner.Knowing.{AreKnown, view_of}
+use Rattle.rb_match.specs.inner.Knowing.{AreKnown, FollowsSaved, view_of}
 use Rattle.rb_match.specs.Bounding.{binding_bound, binding_look, choosing_look, looks_with, places_below, places_in}
 use Rattle.rb_match.specs.inner.Asking.{AreSpots}
-use Rattle.rb_match.specs.inner.Saving.{IsThere, mend_at, mends_from}
+use Rattle.rb_match.specs.inner.Saving.{FetchesPart, IsThere, mend_at, mends_from}
 
 -- no value of leaf n of data type t matches the pattern, or there is no such leaf
 abbrev pub IsLeftOut : LaidOut → ℕ → Pat → ℕ → Type 0
@@ -171,12 +173,42 @@ BindsSpot agreed spots known sub field i old new bound =
     → BindsSaved plan n (binding_bound plan.program.types plan.layouts field sub) spots known
     (binders plan.program.types sub field) old new bound (FieldMatches sub i)
 
--- the appended code binds the variables of a constructor's pattern, with these subpatterns, at a value of type t: it
--- is for types of which some leaf takes a subvalue apart
-abbrev pub BindsDeep : LaidOut → Ty → ConRef → List ℕ → List Pat → List Ty → Sheet → Sheet → List Local → Type 0
-BindsDeep agreed t c words subs fields old new bound =
-    (token : ℕ) → fields ≡ field_types agreed.covered.program.types c
-    → BindsPattern agreed t (Con token c subs) words old new bound
+-- Sources of fields -----------------------------------------------------------------------------
+
+-- the slots are those of a spot that these facts say holds field i, which is of this type
+abbrev pub StandsInSpot : List Spot → List Known → ℕ → Ty → List ℕ → Type 0
+StandsInSpot spots known i field slots =
+    (k : ℕ) × (spot : Spot) × (slice_get spots k ≡ Some spot) × (spot.position ≡ i ∷ []) × (spot.ty ≡ field)
+    × FollowsSaved known k × (slots ≡ spot.slots)
+
+-- the appended code leaves the words of field i, which is of this type, in slots, as the source has it
+abbrev pub FieldStands : LaidOut → FieldSource → Ty → ℕ → Sheet → Sheet → List ℕ → Type 0
+FieldStands agreed (F.Leaf value) field i old new slots =
+    FetchesPart agreed value.ty value.leaf (i ∷ []) field value.words.now old new slots
+FieldStands agreed (F.Spots spots known) field i old new slots = (new ≡ old) × StandsInSpot spots known i field slots
+
+-- the appended code binds the variables of the pattern of field i, as the source has it
+abbrev pub BindsFieldFrom : LaidOut → FieldSource → Pat → Ty → ℕ → Sheet → Sheet → List Local → Type 0
+BindsFieldFrom agreed (F.Leaf value) sub field i old new bound =
+    BindsField agreed value.ty value.leaf value.words.now sub field i old new bound
+BindsFieldFrom agreed (F.Spots spots known) sub field i old new bound =
+    BindsSpot agreed spots known sub field i old new bound
+
+-- the appended code binds the variables of the patterns of the fields from i on, as the source has these
+abbrev pub BindsFieldsFrom : LaidOut → FieldSource → List Pat → List Ty → ℕ → Sheet → Sheet → List Local → Type 0
+BindsFieldsFrom agreed (F.Leaf value) subs fields i old new bound =
+    BindsFields agreed value.ty value.leaf value.words.now subs fields i old new bound
+BindsFieldsFrom agreed (F.Spots spots known) subs fields i old new bound =
+    BindsSpots agreed spots known subs fields i old new bound
+
+-- Where p is the constructor's pattern with these subpatterns and the types are those of its fields, code that binds
+-- the fields from the source, behind the appended code, binds with that the pattern at a value of type t.
+abbrev pub GivesFields : LaidOut → Ty → ConRef → List ℕ → Pat → List Pat → List Ty → FieldSource → Sheet → Sheet
+    → Type 0
+GivesFields agreed t c words p subs fields source old mid =
+    (token : ℕ) → p ≡ Con token c subs → fields ≡ field_types agreed.covered.program.types c
+    → (new : Sheet) (bound : List Local) → BindsFieldsFrom agreed source subs fields 0 mid new bound
+    → BindsPattern agreed t p words old new bound
 
 -- Sizes: each part of a pattern weighs less than what it is part of ------------------------------
 

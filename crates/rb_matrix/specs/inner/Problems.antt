@@ -3,7 +3,7 @@
 -- or with the default matrices, of the vectors that begin with none of some heads, without their first value. The
 -- problem is the parent of its parts, and the first one of all is the root. A step says how a row for a part becomes
 -- one for its parent. The cost of a problem bounds how much is left to search.
-use Rattle.std.specs.Prelude.{◌≡◌, ℕ, ◌+◌, ◌-◌, ◌*◌, ◌^◌, ◌≤◌, List, [], ◌∷◌, ◌++◌, map, length, sum, take, drop, true, false, Option, Some, None}
+use Rattle.std.specs.Prelude.{◌≡◌, ℕ, ◌+◌, ◌-◌, ◌*◌, ◌^◌, ◌<◌, ◌≤◌, List, [], ◌∷◌, ◌++◌, map, length, sum, take, drop, true, false, Option, Some, None}
 use Rattle.rb_core.specs.declared.value.Value.{Value}
 use Rattle.rb_core.specs.declared.types.Ty.{Ty}
 use Rattle.rb_core.specs.declared.types.Ty.TheVariants.{Int, Named}
@@ -18,6 +18,7 @@ use Rattle.rb_matrix.specs.declared.problem.Step.TheVariants.{Front, Fold}
 use Rattle.rb_matrix.specs.declared.problem.Problem.{Problem}
 use Rattle.rb_matrix.specs.Counts.{rows_head_count}
 use Rattle.rb_matrix.specs.Heads.{begins}
+use Rattle.rb_matrix.specs.Specialize.{special}
 use Rattle.rb_matrix.specs.Search.{AreTypesIn, useful_by, RowIsFound, AreUseless}
 
 -- The way from the root: how a row for a problem becomes one for its parent -------------------------
@@ -111,6 +112,14 @@ pub record IsPart (types : List DataDecl) (p c : Problem) : Type 0 where
 abbrev pub IsPartAt : List DataDecl → Ty → List Ty → Problem → Head → Option Problem → Type 0
 IsPartAt types ty ts p h None = NoneBy types ty ts p h
 IsPartAt types ty ts p h (Some c) = IsPart types p c × (NoneIn types c → NoneBy types ty ts p h)
+
+-- a problem, with the specialised rows of its rows for a head with n fields in their place; the columns' types and the
+-- steps stay. None where a wanted row has no specialised row
+abbrev pub IsSpecialized : Head → ℕ → Problem → Option Problem → Type 0
+IsSpecialized h n p None = length (special h n p.wanted) < length p.wanted
+IsSpecialized h n p (Some c) =
+    (c ≡ record { tys = p.tys; wanted = special h n p.wanted; unwanted = special h n p.unwanted; steps = p.steps })
+    × (length p.wanted ≤ length (special h n p.wanted))
 
 -- the problem that a search begins with, to which no step has led
 abbrev pub root_of : List Ty → List (List Pat) → List (List Pat) → Problem

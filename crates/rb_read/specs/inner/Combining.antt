@@ -60,6 +60,10 @@ expect s = passing_token (λ t. is_symbol s t)
 abbrev pub expect_word : ReservedWord → Reader (Unit {0})
 expect_word w = passing_token (λ t. is_word w t)
 
+-- reads a part and symbol `s` behind it, and gives the part; a fault of either stays
+unfoldable pub closed_by : {A : Type 0} → Reader A → Symbol → Reader A
+closed_by r s = into (λ p. p.0) (pair r (expect s))
+
 -- what is read of a list, with the parts `xs` in front of it; a fault stays
 abbrev pub with_all : {A : Type 0} → List A → ReadOutcome (List A) → ReadOutcome (List A)
 with_all xs r = r >>= λ y. Ok (xs ++ y.0, y.1)

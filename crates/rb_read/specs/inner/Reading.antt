@@ -38,7 +38,7 @@ use Rattle.rb_syntax.specs.Spelling.{is_uint_width}
 use Rattle.rb_read.specs.declared.starting.Form.{Form}
 use Rattle.rb_read.specs.declared.starting.Form.TheVariants as form
 use Rattle.rb_read.specs.inner.Starting.{is_symbol, is_word, is_number, form_of}
-use Rattle.rb_read.specs.inner.Combining.{Reader, stuck, deep, pair, into, expect, expect_word, some_closed, any_closed, in_parens, optional, each_of, beyond}
+use Rattle.rb_read.specs.inner.Combining.{Reader, stuck, deep, pair, into, expect, expect_word, closed_by, some_closed, any_closed, in_parens, optional, each_of, beyond}
 use Rattle.rb_read.specs.inner.Tokens.{lower_name, upper_name, number, field, width}
 
 -- the name with this text, whose token has number `at`
@@ -173,58 +173,67 @@ name_or_call at name None = expr.Var at (name_tree at name)
 name_or_call at name (Some es) = expr.Call at (name_tree at name) es
 
 -- an operation made of its two operands; its word has number `at`
-abbrev pub operation_of : ℕ → Op → Unit {0} × (ExprTree × (Unit {0} × (ExprTree × Unit {0}))) → ExprTree
-operation_of at op (_, (first, (_, (second, _)))) = expr.Binary at op first second
+abbrev pub operation_of : ℕ → Op → Unit {0} × (ExprTree × ExprTree) → ExprTree
+operation_of at op (_, (first, second)) = expr.Binary at op first second
 
 -- a conversion made of the width and the expression that is converted to it; its word has number `at`
-abbrev pub conversion_of : ℕ → ℕ × (Unit {0} × (ExprTree × Unit {0})) → ExprTree
-conversion_of at (bits, (_, (converted, _))) = expr.To at bits converted
+abbrev pub conversion_of : ℕ → ℕ × (Unit {0} × ExprTree) → ExprTree
+conversion_of at (bits, (_, converted)) = expr.To at bits converted
 
--- a `let` made of its name, its type, what is bound to it, and its body; its word has number `at`
-abbrev pub binding_of : ℕ → NameTree × (Unit {0} × (TyTree × (Unit {0} × (ExprTree × (Unit {0} × ExprTree)))))
-    → ExprTree
-binding_of at (name, (_, (ty, (_, (bound, (_, body)))))) = expr.Let at name ty bound body
+-- what a `let` binds, with its body
+abbrev pub bound_of : ExprTree × (Unit {0} × ExprTree) → ExprTree × ExprTree
+bound_of (bound, (_, body)) = (bound, body)
+
+-- a `let` made of its name and its type, and of what is bound to it and its body; its word has number `at`
+abbrev pub binding_of : ℕ → (NameTree × TyTree) × (ExprTree × ExprTree) → ExprTree
+binding_of at ((name, ty), (bound, body)) = expr.Let at name ty bound body
 
 -- a clause of a match made of its pattern and its body
-abbrev pub clause_of : PatTree × (Unit {0} × ExprTree) → ClauseTree
-clause_of (pattern, (_, body)) = record { pat = pattern; body = body }
+abbrev pub clause_of : PatTree × ExprTree → ClauseTree
+clause_of (pattern, body) = record { pat = pattern; body = body }
 
 -- a match made of what is matched, and its clauses; its word has number `at`
-abbrev pub matching_of : ℕ → ExprTree × (Unit {0} × List ClauseTree) → ExprTree
-matching_of at (matched, (_, clauses)) = expr.Match at matched clauses
+abbrev pub matching_of : ℕ → ExprTree × List ClauseTree → ExprTree
+matching_of at (matched, clauses) = expr.Match at matched clauses
+
+-- the variable of a `let` behind its word, of `total` tokens in all, with its type and the `=` behind them: `x: T =`
+unfoldable pub typed_variable : ℕ → Reader (NameTree × TyTree)
+typed_variable total = pair (closed_by (lower_name total) symbol.Colon) (closed_by (type_tree total) symbol.Equals)
+
+-- what a `let` binds and its body, `a in b`, where `inner` reads the expressions
+unfoldable pub bound_and_body : Reader ExprTree → Reader (ExprTree × ExprTree)
+bound_and_body inner = into bound_of (pair inner (pair (expect_word word.In) inner))
+
+-- the arguments of a call in parentheses, any number, or nothing where no parenthesis opens; `inner` reads one
+unfoldable pub arguments : Reader ExprTree → Reader (Option (List ExprTree))
+arguments inner = optional (λ t. is_symbol symbol.OpenParen t)
+    (into (λ p. p.1) (pair (expect symbol.OpenParen) (any_closed inner symbol.CloseParen)))
 
 -- over the readers `inside` of the patterns and `inner` of the expressions inside, the number `total` of all tokens,
 -- and the number `at` of the node's first token
 module _ (inside : Reader PatTree) (inner : Reader ExprTree) (total at : ℕ) where
-  -- the arguments of a call in parentheses, any number, or nothing where no parenthesis opens
-  unfoldable pub arguments : Reader (Option (List ExprTree))
-  arguments = optional (λ t. is_symbol symbol.OpenParen t)
-      (into (λ p. p.1) (pair (expect symbol.OpenParen) (any_closed inner symbol.CloseParen)))
-
   -- an operation behind its word: `(a, b)` in `add(a, b)`
   unfoldable pub operation : Op → Reader ExprTree
   operation op = into (operation_of at op)
-      (pair (expect symbol.OpenParen) (pair inner (pair (expect symbol.Comma) (pair inner (expect symbol.CloseParen)))))
+      (pair (expect symbol.OpenParen) (pair (closed_by inner symbol.Comma) (closed_by inner symbol.CloseParen)))
 
   -- a conversion behind its word: `u8(a)` in `to u8(a)`
   unfoldable pub conversion : Reader ExprTree
   conversion = into (conversion_of at)
-      (pair width (pair (expect symbol.OpenParen) (pair inner (expect symbol.CloseParen))))
+      (pair width (pair (expect symbol.OpenParen) (closed_by inner symbol.CloseParen)))
 
   -- a `let` behind its word: `x: T = a in b`
   unfoldable pub binding : Reader ExprTree
-  binding = into (binding_of at)
-      (pair (lower_name total) (pair (expect symbol.Colon) (pair (type_tree total)
-      (pair (expect symbol.Equals) (pair inner (pair (expect_word word.In) inner))))))
+  binding = into (binding_of at) (pair (typed_variable total) (bound_and_body inner))
 
   -- a clause of a match, `p => e`
   unfoldable pub clause_tree : Reader ClauseTree
-  clause_tree = into clause_of (pair inside (pair (expect symbol.FatArrow) inner))
+  clause_tree = into clause_of (pair (closed_by inside symbol.FatArrow) inner)
 
   -- a match behind its word: `a { p => e, q => f }`, with one clause or more
   unfoldable pub matching : Reader ExprTree
   matching = into (matching_of at)
-      (pair inner (pair (expect symbol.OpenBrace) (some_closed clause_tree symbol.Comma symbol.CloseBrace)))
+      (pair (closed_by inner symbol.OpenBrace) (some_closed clause_tree symbol.Comma symbol.CloseBrace))
 
   -- an expression behind the reserved word that it begins with, by the form of that word; with the form `Other` the
   -- word is refused
@@ -239,7 +248,7 @@ module _ (inside : Reader PatTree) (inner : Reader ExprTree) (total at : ℕ) wh
   -- any other token is refused
   unfoldable pub expression_from : Token → Reader ExprTree
   expression_from (token.Num n) ts = Ok (expr.Num at n, ts)
-  expression_from (token.Lower name) ts = into (λ o. name_or_call at name o) arguments ts
+  expression_from (token.Lower name) ts = into (λ o. name_or_call at name o) (arguments inner) ts
   expression_from (token.Upper name) ts = into (λ es. expr.Build at (name_tree at name) es) (in_parens inner) ts
   expression_from (token.Reserved w) ts = from_form (form_of w) ts
   expression_from _ ts = stop_before ts
@@ -411,30 +420,40 @@ begins_tree (token.Upper name) = true
 begins_tree _ = false
 
 -- an arm of a split made of its literal, and the tree under it
-abbrev pub arm_of : ℕ × (Unit {0} × SplitTree) → ArmTree
-arm_of (literal, (_, under)) = record { literal = literal; under = under }
+abbrev pub arm_of : ℕ × SplitTree → ArmTree
+arm_of (literal, under) = record { literal = literal; under = under }
 
 -- an arm of a split, `0 => ..`, where `inner` reads its tree
 unfoldable pub arm_tree : Reader SplitTree → Reader ArmTree
-arm_tree inner = into arm_of (pair number (pair (expect symbol.FatArrow) inner))
+arm_tree inner = into arm_of (pair (closed_by number symbol.FatArrow) inner)
 
--- the tree of an `else`, made of what is read: the word, the arrow, and that tree
-abbrev pub else_of : Unit {0} × (Unit {0} × SplitTree) → SplitTree
-else_of (_, (_, under)) = under
+-- the word and the arrow of an `else`
+unfoldable pub else_arrow : Reader (Unit {0})
+else_arrow = closed_by (expect_word word.Else) symbol.FatArrow
+
+-- the tree of an `else`, made of what is read: the word with its arrow, and that tree
+abbrev pub else_of : Unit {0} × SplitTree → SplitTree
+else_of (_, under) = under
 
 -- the `else` of a split, `else => ..`: its tree, which `inner` reads
 unfoldable pub else_tree : Reader SplitTree → Reader SplitTree
-else_tree inner = into else_of (pair (expect_word word.Else) (pair (expect symbol.FatArrow) inner))
+else_tree inner = into else_of (pair else_arrow inner)
 
 -- a split made of its location, its arms, and the tree of its `else`, if it has one
-abbrev pub split_of : Loc × (Unit {0} × (List ArmTree × (Option SplitTree × Unit {0}))) → SplitTree
-split_of (loc, (_, (arms, (other, _)))) = split.Split loc arms other
+abbrev pub split_of : Loc × (List ArmTree × Option SplitTree) → SplitTree
+split_of (loc, (arms, other)) = split.Split loc arms other
+
+-- the `else` of a split, or nothing, and the brace that closes the split; `inner` reads its tree
+unfoldable pub other_arm : Reader SplitTree → Reader (Option SplitTree)
+other_arm inner = closed_by (optional (λ t. is_word word.Else t) (else_tree inner)) symbol.CloseBrace
+
+-- the arms of a split and its `else`, with the brace behind them, where `inner` reads the trees inside
+unfoldable pub branches : Reader SplitTree → Reader (List ArmTree × Option SplitTree)
+branches inner = pair (each_of is_number (arm_tree inner)) (other_arm inner)
 
 -- a split behind its word: `0[0:1] { 0 => .. else => .. }`, where `inner` reads the trees inside
 unfoldable pub split_rest : Reader SplitTree → Reader SplitTree
-split_rest inner = into split_of
-    (pair location (pair (expect symbol.OpenBrace) (pair (each_of is_number (arm_tree inner))
-    (pair (optional (λ t. is_word word.Else t) (else_tree inner)) (expect symbol.CloseBrace)))))
+split_rest inner = into split_of (pair (closed_by location symbol.OpenBrace) (branches inner))
 
 -- a leaf made of its provenance and its items; its first token has number `at`
 abbrev pub leaf_of : ℕ → PatTree × (Unit {0} × (Unit {0} × List LayItem)) → SplitTree
@@ -488,10 +507,13 @@ abbrev pub type_item_of : NameTree × (Unit {0} × List ConTree) → ItemTree
 type_item_of (name, (_, cons)) = top.Types (record { name = name; cons = cons })
 
 -- the item of a function, made of its name, its parameters, its type of results, and its body
-abbrev pub fun_of : NameTree × (Unit {0} × (List ParamTree × (Unit {0} × (TyTree × (Unit {0}
-    × (ExprTree × Unit {0})))))) → ItemTree
-fun_of (name, (_, (params, (_, (result, (_, (body, _))))))) =
+abbrev pub fun_of : NameTree × (List ParamTree × (TyTree × ExprTree)) → ItemTree
+fun_of (name, (params, (result, body))) =
     top.Funs (record { name = name; params = params; result = result; body = body })
+
+-- the type of a function's results, of `total` tokens in all, between the symbols beside it: `: U =`
+unfoldable pub result_type : ℕ → Reader TyTree
+result_type total = into (λ p. p.1) (pair (expect symbol.Colon) (closed_by (type_tree total) symbol.Equals))
 
 -- over the levels `limit` that the body of each function and the tree of each layout may have, and the number `total`
 -- of all tokens
@@ -529,9 +551,8 @@ module _ (limit total : ℕ) where
   -- a function behind its word: `f(x: T): U = e;`
   unfoldable pub fun_item : Reader ItemTree
   fun_item = into fun_of
-      (pair (lower_name total) (pair (expect symbol.OpenParen) (pair (any_closed (param_tree total) symbol.CloseParen)
-      (pair (expect symbol.Colon) (pair (type_tree total) (pair (expect symbol.Equals)
-      (pair (expression limit total) (expect symbol.Semicolon))))))))
+      (pair (closed_by (lower_name total) symbol.OpenParen) (pair (any_closed (param_tree total) symbol.CloseParen)
+      (pair (result_type total) (closed_by (expression limit total) symbol.Semicolon))))
 
   -- an item of a file, by its first token, which has number `at`, and over those behind it: the word `type`, `layout`
   -- or `fun`; any other token is refused

@@ -3,7 +3,7 @@ use Rattle.std.specs.Prelude.{ℕ, suc, ◌-◌, ◌^◌, ◌∷◌, length, nat
 use Rattle.rb_syntax.specs.declared.token.Token.TheVariants as token
 use Rattle.rb_syntax.specs.declared.tree.NameTree.{NameTree}
 use Rattle.rb_syntax.specs.Spelling.{is_uint_width}
-use Rattle.rb_read.specs.inner.Combining.{Reader, stuck}
+use Rattle.rb_read.specs.inner.Combining.{Reader, stuck, ◌>>=◌}
 
 -- a name that begins with a small letter, with the number of its token, of `total` tokens in all
 unfoldable pub lower_name : ℕ → Reader NameTree
@@ -22,8 +22,7 @@ number ts = Err (stuck (length ts))
 
 -- the number of a field, below 2^32; it is stuck at one of 2^32 or more
 unfoldable pub field : Reader ℕ
-field (token.Num n ∷ ts) = if nat_lt n (2 ^ 32) then Ok (n, ts) else Err (stuck (suc (length ts)))
-field ts = Err (stuck (length ts))
+field ts = number ts >>= λ x. if nat_lt x.0 (2 ^ 32) then Ok x else Err (stuck (length ts))
 
 -- the width in bits of a type of integers, 1 to 64; it is stuck at one of 0 or over 64
 unfoldable pub width : Reader ℕ

@@ -1,8 +1,9 @@
-use Rattle.std.proofs.Common.{◌≡◌, ◌≤◌, [], ℕ, map, drop, ◌+◌, ◌*◌, max}
+use Rattle.std.proofs.Common.{◌≡◌, ◌≤◌, map, drop, ◌+◌, ◌*◌, max}
 use denote.Param.Weighed.{most}
 use Rattle.rb_core.specs.declared.expression.Expr.{size-Expr}
 use Rattle.rb_core.specs.declared.expression.Clause.{size-Clause}
-use Rattle.rb_core.specs.Meaning.{call_within, meaning_of, clause_meaning, all_of, parts_after, first_of}
+use Rattle.rb_core.specs.Meaning.{call_of, meaning_of, clause_meaning, all_of, parts_after, first_of}
+use Rattle.rb_core.specs.inner.Evaluation.{part_types, parts_outcome}
 use Rattle.rb_core.proofs.EvalMeasure.{call_weight}
 use Rattle.rb_core.proofs.eval.+evaluation.Given as goal
 
@@ -15,11 +16,8 @@ decreases-eval_expr l = l.context.calls * call_weight l.context.program.now + (3
 abbrev pub decreases-eval_all : goal.decreases-eval_all
 decreases-eval_all l = l.calls * call_weight l.program.now + (3 * goal.size-eval_all l + 2)
 
-abbrev pub decreases-eval_invoke : goal.decreases-eval_invoke
-decreases-eval_invoke l = l.context.calls * call_weight l.context.program.now + (3 * goal.size-eval_invoke l + 3)
-
-abbrev pub decreases-eval_build : goal.decreases-eval_build
-decreases-eval_build l = l.context.calls * call_weight l.context.program.now + (3 * goal.size-eval_build l + 3)
+abbrev pub decreases-eval_whole : goal.decreases-eval_whole
+decreases-eval_whole l = l.context.calls * call_weight l.context.program.now + (3 * goal.size-eval_whole l + 3)
 
 abbrev pub decreases-eval_to : goal.decreases-eval_to
 decreases-eval_to l = l.context.calls * call_weight l.context.program.now + (3 * goal.size-eval_to l + 2)
@@ -41,16 +39,14 @@ abbrev pub invariant-eval_all-loop-i : goal.invariant-eval_all-loop-i
 invariant-eval_all-loop-i l = record {
   fewer : l.left ≤ l.calls;
   frame : l.frame ≡ l.initial.frame;
-  gives : (k : ℕ) → l.calls ≤ k →
-      parts_after l.initial.log (all_of (map (meaning_of l.program (call_within l.program k) l.initial.frame.fun) l.parts) l.tys l.initial.frame.scope [] l.calls l.initial.frame.values)
-      ≡ parts_after l.log (all_of (map (meaning_of l.program (call_within l.program k) l.initial.frame.fun) (drop l.i l.parts)) (drop l.i l.tys) l.initial.frame.scope l.values l.left l.initial.frame.values);
+  gives : parts_after l.initial.log (parts_outcome l.program l.initial.frame l.whole l.parts l.calls)
+      ≡ parts_after l.log (all_of (map (meaning_of l.program (call_of l.program) l.initial.frame.fun) (drop l.i l.parts)) (drop l.i (part_types l.program l.whole)) l.initial.frame.scope l.values l.left l.initial.frame.values);
 }
 
 abbrev pub invariant-eval_clauses-loop-clause : goal.invariant-eval_clauses-loop-clause
 invariant-eval_clauses-loop-clause l = record {
   frame : l.frame ≡ l.initial.frame;
   log : l.log ≡ l.initial.log;
-  gives : (k : ℕ) → l.context.calls ≤ k →
-      first_of l.context.program.now.types l.ty (map (clause_meaning l.context.program.now (call_within l.context.program.now k) l.initial.frame.fun) l.clauses) l.initial.wanted l.others l.initial.frame.scope l.value l.context.calls l.initial.frame.values
-      ≡ first_of l.context.program.now.types l.ty (map (clause_meaning l.context.program.now (call_within l.context.program.now k) l.initial.frame.fun) (drop l.clause-index l.clauses)) l.wanted l.others l.initial.frame.scope l.value l.context.calls l.initial.frame.values;
+  gives : first_of l.context.program.now.types l.ty (map (clause_meaning l.context.program.now (call_of l.context.program.now) l.initial.frame.fun) l.clauses) l.initial.wanted l.others l.initial.frame.scope l.value l.context.calls l.initial.frame.values
+      ≡ first_of l.context.program.now.types l.ty (map (clause_meaning l.context.program.now (call_of l.context.program.now) l.initial.frame.fun) (drop l.clause-index l.clauses)) l.wanted l.others l.initial.frame.scope l.value l.context.calls l.initial.frame.values;
 }

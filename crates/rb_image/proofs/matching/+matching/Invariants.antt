@@ -11,10 +11,13 @@ invariant-match_fields-loop-i l =
     match_fields types (map gos l.pats) (position_shown l.view) 0 ≡ match_fields types (map gos (drop l.i l.pats)) (position_shown l.view) l.i
 
 abbrev pub decreases-matches : goal.decreases-matches
-decreases-matches l = 3 * weight l.prov.now
+decreases-matches l = 4 * weight l.prov.now
+
+abbrev pub decreases-match_field : goal.decreases-match_field
+decreases-match_field l = 4 * weight l.pat.now + 1
 
 abbrev pub decreases-match_fields : goal.decreases-match_fields
-decreases-match_fields l = 3 * weights l.pats.now + 1
+decreases-match_fields l = 4 * weights l.pats.now + 2
 
 abbrev pub decreases-match_con : goal.decreases-match_con
-decreases-match_con l = 3 * weights l.pats.now + 2
+decreases-match_con l = 4 * weights l.pats.now + 3

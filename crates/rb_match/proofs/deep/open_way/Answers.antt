@@ -1,5 +1,5 @@
 use Rattle.std.proofs.Common.{◌≡◌, false, arith}
-use Rattle.rb_match.proofs.Opening.{opens_way, skips_none, skips_shared}
+use Rattle.rb_match.proofs.Opening.{skips_none, skips_shared}
 use Rattle.rb_match.proofs.deep.open_way.Goals as goal
 
 pub returns-in_default : goal.returns-in_default
@@ -15,8 +15,4 @@ returns-then-not-onward c =
     }
 
 pub returns : goal.returns
-returns c =
-    rw (c.in_ok-push-2.ensures.ok, c.in_ok-edge.ensures, c.as_slice.ensures, c.in_ok-push.ensures.ok, c.len-pc.ensures.value) (record {
-      steps = opens_way c.args.agreed.now c.args.part.now.ty c.args.part.now.words.now c.args.part.now.spots.now c.args.part.now.position c.args.holes.now c.args.leaf c.args.onward.now c.args.body.now c.args.edges c.in-Some.onward c.save_fields.new.body c.in_ok-known-2.known c.requires
-          (rw c.in_ok-land_leaf.ensures at c.in_ok-known-2.ensures.grows) c.in-Some.is (rw (c.in_ok-land_leaf.ensures, c.in_ok-known.ensures, c.as_slice-told.ensures) at c.in_ok-known-2.ensures.saves);
-    })
+returns c = record { steps = rw (c.in-Some.is, c.in_ok-push.ensures.ok) (c.in_ok-way_behind.ensures.steps c.args.edges) }

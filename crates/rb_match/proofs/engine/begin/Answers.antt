@@ -10,7 +10,7 @@ returns-in_ok-onward-in-Test c =
     begins_test c.args.agreed.now c.args.graph.now c.args.subject.now.words.now c.args.subject.now.spots.now c.args.root c.in-Test.position c.in-Test.arms c.in-Test.other c.args.body.now c.ask.new.body c.in_ok-edges-in-Test.edges c.in_ok-onward-in-Test.onward
     (at ∙ ap Some c.in-Test.is) (rw (c.as_slice-position.ensures, c.as_slice-arms.ensures) at c.in_ok-edges-in-Test.ensures.asks) c.in_ok-edges-in-Test.ensures.stand c.in_ok-onward-in-Test.ensures c.in_ok-edges-in-Test.ensures.grows
 
-pub returns-in_ok-push-in-Clause-2 : goal.returns-in_ok-push-in-Clause-2
-returns-in_ok-push-in-Clause-2 c =
-    rw (c.in_ok-push-in-Clause-2.ensures.ok, c.new-edges.ensures, c.in_ok-edge-in-Clause.ensures, c.in_ok-push-in-Clause.ensures.ok, c.len-pc.ensures.value)
+pub returns-in_ok-push-in-Clause : goal.returns-in_ok-push-in-Clause
+returns-in_ok-push-in-Clause c =
+    rw (c.in_ok-push-in-Clause.ensures.ok, c.new-edges.ensures, c.in_ok-open_jump-in-Clause.ensures.edge, c.in_ok-open_jump-in-Clause.ensures.jump)
     (begins_jump c.args.agreed.now c.args.graph.now.ty c.args.subject.now.words.now c.args.graph.now.pats.now c.args.subject.now.spots.now c.args.graph.now.nodes.now c.args.root c.args.body.now)

@@ -13,11 +13,8 @@ pub read_expression_node-returns-in-Lower : goal.read_expression_node-returns-in
 read_expression_node-returns-in-Lower t c =
     rw (lower-node _ _ _ _ _ _ _ c.in-len1-up.len_at_least c.first-item.is c.in-Lower.is c.number_of-at.ensures) c.read_called.ensures
 
-pub read_fields-returns : goal.read_fields-returns
-read_fields-returns t c = c.read_in_parens.ensures (λ ts. expression c.args.levels c.args.total ts) (λ ps r h. search rules)
-
-pub read_arguments-returns : goal.read_arguments-returns
-read_arguments-returns t c = c.read_any_closed.ensures (λ ts. expression c.args.levels c.args.total ts) (λ ps r h. search rules)
+pub read_some_expressions-returns : goal.read_some_expressions-returns
+read_some_expressions-returns t c = c.read_some_closed.ensures (λ ts. expression c.args.levels c.args.total ts) (λ ps r h. search rules)
 
 pub read_clauses-returns : goal.read_clauses-returns
 read_clauses-returns t c =

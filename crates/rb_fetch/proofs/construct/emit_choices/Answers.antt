@@ -1,0 +1,15 @@
+use Rattle.std.proofs.Common.{length, refl, sym, ap, ◌∙◌}
+use Rattle.std.specs.Prelude.{slice_get}
+use Rattle.std.proofs.lemmas.Option.{slice_get_read}
+use Rattle.rb_fetch.proofs.construct.emit_choices.Goals as goal
+
+pub returns : goal.returns
+returns c =
+    let l = c.in-Some.ensures.lookup in
+    let at = ap (λ ls. slice_get ls c.args.con.ty) (sym c.layouts.ensures.same) ∙ slice_get_read c.layouts.result.now (length c.layouts.result.now) c.args.con.ty c.in-Some.layout.now refl l.3.0 l.1 in
+    record {
+      sound = record { typed = rw c.covered.ensures.same at c.program-typed.ensures.typed; flat = c.layouts.ensures.flat; agrees = c.layouts.ensures.agree };
+      layout = c.in-Some.layout.now;
+      is_layout = at;
+      meets = rw c.as_slice.ensures at c.in_ok-held.ensures.meets;
+    }

@@ -1,0 +1,4 @@
+use Rattle.rb_match.proofs.deep.save_onward.Goals as goal
+
+pub returns-clause-saves : goal.returns-clause-saves
+returns-clause-saves c = rw (c.in_ok-facts.ensures, c.as_slice.ensures) at c.in_ok-known.ensures.saves
