@@ -1,4 +1,4 @@
-//! Rows of the crates that stand lowest: numbers and their bits, memory, values, and the outside. It has tests alone.
+//! Rows of numbers and their bits, memory, values, the outside, and code. It has tests alone.
 //!
 //! They add words of a standard, here of RISC-V, taken apart and put together; addresses that were worked out by hand,
 //! at the ends of blocks and of regions; values a million deep, since a proof bounds no stack; and what no contract
@@ -15,6 +15,8 @@
 mod bits;
 #[cfg(test)]
 mod bytes;
+#[cfg(test)]
+mod code;
 #[cfg(test)]
 mod outside;
 #[cfg(test)]

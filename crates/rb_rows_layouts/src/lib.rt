@@ -23,6 +23,8 @@ mod derived;
 #[cfg(test)]
 mod fields;
 #[cfg(test)]
+mod packed;
+#[cfg(test)]
 mod parts;
 #[cfg(test)]
 mod places;

@@ -1,5 +1,4 @@
-//! Rows of values: texts that are read at a type and printed again, and the byte at which others are refused. It has
-//! tests alone.
+//! Texts of values: read at a type and printed again, and the byte at which others are refused.
 //!
 //! They hold the grammar of values, and the rule of the first node that does not fit its type, against texts that were
 //! marked by hand, and read values half a million deep, since a proof bounds no stack. In a row of a type a `!` stands
@@ -9,13 +8,8 @@
 //! ```text
 //! Cons(1, !Red)
 //! ```
-#![tactic(auto)]
 
-#[cfg(test)]
 mod limits;
-#[cfg(test)]
 mod reading;
-#[cfg(test)]
 mod texts;
-#[cfg(test)]
 mod types;

@@ -1,4 +1,4 @@
-//! Rows of layouts that are derived. It has tests alone.
+//! Layouts that are derived for types, and which types cannot be packed.
 //!
 //! They hold what is derived for a type against layouts that were worked out by hand from the rules, part by part, and
 //! have the types that cannot be packed: those that hold themselves, and those of one bit too many. The layout of a
@@ -11,11 +11,7 @@
 //!     1 => Full(_, _, _) : { word 17 { [0:1] = 1, [1:5] .0, [6:6] .1, [12:5] .2 } }
 //! };
 //! ```
-#![tactic(auto)]
 
-#[cfg(test)]
 mod parts;
-#[cfg(test)]
 mod refusals;
-#[cfg(test)]
 mod types;

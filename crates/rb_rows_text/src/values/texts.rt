@@ -2,8 +2,8 @@
 //! node that does not fit, outer before inner and left to right; the bytes of those that are refused
 //! were held against another program, written from the same rules.
 
-use crate::reading::{Found, expect_each, outcome};
-use crate::types::{COLOR, LIST, PAIR, TREE};
+use crate::values::reading::{Found, expect_each, outcome};
+use crate::values::types::{COLOR, LIST, PAIR, TREE};
 use rb_core::types::Ty;
 use std::test::Fail;
 

@@ -1,7 +1,7 @@
 //! Values of up to a million nodes, printed whole: texts of some megabytes. Each is spelled here too, a piece for each
 //! number or level. Nodes, calls and bytes were counted by hand.
 
-use crate::call::{NOTHING_FAILS, Outside, alone, bounded_side, expect};
+use crate::outside::call::{NOTHING_FAILS, Outside, alone, bounded_side, expect};
 use rb_rows_calls::answers::Answer;
 use rb_rows_calls::call::repeated_text;
 use rb_rows_calls::surprise::Surprise;

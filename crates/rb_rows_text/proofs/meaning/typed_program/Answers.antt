@@ -3,7 +3,7 @@ use Rattle.rb_syntax.specs.Cutting.{LexesTo}
 use Rattle.rb_syntax.specs.Lexing.{Lexed}
 use Rattle.rb_syntax.specs.Tokens.{tokens}
 use Rattle.rb_accept.proofs.Numbered.{is_written}
-use Rattle.rb_rows_meaning.proofs.meaning.typed_program.Goals as goal
+use Rattle.rb_rows_text.proofs.meaning.typed_program.Goals as goal
 
 pub check-requires : goal.check-requires
 check-requires c =

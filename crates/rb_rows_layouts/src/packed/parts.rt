@@ -1,6 +1,6 @@
 //! Layouts that are derived, part by part, worked out by hand from the rules of derived layouts.
 
-use crate::types::{con, data, derived_layout, packed_layout, seq, written_layout};
+use crate::packed::types::{con, data, derived_layout, packed_layout, seq, written_layout};
 use rb_core::layout_decl::{LayItem, LayTree, LayoutDecl, PartKind};
 use rb_core::types::{Auto, Ty};
 use std::alloc::Global;

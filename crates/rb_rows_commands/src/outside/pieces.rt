@@ -1,8 +1,8 @@
 //! How many calls a file takes, counted by hand: one that opens it, a read for each piece, and a read that
 //! finds its end.
 
-use crate::call::{NOTHING_FAILS, Outside, alone, expect, failing_side};
-use crate::table::READ_FAULT;
+use crate::outside::call::{NOTHING_FAILS, Outside, alone, expect, failing_side};
+use crate::outside::table::READ_FAULT;
 use rb_rows_calls::answers::Answer;
 use rb_rows_calls::surprise::Surprise;
 use std::alloc::Global;

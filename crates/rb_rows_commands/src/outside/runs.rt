@@ -1,6 +1,6 @@
 //! `run`, `image`, `count` and `exec` over an outside that fails. The texts were worked out by hand.
 
-use crate::table::{Row, expect_table};
+use crate::outside::table::{Row, expect_table};
 use rb_rows_calls::surprise::Surprise;
 
 // 250 + 2 * 3 is 0 in eight bits.

@@ -1,7 +1,7 @@
 //! `check`, `layout` and `compile` over an outside that fails. The texts were worked out by hand.
 
-use crate::call::{NOTHING_FAILS, alone, call};
-use crate::table::{Row, expect_table};
+use crate::outside::call::{NOTHING_FAILS, alone, call};
+use crate::outside::table::{Row, expect_table};
 use rb_rows_calls::call::expect_answer;
 use rb_rows_calls::surprise::Surprise;
 

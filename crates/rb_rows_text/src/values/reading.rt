@@ -3,7 +3,7 @@
 //! In a row, `~` stands before the byte at which no value goes on, and `!` before the first node that
 //! does not fit its type. A row without a mark is printed as it stands.
 
-use crate::types::types;
+use crate::values::types::types;
 use rb_core::types::{DataDecl, Ty};
 use rb_values::fault::ValueFault;
 use rb_values::forest::Forest;

@@ -1,5 +1,4 @@
-//! Rows of code: its texts, bodies that grow, code that reads locations, and what the machine does. It has tests
-//! alone.
+//! Code: its texts, bodies that grow, code that reads locations, and what the machine does.
 //!
 //! What the contracts of `rb_target` and `rb_machine` say of texts, bodies and runs, the rows hold against the table of
 //! instructions, worked out by hand: texts that are spelled back as they stand, the byte at which others stop, the
@@ -10,13 +9,8 @@
 //! ```text
 //! (b"fun t 0 0 0\njumb", Some(15)),
 //! ```
-#![tactic(auto)]
 
-#[cfg(test)]
 mod growing;
-#[cfg(test)]
 mod locations;
-#[cfg(test)]
 mod runs;
-#[cfg(test)]
 mod texts;

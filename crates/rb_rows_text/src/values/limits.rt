@@ -1,8 +1,8 @@
 //! Limits of nodes, and values half a million deep. Nodes and bytes were counted by hand: a value is read where the
 //! limit is the number of its nodes, and not where it is one less.
 
-use crate::reading::{Found, outcome};
-use crate::types::{LIST, types};
+use crate::values::reading::{Found, outcome};
+use crate::values::types::{LIST, types};
 use rb_core::types::Ty;
 use rb_values::read::read_value;
 use std::alloc::{AllocError, Global};

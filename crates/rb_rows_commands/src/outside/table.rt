@@ -2,7 +2,7 @@
 //! a call that opens it, a read for each piece, and a read that finds its end; an image takes the same behind
 //! it; a text takes a write for each piece. A sink fails at one write alone, so a later write would be seen.
 
-use crate::call::{EASY, Held, Outside, Side, alone, bounded_side, expect, failing_side};
+use crate::outside::call::{EASY, Held, Outside, Side, alone, bounded_side, expect, failing_side};
 use rb_rows_calls::answers::Answer;
 use rb_rows_calls::surprise::Surprise;
 use std::alloc::Global;

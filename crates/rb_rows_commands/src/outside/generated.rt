@@ -1,8 +1,8 @@
 //! `gen` and `genrun` over an outside that fails: they make no call of the source. The texts were worked
 //! out by hand.
 
-use crate::call::{NOTHING_FAILS, alone, call};
-use crate::table::{Row, expect_row, expect_table};
+use crate::outside::call::{NOTHING_FAILS, alone, call};
+use crate::outside::table::{Row, expect_row, expect_table};
 use rb_rows_calls::counts::expect_counts;
 use rb_rows_calls::surprise::Surprise;
 

@@ -1,4 +1,4 @@
-//! Rows of an outside that fails, a table for each command. It has tests alone.
+//! An outside that fails, a table for each command.
 //!
 //! A row is a call where nothing fails: words, a file, the status, the text, and the steps. For each row the calls of
 //! the source, the writes of the sinks and their rooms fail in turn, at three sizes of pieces, each time with the
@@ -13,21 +13,12 @@
 //!     Some(0),
 //! ),
 //! ```
-#![tactic(auto)]
 
-#[cfg(test)]
 mod call;
-#[cfg(test)]
 mod files;
-#[cfg(test)]
 mod generated;
-#[cfg(test)]
 mod long;
-#[cfg(test)]
 mod pieces;
-#[cfg(test)]
 mod runs;
-#[cfg(test)]
 mod table;
-#[cfg(test)]
 mod values;

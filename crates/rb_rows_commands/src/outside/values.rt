@@ -1,6 +1,6 @@
 //! `value` and `peek` over an outside that fails. The texts were worked out by hand.
 
-use crate::table::{ImageRow, expect_images};
+use crate::outside::table::{ImageRow, expect_images};
 use rb_rows_calls::surprise::Surprise;
 
 const LIST: &[u8] = b"type List = Nil | Cons(u64, List); layout List <64> = split 0[0:1] { \

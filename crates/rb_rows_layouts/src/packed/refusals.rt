@@ -1,7 +1,7 @@
 //! Types that cannot be packed, worked out by hand from the rules of derived layouts: a type that holds itself, and the
 //! most bits that fit and one more.
 
-use crate::types::{con, data, seq};
+use crate::packed::types::{con, data, seq};
 use rb_auto::{AutoFault, derive};
 use rb_core::program::Program;
 use rb_core::seq::Seq;
