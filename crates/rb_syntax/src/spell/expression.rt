@@ -10,7 +10,7 @@ ghost use Rattle.rb_syntax.specs.inner.Backward.{Wrote};
 ghost use Rattle.rb_syntax.specs.Written as written;
 ghost use Rattle.rb_syntax.specs.Written.{any_with, some_with};
 ghost use Rattle.rb_syntax.specs.Spelling as spelling;
-ghost use Rattle.rb_syntax.specs.Spelling.{expr_written, clause_written, fields_written, at_level, comma, op_word, lower_written, ty_written, uint_written};
+ghost use Rattle.rb_syntax.specs.Spelling.{expr_written, clause_written, at_level, comma, op_word, lower_written, ty_written, uint_written};
 
 use crate::spell::pattern::put_pat;
 use crate::spell::{put_lower, put_num, put_symbol, put_ty, put_uint, put_upper, put_word};
@@ -47,14 +47,18 @@ pub(crate) fn put_expr(
         ExprTree::Num(_, n) => put_num(out, *n),
         ExprTree::Var(_, name) => put_lower(alloc, out, name),
         ExprTree::Call(_, name, args) => {
-            put_call(alloc, out, name, args.as_slice())?;
+            put_args(alloc, out, args.as_slice())?;
+            put_lower(alloc, out, name)?;
             Ok(())
         }
-        ExprTree::Build(_, name, fields) => {
-            put_fields(alloc, out, fields.as_slice())?;
-            put_upper(alloc, out, name)?;
-            Ok(())
-        }
+        ExprTree::Build(_, name, fields) => match fields.as_slice() {
+            [] => put_upper(alloc, out, name),
+            [_, ..] => {
+                put_args(alloc, out, fields.as_slice())?;
+                put_upper(alloc, out, name)?;
+                Ok(())
+            }
+        },
         ExprTree::Binary(_, op, a, b) => put_binary(alloc, out, *op, a.get(), b.get()),
         ExprTree::To(_, bits, a) => put_conversion(alloc, out, *bits, a.get()),
         ExprTree::Let(_, name, ty, a, b) => put_let(alloc, out, name, ty, a.get(), b.get()),
@@ -63,25 +67,6 @@ pub(crate) fn put_expr(
             Ok(())
         }
     }
-}
-
-// Puts a call of a function, as `f(a, b)`.
-#[cycle(expression)]
-fn put_call(
-    alloc: Global,
-    out: &mut Vec<Token>,
-    name: &NameTree,
-    args: &[ExprTree],
-) -> Result<(), AllocError>
-    ensures { OnOk result ((l : ℕ) → Wrote (λ rest. lower_written name.now (spelling.sym symbol.OpenParen
-        ∷ any_with comma (at_level l (map expr_written args.now))
-        (spelling.sym symbol.CloseParen ∷ rest))) out.old.items out.new.items) }
-{
-    put_symbol(out, Symbol::CloseParen)?;
-    put_args(alloc, out, args)?;
-    put_symbol(out, Symbol::OpenParen)?;
-    put_lower(alloc, out, name)?;
-    Ok(())
 }
 
 // Puts an operator, as its reserved word, with its two operands, as `add(a, b)`.
@@ -165,116 +150,52 @@ fn put_match(
         ∷ some_with comma (at_level l (map clause_written clauses.now))
         (spelling.sym symbol.CloseBrace ∷ rest))) out.old.items out.new.items) }
 {
-    put_symbol(out, Symbol::CloseBrace)?;
     put_clauses(alloc, out, clauses)?;
-    put_symbol(out, Symbol::OpenBrace)?;
     put_expr(alloc, out, scrutinee)?;
     put_word(out, ReservedWord::Match)?;
     Ok(())
 }
 
-// Puts the arguments of a call with commas between, or nothing where there is none.
+// Puts expressions in parentheses with commas between, as `(a, b)`.
 #[cycle(expression)]
 fn put_args(alloc: Global, out: &mut Vec<Token>, args: &[ExprTree]) -> Result<(), AllocError>
-    ensures { OnOk result ((l : ℕ) → Wrote (any_with comma
-        (at_level l (map expr_written args.now))) out.old.items out.new.items) }
+    ensures { OnOk result ((l : ℕ) → Wrote (λ rest. spelling.sym symbol.OpenParen
+        ∷ any_with comma (at_level l (map expr_written args.now))
+        (spelling.sym symbol.CloseParen ∷ rest)) out.old.items out.new.items) }
 {
-    match args {
-        [] => Ok(()),
-        [first, others @ ..] => {
-            put_exprs(alloc, out, args, first, others)?;
-            Ok(())
+    put_symbol(out, Symbol::CloseParen)?;
+    for i in (0..args.len()).rev() {
+        put_expr(alloc, out, &args[i])?;
+        if i > 0 {
+            put_symbol(out, Symbol::Comma)?;
         }
     }
-}
-
-// Puts the fields of a constructor in parentheses, or nothing where there is none.
-#[cycle(expression)]
-fn put_fields(alloc: Global, out: &mut Vec<Token>, fields: &[ExprTree]) -> Result<(), AllocError>
-    ensures { OnOk result ((l : ℕ) → Wrote (fields_written
-        (at_level l (map expr_written fields.now))) out.old.items out.new.items) }
-{
-    match fields {
-        [] => Ok(()),
-        [first, others @ ..] => {
-            put_symbol(out, Symbol::CloseParen)?;
-            put_exprs(alloc, out, fields, first, others)?;
-            put_symbol(out, Symbol::OpenParen)?;
-            Ok(())
-        }
-    }
-}
-
-// Puts one expression or more with commas between: `first`, then the `others`, together `exprs`.
-#[cycle(expression)]
-fn put_exprs(
-    alloc: Global,
-    out: &mut Vec<Token>,
-    exprs: &[ExprTree],
-    first: &ExprTree,
-    others: &[ExprTree],
-) -> Result<(), AllocError>
-    requires { exprs.now ≡ first.now ∷ others.now }
-    ensures { OnOk result ((l : ℕ) → Wrote (any_with comma
-        (at_level l (map expr_written exprs.now))) out.old.items out.new.items) }
-{
-    for i in (0..others.len()).rev() {
-        put_expr(alloc, out, &others[i])?;
-        put_symbol(out, Symbol::Comma)?;
-    }
-    put_expr(alloc, out, first)?;
+    put_symbol(out, Symbol::OpenParen)?;
     Ok(())
 }
 
-// Puts the clauses of a match with commas between, or nothing where there is none, for which the
-// grammar has no form.
+// Puts the clauses of a match in braces with commas between, as `{ p => e, q => f }`. The grammar
+// has no form for none.
 #[cycle(expression)]
 fn put_clauses(
     alloc: Global,
     out: &mut Vec<Token>,
     clauses: &[ClauseTree],
 ) -> Result<(), AllocError>
-    ensures { OnOk result ((l : ℕ) → Wrote (some_with comma
-        (at_level l (map clause_written clauses.now))) out.old.items out.new.items) }
+    ensures { OnOk result ((l : ℕ) → Wrote (λ rest. spelling.sym symbol.OpenBrace
+        ∷ some_with comma (at_level l (map clause_written clauses.now))
+        (spelling.sym symbol.CloseBrace ∷ rest)) out.old.items out.new.items) }
 {
-    match clauses {
-        [] => Ok(()),
-        [first, others @ ..] => {
-            put_some_clauses(alloc, out, clauses, first, others)?;
-            Ok(())
+    put_symbol(out, Symbol::CloseBrace)?;
+    for i in (0..clauses.len()).rev() {
+        let clause = &clauses[i];
+        put_expr(alloc, out, &clause.body)?;
+        put_symbol(out, Symbol::FatArrow)?;
+        put_pat(alloc, out, &clause.pat)?;
+        if i > 0 {
+            put_symbol(out, Symbol::Comma)?;
         }
     }
-}
-
-// Puts one clause of a match or more with commas between: `first`, then the `others`, together
-// `clauses`.
-#[cycle(expression)]
-fn put_some_clauses(
-    alloc: Global,
-    out: &mut Vec<Token>,
-    clauses: &[ClauseTree],
-    first: &ClauseTree,
-    others: &[ClauseTree],
-) -> Result<(), AllocError>
-    requires { clauses.now ≡ first.now ∷ others.now }
-    ensures { OnOk result ((l : ℕ) → Wrote (some_with comma
-        (at_level l (map clause_written clauses.now))) out.old.items out.new.items) }
-{
-    for i in (0..others.len()).rev() {
-        put_clause(alloc, out, &others[i])?;
-        put_symbol(out, Symbol::Comma)?;
-    }
-    put_clause(alloc, out, first)?;
-    Ok(())
-}
-
-// Puts a clause of a match, as `p => e`.
-#[cycle(expression)]
-fn put_clause(alloc: Global, out: &mut Vec<Token>, clause: &ClauseTree) -> Result<(), AllocError>
-    ensures { OnOk result ((l : ℕ) → Wrote (clause_written clause.now l) out.old.items out.new.items) }
-{
-    put_expr(alloc, out, &clause.body)?;
-    put_symbol(out, Symbol::FatArrow)?;
-    put_pat(alloc, out, &clause.pat)?;
+    put_symbol(out, Symbol::OpenBrace)?;
     Ok(())
 }

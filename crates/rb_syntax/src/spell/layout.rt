@@ -94,14 +94,17 @@ fn put_word_of(alloc: Global, out: &mut Vec<Token>, path: &[u32], j: u64) -> Res
     Ok(())
 }
 
-// Puts an item of a leaf or a block: a word, or `inline` for the words of a field.
+// Puts an item of a leaf or a block: a word with its parts, as `word 32 { [0:32] .0 }`, or `inline`
+// for the words of a field.
 #[cycle(item)]
 fn put_item(alloc: Global, out: &mut Vec<Token>, item: &LayItem) -> Result<(), AllocError>
     ensures { OnOk result ((l : ℕ) → Wrote (lay_item_written item.now l) out.old.items out.new.items) }
 {
     match item {
         LayItem::Word(bits, parts) => {
-            put_word_item(alloc, out, *bits, parts.as_slice())?;
+            put_parts(alloc, out, parts.as_slice())?;
+            put_num(out, *bits)?;
+            put_word(out, ReservedWord::Word)?;
             Ok(())
         }
         LayItem::Inline(path) => {
@@ -112,49 +115,8 @@ fn put_item(alloc: Global, out: &mut Vec<Token>, item: &LayItem) -> Result<(), A
     }
 }
 
-// Puts a word of a leaf or a block with its parts, as `word 32 { [0:32] .0 }`.
-#[cycle(item)]
-fn put_word_item(
-    alloc: Global,
-    out: &mut Vec<Token>,
-    bits: u64,
-    parts: &[PartDecl],
-) -> Result<(), AllocError>
-    ensures { OnOk result ((l : ℕ) → Wrote (λ rest. spelling.word_token word.Word ∷ spelling.num bits
-        ∷ spelling.sym symbol.OpenBrace
-        ∷ any_with comma (at_level l (map part_written parts.now))
-        (spelling.sym symbol.CloseBrace ∷ rest)) out.old.items out.new.items) }
-{
-    put_symbol(out, Symbol::CloseBrace)?;
-    put_parts(alloc, out, parts)?;
-    put_symbol(out, Symbol::OpenBrace)?;
-    put_num(out, bits)?;
-    put_word(out, ReservedWord::Word)?;
-    Ok(())
-}
-
-// Puts the pointer that a part of a word holds, with its block, as `-> 8 { inline .1 }`.
-#[cycle(item)]
-fn put_pointer(
-    alloc: Global,
-    out: &mut Vec<Token>,
-    align: u64,
-    items: &[LayItem],
-) -> Result<(), AllocError>
-    ensures { OnOk result ((l : ℕ) → Wrote (λ rest. spelling.sym symbol.Arrow ∷ spelling.num align
-        ∷ spelling.sym symbol.OpenBrace
-        ∷ any_with comma (at_level l (map lay_item_written items.now))
-        (spelling.sym symbol.CloseBrace ∷ rest)) out.old.items out.new.items) }
-{
-    put_symbol(out, Symbol::CloseBrace)?;
-    put_items(alloc, out, items)?;
-    put_symbol(out, Symbol::OpenBrace)?;
-    put_num(out, align)?;
-    put_symbol(out, Symbol::Arrow)?;
-    Ok(())
-}
-
-// Puts what a part of a word holds: a constant, a field, a slice or a word of one, or a pointer.
+// Puts what a part of a word holds: a constant, a field, a slice or a word of one, or a pointer with
+// its block, as `-> 8 { inline .1 }`.
 #[cycle(item)]
 fn put_kind(alloc: Global, out: &mut Vec<Token>, kind: &PartKind) -> Result<(), AllocError>
     ensures { OnOk result ((l : ℕ) → Wrote (kind_written kind.now l) out.old.items out.new.items) }
@@ -178,94 +140,52 @@ fn put_kind(alloc: Global, out: &mut Vec<Token>, kind: &PartKind) -> Result<(), 
             Ok(())
         }
         PartKind::Pointer(align, items) => {
-            put_pointer(alloc, out, *align, items.as_slice())?;
+            put_items(alloc, out, items.as_slice())?;
+            put_num(out, *align)?;
+            put_symbol(out, Symbol::Arrow)?;
             Ok(())
         }
     }
 }
 
-// Puts a part of a word: its range, and what it holds.
-#[cycle(item)]
-fn put_part(alloc: Global, out: &mut Vec<Token>, part: &PartDecl) -> Result<(), AllocError>
-    ensures { OnOk result ((l : ℕ) → Wrote (part_written part.now l) out.old.items out.new.items) }
-{
-    put_kind(alloc, out, &part.kind)?;
-    put_range(out, part.o, part.l)?;
-    Ok(())
-}
-
-// Puts the parts of a word with commas between, or nothing where there is none.
+// Puts the parts of a word in braces with commas between: of each its range, and what it holds.
 #[cycle(item)]
 fn put_parts(alloc: Global, out: &mut Vec<Token>, parts: &[PartDecl]) -> Result<(), AllocError>
-    ensures { OnOk result ((l : ℕ) → Wrote (any_with comma
-        (at_level l (map part_written parts.now))) out.old.items out.new.items) }
+    ensures { OnOk result ((l : ℕ) → Wrote (λ rest. spelling.sym symbol.OpenBrace
+        ∷ any_with comma (at_level l (map part_written parts.now))
+        (spelling.sym symbol.CloseBrace ∷ rest)) out.old.items out.new.items) }
 {
-    match parts {
-        [] => Ok(()),
-        [first, others @ ..] => {
-            put_some_parts(alloc, out, parts, first, others)?;
-            Ok(())
+    put_symbol(out, Symbol::CloseBrace)?;
+    for i in (0..parts.len()).rev() {
+        let part = &parts[i];
+        put_kind(alloc, out, &part.kind)?;
+        put_range(out, part.o, part.l)?;
+        if i > 0 {
+            put_symbol(out, Symbol::Comma)?;
         }
     }
-}
-
-// Puts one part of a word or more with commas between: `first`, then the `others`.
-#[cycle(item)]
-fn put_some_parts(
-    alloc: Global,
-    out: &mut Vec<Token>,
-    parts: &[PartDecl],
-    first: &PartDecl,
-    others: &[PartDecl],
-) -> Result<(), AllocError>
-    requires { parts.now ≡ first.now ∷ others.now }
-    ensures { OnOk result ((l : ℕ) → Wrote (any_with comma
-        (at_level l (map part_written parts.now))) out.old.items out.new.items) }
-{
-    for i in (0..others.len()).rev() {
-        put_part(alloc, out, &others[i])?;
-        put_symbol(out, Symbol::Comma)?;
-    }
-    put_part(alloc, out, first)?;
+    put_symbol(out, Symbol::OpenBrace)?;
     Ok(())
 }
 
-/// Puts the items of a leaf or a block with commas between, or nothing where there is none.
+/// Puts the items of a leaf or a block in braces with commas between.
 #[cycle(item)]
 pub(crate) fn put_items(
     alloc: Global,
     out: &mut Vec<Token>,
     items: &[LayItem],
 ) -> Result<(), AllocError>
-    ensures { OnOk result ((l : ℕ) → Wrote (any_with comma
-        (at_level l (map lay_item_written items.now))) out.old.items out.new.items) }
+    ensures { OnOk result ((l : ℕ) → Wrote (λ rest. spelling.sym symbol.OpenBrace
+        ∷ any_with comma (at_level l (map lay_item_written items.now))
+        (spelling.sym symbol.CloseBrace ∷ rest)) out.old.items out.new.items) }
 {
-    match items {
-        [] => Ok(()),
-        [first, others @ ..] => {
-            put_some_items(alloc, out, items, first, others)?;
-            Ok(())
+    put_symbol(out, Symbol::CloseBrace)?;
+    for i in (0..items.len()).rev() {
+        put_item(alloc, out, &items[i])?;
+        if i > 0 {
+            put_symbol(out, Symbol::Comma)?;
         }
     }
-}
-
-// Puts one item of a leaf or a block or more with commas between: `first`, then the `others`.
-#[cycle(item)]
-fn put_some_items(
-    alloc: Global,
-    out: &mut Vec<Token>,
-    items: &[LayItem],
-    first: &LayItem,
-    others: &[LayItem],
-) -> Result<(), AllocError>
-    requires { items.now ≡ first.now ∷ others.now }
-    ensures { OnOk result ((l : ℕ) → Wrote (any_with comma
-        (at_level l (map lay_item_written items.now))) out.old.items out.new.items) }
-{
-    for i in (0..others.len()).rev() {
-        put_item(alloc, out, &others[i])?;
-        put_symbol(out, Symbol::Comma)?;
-    }
-    put_item(alloc, out, first)?;
+    put_symbol(out, Symbol::OpenBrace)?;
     Ok(())
 }

@@ -79,9 +79,7 @@ fn put_leaf(
         ∷ some_with comma (map (λ (i : LayItem). lay_item_written i l) items.now)
         (spelling.sym symbol.CloseBrace ∷ rest))) out.old.items out.new.items) }
 {
-    put_symbol(out, Symbol::CloseBrace)?;
     put_items(alloc, out, items)?;
-    put_symbol(out, Symbol::OpenBrace)?;
     put_symbol(out, Symbol::Colon)?;
     put_prov(alloc, out, prov)?;
     Ok(())

@@ -1,9 +1,10 @@
-use Rattle.std.proofs.Common.{◌≡◌, ◌+◌, ◌*◌, max, ℕ, List, map, drop, reverse}
+use Rattle.std.proofs.Common.{◌≡◌, ◌+◌, ◌*◌, max, ℕ, List, reverse}
 use denote.Param.Weighed.{most}
 use Rattle.rb_syntax.specs.declared.tree.ExprTree.{size-ExprTree}
 use Rattle.rb_syntax.specs.declared.tree.ClauseTree.{size-ClauseTree}
-use Rattle.rb_syntax.specs.Written.{Written, tokens_in, each_behind}
-use Rattle.rb_syntax.specs.Spelling.{expr_written, clause_written, at_level, comma}
+use Rattle.rb_syntax.specs.Written.{Written, tokens_in}
+use Rattle.rb_syntax.specs.Spelling.{expr_written, clause_written}
+use Rattle.rb_syntax.proofs.ListLemmas.{parts_from}
 use Rattle.rb_syntax.proofs.spell.expression.+expression.Given as goal
 
 abbrev pub decreases-put_expr : goal.decreases-put_expr
@@ -18,36 +19,21 @@ decreases-put_conversion l = 4 * size-ExprTree l.a.now + 2
 abbrev pub decreases-put_let : goal.decreases-put_let
 decreases-put_let l = 4 * max (size-ExprTree l.a.now) (size-ExprTree l.b.now) + 2
 
-abbrev pub decreases-put_call : goal.decreases-put_call
-decreases-put_call l = 4 * most size-ExprTree l.args.now + 4
-
 abbrev pub decreases-put_match : goal.decreases-put_match
 decreases-put_match l = 4 * max (size-ExprTree l.scrutinee.now) (most size-ClauseTree l.clauses.now) + 4
 
 abbrev pub decreases-put_args : goal.decreases-put_args
 decreases-put_args l = 4 * most size-ExprTree l.args.now + 3
 
-abbrev pub decreases-put_fields : goal.decreases-put_fields
-decreases-put_fields l = 4 * most size-ExprTree l.fields.now + 3
-
-abbrev pub decreases-put_exprs : goal.decreases-put_exprs
-decreases-put_exprs l = 4 * most size-ExprTree l.exprs.now + 2
-
 abbrev pub decreases-put_clauses : goal.decreases-put_clauses
 decreases-put_clauses l = 4 * most size-ClauseTree l.clauses.now + 3
 
-abbrev pub decreases-put_some_clauses : goal.decreases-put_some_clauses
-decreases-put_some_clauses l = 4 * most size-ClauseTree l.clauses.now + 2
-
-abbrev pub decreases-put_clause : goal.decreases-put_clause
-decreases-put_clause l = 4 * size-ClauseTree l.clause.now + 1
-
--- the expressions from i on are written
-abbrev pub invariant-put_exprs-loop-i : goal.invariant-put_exprs-loop-i
-invariant-put_exprs-loop-i l = (level : ℕ) (rest : List Written) → reverse l.initial.out.items ≡ tokens_in rest
-    → reverse l.out.items ≡ tokens_in (each_behind comma (at_level level (map expr_written (drop l.i l.others))) rest)
+-- the arguments from i on are written
+abbrev pub invariant-put_args-loop-i : goal.invariant-put_args-loop-i
+invariant-put_args-loop-i l = (level : ℕ) (rest : List Written) → reverse l.initial.out.items ≡ tokens_in rest
+    → reverse l.out.items ≡ tokens_in (parts_from expr_written level l.args l.i rest)
 
 -- the clauses from i on are written
-abbrev pub invariant-put_some_clauses-loop-i : goal.invariant-put_some_clauses-loop-i
-invariant-put_some_clauses-loop-i l = (level : ℕ) (rest : List Written) → reverse l.initial.out.items ≡ tokens_in rest
-    → reverse l.out.items ≡ tokens_in (each_behind comma (at_level level (map clause_written (drop l.i l.others))) rest)
+abbrev pub invariant-put_clauses-loop-i : goal.invariant-put_clauses-loop-i
+invariant-put_clauses-loop-i l = (level : ℕ) (rest : List Written) → reverse l.initial.out.items ≡ tokens_in rest
+    → reverse l.out.items ≡ tokens_in (parts_from clause_written level l.clauses l.i rest)
