@@ -32,6 +32,11 @@ pub at-level : {T : Type 0} (f : T → Deep) (l : ℕ) (xs : List T) → at_leve
 at-level f l [] = refl
 at-level f l (x ∷ xs) = ap (λ (ws : List Writing). f x l ∷ ws) (at-level f l xs)
 
+-- the part at place i, with those behind it
+pub part-left : {T : Type 0} (xs : List T) (i n : ℕ) (x : T) → n ≡ suc i → i < length xs → x ≡ get_or xs i x → x ∷ drop n xs ≡ drop i xs
+part-left {T} xs i n x next within is =
+    ap (λ (y : T). y ∷ drop n xs) is ∙ ap (λ (m : ℕ). get_or xs i x ∷ drop m xs) (next ∙ turned (add-one i)) ∙ turned (drop_more xs i x within)
+
 -- parts behind i others, with commas between: one before each where i is above 0, and else before each but the first
 abbrev pub behind : ℕ → List Writing → Writing
 behind zero ws = any_with comma ws
@@ -42,17 +47,14 @@ module _ {T : Type 0} (f : T → Deep) (l : ℕ) (xs : List T) where
   abbrev pub parts_from : ℕ → Writing
   parts_from i = behind i (at_level l (map f (drop i xs)))
 
-  here : (i : ℕ) (x : T) → i < length xs → x ≡ get_or xs i x → x ∷ drop (suc i) xs ≡ drop i xs
-  here i x within is = turned (drop_more xs i x within ∙ ap (λ (n : ℕ). get_or xs i x ∷ drop n xs) (add-one i) ∙ ap (λ (y : T). y ∷ drop (suc i) xs) (turned is))
-
   -- the first part, in front of the others
   pub part-first : (i n : ℕ) (x : T) (rest : List Written) → n ≡ suc i → i < length xs → x ≡ get_or xs i x → i ≤ 0 → f x l (parts_from n rest) ≡ parts_from i rest
   part-first zero n x rest next within is first =
-      ap (λ (m : ℕ). f x l (parts_from m rest)) next ∙ ap (λ (ys : List T). any_with comma (at_level l (map f ys)) rest) (here 0 x within is)
+      ap (λ (m : ℕ). f x l (parts_from m rest)) next ∙ ap (λ (ys : List T). any_with comma (at_level l (map f ys)) rest) (part-left xs 0 1 x refl within is)
   part-first (suc i) n x rest next within is first = absurd (omega (arith, first))
 
   -- a later part, in front of those behind it
   pub part-later : (i n : ℕ) (x : T) (rest : List Written) → n ≡ suc i → i < length xs → x ≡ get_or xs i x → 0 < i → token comma ∷ f x l (parts_from n rest) ≡ parts_from i rest
   part-later zero n x rest next within is later = absurd (omega (arith, later))
   part-later (suc i) n x rest next within is later =
-      ap (λ (m : ℕ). token comma ∷ f x l (parts_from m rest)) next ∙ ap (λ (ys : List T). each_behind comma (at_level l (map f ys)) rest) (here (suc i) x within is)
+      ap (λ (m : ℕ). token comma ∷ f x l (parts_from m rest)) next ∙ ap (λ (ys : List T). each_behind comma (at_level l (map f ys)) rest) (part-left xs (suc i) (suc (suc i)) x refl within is)

@@ -1,10 +1,12 @@
-use Rattle.std.proofs.Common.{◌≡◌, ◌∷◌, ◌∙◌, suc, map, drop, arith, ap}
+use Rattle.std.proofs.Common.{◌≡◌, ◌∷◌, ◌∙◌, ◌-◌, suc, List, map, drop, arith, ap}
+use Rattle.rb_syntax.specs.declared.tree.ArmTree.{ArmTree}
 use Rattle.rb_syntax.specs.declared.token.Symbol.TheVariants as symbol
 use Rattle.rb_syntax.specs.declared.tree.SplitTree.{SplitTree}
 use Rattle.rb_syntax.specs.declared.tree.SplitTree.TheOpen as split
-use Rattle.rb_syntax.specs.Written.{each}
+use Rattle.rb_syntax.specs.Written.{tokens_in, each}
 use Rattle.rb_syntax.specs.Spelling.{loc_written, split_step, split_written, arm_written, at_level, sym}
 use Rattle.rb_syntax.proofs.SpellingLemmas.{arm-is, split-Leaf}
+use Rattle.rb_syntax.proofs.ListLemmas.{part-left}
 use Rattle.rb_syntax.proofs.spell.split.+split.Goals as goal
 
 pub put_split-returns-in_ok-put_leaf-in-Leaf : goal.put_split-returns-in_ok-put_leaf-in-Leaf
@@ -19,6 +21,13 @@ put_else-returns t c l rest h =
     let tree = split_written c.args.tree.now l closed in
     c.in_ok-put_word.ensures (sym symbol.FatArrow ∷ tree) (c.in_ok-put_symbol-2.ensures tree
     (c.in_ok-put_split.ensures l closed (c.in_ok-put_symbol.ensures rest h)))
+
+pub put_arms-loop-i-preserved : goal.put_arms-loop-i-preserved
+put_arms-loop-i-preserved t c l rest h =
+    let next : c.loop-i.i ≡ suc (c.loop-i.i - 1) = omega arith in
+    c.in_ok-put_arm.ensures l (each (at_level l (map arm_written (drop c.loop-i.i c.args.arms.now))) rest) (c.loop-i.invariant l rest h)
+    ∙ ap (λ (arms : List ArmTree). tokens_in (each (at_level l (map arm_written arms)) rest))
+    (part-left c.args.arms.now (c.loop-i.i - 1) c.loop-i.i c.index-arms-i.result next (omega arith) c.index-arms-i.is)
 
 pub put_arms-returns : goal.put_arms-returns
 put_arms-returns t c l rest h =
