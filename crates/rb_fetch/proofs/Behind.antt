@@ -1,7 +1,8 @@
 -- A look with the code of all leaves behind it, and the code of one leaf that is told without a look.
-use Rattle.std.proofs.Common.{◌≡◌, ℕ, ◌+◌, ◌<◌, ◌≤◌, length, List, [], ◌∷◌, ◌++◌, Bool, true, false, Some, sym, subst, ap, ◌∙◌, arith}
+use Rattle.std.proofs.Common.{◌≡◌, ℕ, ◌+◌, ◌<◌, ◌≤◌, length, List, [], ◌∷◌, ◌++◌, Bool, true, false, Some, get_or, Result, IfOk, sym, subst, ap, ◌∙◌, arith}
 use Rattle.std.specs.Prelude.{slice_get, slice_index}
 use Rattle.std.proofs.lemmas.Option.{same_Some, slice_get_within}
+use Rattle.std.proofs.lemmas.Result.{IfOk-weaker}
 use Rattle.rb_core.specs.declared.value.Value.{Value}
 use Rattle.rb_core.specs.declared.types.Ty.TheVariants.{Named}
 use Rattle.rb_core.specs.TypedPrograms.{IsTyped}
@@ -32,12 +33,12 @@ use Rattle.rb_fetch.specs.declared.choice.Way.{Way}
 use Rattle.rb_fetch.specs.declared.known.Seen.{Seen}
 use Rattle.rb_fetch.specs.declared.asking.Look.{Look}
 use Rattle.rb_fetch.specs.declared.asking.Question.{Question}
-use Rattle.rb_fetch.specs.inner.Asking.{AsksFor, IsLook}
+use Rattle.rb_fetch.specs.inner.Asking.{AsksFor, IsLook, NeedsNone}
 use Rattle.rb_fetch.specs.Finding.{FindsLeaf, HasLeaf, leaf_count, layout_leaf_count}
-use Rattle.rb_fetch.specs.inner.Choosing.{AreOpen, AreWaysOf, BranchIn, BranchesDone, BranchesStand, ChoosesBelow, ChoosesBy, ChoosesUnder, HasLeaves, IsPartIn, IsPlaceOf, AreInnerWords, ChoiceIsReady, IsWayAt, PartsHold, TakesOneWay, left_of, look_cost}
+use Rattle.rb_fetch.specs.inner.Choosing.{AddsWays, AreEndOf, AreOpen, AreWaysOf, BranchIn, BranchesDone, BranchesStand, ChoosesBelow, ChoosesBy, ChoosesFrom, ChoosesUnder, HasLeaves, IsPartIn, IsPlaceOf, AreInnerWords, ChoiceIsReady, IsWayAt, PartsHold, TakesOneWay, left_of, look_cost}
 use Rattle.rb_fetch.specs.inner.Heads.{is_among, leaf_known, shown_heads}
 use Rattle.rb_fetch.proofs.Branching.{behind_same, way_piece, whole_adds, whole_grows}
-use Rattle.rb_fetch.proofs.Chosen.{leaf_found}
+use Rattle.rb_fetch.proofs.Chosen.{ends_open, leaf_found, none_asked, some_asked}
 use Rattle.rb_fetch.proofs.Costs.{left_less}
 use Rattle.rb_fetch.proofs.Finding.{of_plan}
 use Rattle.rb_fetch.proofs.Shown.{told_layout, told_leaf}
@@ -231,16 +232,38 @@ module _ (agreed : LaidOut) (typed : IsTyped agreed.covered.program) (flat : agr
                 (λ s1 m y. (y.0, y.1, part_rep agreed plan t k layout leaves xs path s words old.slots part ready v u at clean s1 m y.1)) (λ pc s1 m y. y) (tk.does clean);
           }
 
--- What is asked, and what a leaf tells ------------------------------------------------------------
+-- What is asked ----------------------------------------------------------------------------------
 
-module _ (agreed : LaidOut) (t : ℕ) (leaves : List ℕ) (seen : Seen) (xs : List Subvalue) (old new : Sheet) (ways : List Way) where
-  -- where what is known tells the leaf
-  pub told_asked : (n : ℕ) (question : Question) → AsksFor agreed t n seen xs question → (l : ℕ) → question.told ≡ Some l
-      → ChoosesUnder agreed t leaves seen xs question.place.path question.place.con.ty question.words l old new ways
-      → ChoosesBy agreed t leaves seen xs question.place.path question.place.con.ty old new ways
-  told_asked n question asks l told under =
-      told_chooses agreed asks.has.sound.typed asks.has.sound.flat asks.has.sound.agrees t leaves seen xs question.place.path question.place.con.ty question.words l
-      (sym asks.is_asked.is_told ∙ told) old new ways under asks.is_asked.is_part
+module _ {E : Type 0} (r : Result (List Way) E) (agreed : LaidOut) (t : ℕ) (leaves : List ℕ) (seen : Seen) (xs : List Subvalue) (old new : Sheet) where
+  abbrev IsChosen : List Way → Type 0
+  IsChosen ways = AddsWays old new ways (ChoosesFrom agreed t leaves seen xs old new ways)
+
+  module _ (some : 1 ≤ length leaves) where
+    -- no place needs a look any more
+    pub end_chosen : NeedsNone agreed t (get_or leaves 0 0) seen → IfOk r (AreEndOf agreed t (get_or leaves 0 0) xs old new) → IfOk r IsChosen
+    end_chosen none = IfOk-weaker r (AreEndOf agreed t (get_or leaves 0 0) xs old new) IsChosen (λ ways end.
+        let o = ends_open agreed t (get_or leaves 0 0) xs old new ways end in
+        record { grows = o.1; are_open = o.0; does = none_asked agreed t leaves some seen xs old new ways none end })
+
+    module _ (question : Question) (asks : AsksFor agreed t (get_or leaves 0 0) seen xs question) where
+      abbrev By : List Way → Type 0
+      By = ChoosesBy agreed t leaves seen xs question.place.path question.place.con.ty old new
+
+      chosen_by : (Does : List Way → Type 0) → ((ways : List Way) → Does ways → By ways) → IfOk r (λ ways. AddsWays old new ways (Does ways)) → IfOk r IsChosen
+      chosen_by Does by = IfOk-weaker r (λ ways. AddsWays old new ways (Does ways)) IsChosen (λ ways goes.
+          record { grows = goes.grows; are_open = goes.are_open; does = some_asked agreed t leaves some seen xs old new ways question asks (by ways goes.does) })
+
+      -- what is known tells the leaf
+      pub told_chosen : (l : ℕ) → question.told ≡ Some l
+          → IfOk r (λ ways. AddsWays old new ways (ChoosesUnder agreed t leaves seen xs question.place.path question.place.con.ty question.words l old new ways)) → IfOk r IsChosen
+      told_chosen l told =
+          chosen_by (ChoosesUnder agreed t leaves seen xs question.place.path question.place.con.ty question.words l old new) (λ ways under.
+          told_chooses agreed asks.has.sound.typed asks.has.sound.flat asks.has.sound.agrees t leaves seen xs question.place.path question.place.con.ty question.words l
+          (sym asks.is_asked.is_told ∙ told) old new ways under asks.is_asked.is_part)
+
+      -- the code looks
+      pub look_chosen : IfOk r (λ ways. AddsWays old new ways (IsPartIn xs question.place.path question.place.con.ty question.words → By ways)) → IfOk r IsChosen
+      look_chosen = chosen_by (λ ways. IsPartIn xs question.place.path question.place.con.ty question.words → By ways) (λ ways by. by asks.is_asked.is_part)
 
 module _ (agreed : LaidOut) (t : ℕ) (leaves : List ℕ) (seen : Seen) (xs : List Subvalue) (path : List ℕ) (s : ℕ) (words : List ℕ) (old e q : Sheet) (look : Look) (starts : List ℕ) (ways : List Way)
     (looks : IsLook agreed s words old e look) (done : BranchesDone agreed t leaves seen xs path s words look.count e q starts ways) where
@@ -249,18 +272,12 @@ module _ (agreed : LaidOut) (t : ℕ) (leaves : List ℕ) (seen : Seen) (xs : Li
       look_patchable agreed looks.sound.flat looks.sound.agrees t leaves seen xs path s words old e q look.holes starts ways look.count looks.has looks.finds looks.are_holes looks.one_way done
 
   -- the code with the holes of the look closed
-  module _ (whole : Sheet) (is : whole ≡ with_targets q look.holes starts) where
-    pub looked_open : AreOpen (length old.code) whole.code ways
-    looked_open =
-        subst (λ (b : Sheet). AreOpen (length old.code) b.code ways) (sym is)
-        (look_open agreed looks.sound.flat looks.sound.agrees t leaves seen xs path s words old e q look.holes starts ways look.count looks.has looks.finds looks.are_holes looks.one_way done looks.grows)
+  abbrev Looks : Sheet → Type 0
+  Looks b = AddsWays old b ways (IsPartIn xs path s words → ChoosesBy agreed t leaves seen xs path s old b ways)
 
-    pub looked_grows : Grows old.code whole.code
-    looked_grows =
-        subst (λ (b : Sheet). Grows old.code b.code) (sym is)
-        (look_grows agreed looks.sound.flat looks.sound.agrees t leaves seen xs path s words old e q look.holes starts ways look.count looks.has looks.finds looks.are_holes looks.one_way done looks.grows)
-
-    pub looked_chooses : IsPartIn xs path s words → ChoosesBy agreed t leaves seen xs path s old whole ways
-    looked_chooses part =
-        subst (λ (b : Sheet). ChoosesBy agreed t leaves seen xs path s old b ways) (sym is)
-        (look_chooses agreed looks.sound.flat looks.sound.agrees t leaves seen xs path s words old e q look.holes starts ways look.count looks.has looks.finds looks.are_holes looks.one_way done part)
+  pub looked_chooses : (closed : Sheet) → closed ≡ with_targets q look.holes starts → Looks closed
+  looked_chooses closed is = subst Looks (sym is) (record {
+    grows = look_grows agreed looks.sound.flat looks.sound.agrees t leaves seen xs path s words old e q look.holes starts ways look.count looks.has looks.finds looks.are_holes looks.one_way done looks.grows;
+    are_open = look_open agreed looks.sound.flat looks.sound.agrees t leaves seen xs path s words old e q look.holes starts ways look.count looks.has looks.finds looks.are_holes looks.one_way done looks.grows;
+    does = look_chooses agreed looks.sound.flat looks.sound.agrees t leaves seen xs path s words old e q look.holes starts ways look.count looks.has looks.finds looks.are_holes looks.one_way done;
+  })

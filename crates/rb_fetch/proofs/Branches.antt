@@ -32,7 +32,7 @@ use Rattle.rb_fetch.specs.declared.choice.Way.{Way}
 use Rattle.rb_fetch.specs.declared.heads.Place.{Place}
 use Rattle.rb_fetch.specs.declared.known.Learnt.{Learnt}
 use Rattle.rb_fetch.specs.declared.known.Seen.{Seen}
-use Rattle.rb_fetch.specs.inner.Choosing.{AreOpen, BranchIn, BranchesDone, BranchesStand, ChoosesBelow, ChoosesFrom, ChoosesUnder, FetchesFields, Follows, GivesFields, HasAll, HasCon, HasParts, HasRootCon, AreInnerWords, ChoiceIsReady, IsWayAt, IsWayOf, PartsGiven, PartsHold, TakesOneWay, left_of, root_con}
+use Rattle.rb_fetch.specs.inner.Choosing.{AddsWays, AreOpen, BranchIn, BranchesDone, BranchesStand, ChoosesBelow, ChoosesFrom, ChoosesUnder, FetchesFields, Follows, GivesFields, HasAll, HasCon, HasParts, HasRootCon, AreInnerWords, ChoiceIsReady, IsWayAt, IsWayOf, PartsGiven, PartsHold, TakesOneWay, left_of, root_con}
 use Rattle.rb_fetch.specs.Finding.{leaf_within}
 use Rattle.rb_fetch.specs.inner.Fields.{leaf_at}
 use Rattle.rb_fetch.specs.inner.Heads.{bare_paths, head_under, heads_in, is_among, leaves_beside, leaves_that_can_be, shown_head, shown_heads}
@@ -44,7 +44,7 @@ use Rattle.rb_fetch.proofs.Constructors.{shows}
 use Rattle.rb_fetch.proofs.Costs.{among-append, among-left, left_fewer, mend_less, path_same}
 use Rattle.rb_fetch.proofs.Shown.{has-append, has-under}
 use Rattle.rb_fetch.proofs.Staying.{IsShownAt, bare-of, own_stays, stays-from, stays-of, stays_so}
-use Rattle.rb_fetch.proofs.Ways.{given-append, given-more, given_at-more, hold-append, hold-kept, open-append, parts-append, way-split, way_within}
+use Rattle.rb_fetch.proofs.Ways.{given-append, given-more, given_at-more, hold-append, hold-kept, open-append, open-low, parts-append, way-split, way_within}
 
 -- Below one leaf ----------------------------------------------------------------------------------
 
@@ -212,12 +212,16 @@ module _ (agreed : LaidOut) (flat : agreed.layouts ≡ flat_layouts agreed.cover
 
 -- what the leaf of a part tells, its fields, and a choice among the leaves that are left
 module _ (agreed : LaidOut) (t : ℕ) (leaves : List ℕ) (seen : Seen) (xs : List Subvalue) (place : Place) (words : List ℕ) (l : ℕ) (after : Seen) (learnt : Learnt) (is : IsLearnt agreed t leaves place l seen after learnt) where
-  pub learnt_chooses : (a b c : Sheet) (ys : List Subvalue) (ways : List Way) → FetchesFields agreed place.path place.con.ty l words a b xs ys → ChoosesFrom agreed t learnt.kept after ys b c ways → AreOpen (length b.code) c.code ways
-      → ChoosesUnder agreed t leaves seen xs place.path place.con.ty words l a c ways
-  learnt_chooses a b c ys ways fetches chooses opened =
+  pub learnt_chooses : (a b c : Sheet) (ys : List Subvalue) (ways : List Way) → FetchesFields agreed place.path place.con.ty l words a b xs ys → Grows a.code b.code
+      → AddsWays b c ways (ChoosesFrom agreed t learnt.kept after ys b c ways) → AddsWays a c ways (ChoosesUnder agreed t leaves seen xs place.path place.con.ty words l a c ways)
+  learnt_chooses a b c ys ways fetches grows chosen =
       let kept = leaves_beside agreed.layouts t (shown_heads is.heads) (leaves_that_can_be agreed.layouts t place.path is.root leaves) in
-      chooses_under agreed is.sound.flat is.sound.agrees t leaves seen xs place.path words l (record { ty = place.con.ty; con = is.root }) is.is_root is.heads is.are_heads a b c ys ways fetches
-      (subst (λ (sn : Seen). ChoosesFrom agreed t kept sn ys b c ways) is.is_seen (subst (λ ns. ChoosesFrom agreed t ns after ys b c ways) is.are_kept chooses)) opened
+      record {
+        grows = Grows-trans a.code b.code c.code grows chosen.grows;
+        are_open = open-low (length b.code) (length a.code) c.code ways grows.longer chosen.are_open;
+        does = chooses_under agreed is.sound.flat is.sound.agrees t leaves seen xs place.path words l (record { ty = place.con.ty; con = is.root }) is.is_root is.heads is.are_heads a b c ys ways fetches
+            (subst (λ (sn : Seen). ChoosesFrom agreed t kept sn ys b c ways) is.is_seen (subst (λ ns. ChoosesFrom agreed t ns after ys b c ways) is.are_kept chosen.does)) chosen.are_open;
+      }
 
   -- and what was known before is known again
   pub learnt_forgotten : seen_before (length seen.looked) (length seen.known) after ≡ seen
@@ -266,8 +270,8 @@ module _ (agreed : LaidOut) (t : ℕ) (leaves : List ℕ) (seen : Seen) (xs : Li
     };
   }
 
-  module _ (i : ℕ) (e q d : Sheet) (starts : List ℕ) (ways own : List Way) (done : Done i e q starts ways) (grows : Grows q.code d.code) (opened : AreOpen (length q.code) d.code own)
-      (under : ChoosesUnder agreed t leaves seen xs path s words i q d own) where
+  module _ (i : ℕ) (e q d : Sheet) (starts : List ℕ) (ways own : List Way) (done : Done i e q starts ways)
+      (goes : AddsWays q d own (ChoosesUnder agreed t leaves seen xs path s words i q d own)) where
     abbrev starts1 : List ℕ
     starts1 = starts ++ length q.code ∷ []
 
@@ -291,12 +295,12 @@ module _ (agreed : LaidOut) (t : ℕ) (leaves : List ℕ) (seen : Seen) (xs : Li
             begins = index-append starts (length q.code) l few ∙ b.begins;
             behind = b.behind;
             low = b.low;
-            longer = Grows-trans b.last.code q.code d.code b.longer grows;
+            longer = Grows-trans b.last.code q.code d.code b.longer goes.grows;
             more = let m = b.more in omega (arith, m, le);
             among = λ j way h. let r = b.among j way h in (r.0, get-left ways own r.0 way r.1);
             alone = λ pc w lo hi. elim (way-split ways own pc w) [
               | inl x ↦ b.alone pc x lo hi
-              | inr x ↦ (let r = way_within (length q.code) d.code own pc opened x in let g = b.longer.longer in absurd (omega (arith, hi, g, r.0)))
+              | inr x ↦ (let r = way_within (length q.code) d.code own pc goes.are_open x in let g = b.longer.longer in absurd (omega (arith, hi, g, r.0)))
             ];
             does = b.does;
           }
@@ -316,14 +320,14 @@ module _ (agreed : LaidOut) (t : ℕ) (leaves : List ℕ) (seen : Seen) (xs : Li
           | inl x ↦ (let r = way_within (length e.code) q.code ways pc done.are_open x in absurd (omega (arith, lo, r.1)))
           | inr x ↦ x
         ];
-        does = under plan k layout inner (ready_more plan k layout le ready) (read_more plan inner le read);
+        does = goes.does plan k layout inner (ready_more plan k layout le ready) (read_more plan inner le read);
       }
 
       stands_more : BranchesStand agreed plan t k layout leaves seen xs path s inner words (i + 1) e d starts1 (ways ++ own)
       stands_more =
           let st = done.stand plan k layout inner ready read in
           let le = st.adds.more in
-          let b = under plan k layout inner (ready_more plan k layout le ready) (read_more plan inner le read) in
+          let b = goes.does plan k layout inner (ready_more plan k layout le ready) (read_more plan inner le read) in
           let up = b.adds.more in
           record {
             adds = Adds-trans plan e q d st.adds b.adds;
@@ -336,12 +340,12 @@ module _ (agreed : LaidOut) (t : ℕ) (leaves : List ℕ) (seen : Seen) (xs : Li
 
     pub branches_more : Done (i + 1) e d starts1 (ways ++ own)
     branches_more = record {
-      grows = Grows-trans e.code q.code d.code done.grows grows;
+      grows = Grows-trans e.code q.code d.code done.grows goes.grows;
       starts_from = AllFrom-append (length e.code) starts (length q.code) done.starts_from done.grows.longer;
       starts_below =
-          let g = grows.longer in
+          let g = goes.grows.longer in
           AllBelow-append (length d.code + 1) starts (length q.code) (AllBelow-more (length q.code + 1) (length d.code + 1) starts (omega (arith, g)) done.starts_below) (omega (arith, g));
       many = length-append starts (length q.code ∷ []) ∙ ap (λ n. n + 1) done.many;
-      are_open = open-append (length e.code) (length q.code) q.code d.code ways own grows done.grows.longer (omega arith) done.are_open opened;
+      are_open = open-append (length e.code) (length q.code) q.code d.code ways own goes.grows done.grows.longer (omega arith) done.are_open goes.are_open;
       stand = λ plan k layout inner ready read. stands_more plan k layout inner ready read;
     }

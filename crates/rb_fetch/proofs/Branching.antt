@@ -6,17 +6,20 @@ use Rattle.rb_bytes.specs.Memory.{Memory, IsGood}
 use Rattle.rb_target.specs.declared.instr.Instr.{Instr}
 use Rattle.rb_target.specs.declared.body.Hole.{Hole}
 use Rattle.rb_target.specs.Growth.{AgreesBut, Grows, Keeps, Nowhere}
+use Rattle.rb_target.specs.Laws.{Law}
+use Rattle.rb_target.specs.Meaning.{Callee, Next, World}
 use Rattle.rb_target.specs.Sheet.{Sheet}
 use Rattle.rb_target.specs.Targets.{IsHoleAmong}
 use Rattle.rb_target.proofs.Growing.{Keeps-trans}
 use Rattle.rb_fragment.specs.Adding.{Adds}
 use Rattle.rb_fragment.specs.Arms.{AreHoles, AreOfOneWay, with_targets}
-use Rattle.rb_fragment.specs.Pieces.{Branches, CodePiece}
+use Rattle.rb_fragment.specs.Pieces.{Branches, CodePiece, GoesOutBy, ReachesExit}
 use Rattle.rb_fragment.specs.Plan.{Plan}
 use Rattle.rb_fragment.specs.Slots.{AllBelow, AllFrom}
 use Rattle.rb_fragment.proofs.Adding.{Adds-trans}
 use Rattle.rb_fragment.proofs.Closing.{closed_is}
 use Rattle.rb_fragment.proofs.Matches.{holes_closable}
+use Rattle.rb_fragment.proofs.Pieces.{later-trans}
 use Rattle.rb_fragment.proofs.Patching.{adds_closed, all_holes_grow, all_holes_of, at_closed, closed_length, closed_slots, hole_from, hole_within, retarget_all, retarget_none}
 
 one_hole : (from count : ℕ) (code : List Instr) (h : Hole) (hs : List Hole) → IsHoleAmong h hs → AreHoles from count code hs → (from ≤ h.pc) × (h.pc < length code)
@@ -62,38 +65,64 @@ module _ (b e q : Sheet) (count : ℕ) (holes : List Hole) (starts : List ℕ) (
         (Open Own : ℕ → Type 0) (opens : (pc : ℕ) → Open pc → length e.code ≤ pc) (alone : (pc : ℕ) → Open pc → length first.code ≤ pc → pc < length last.code → Own pc)
         (j : ℕ) (P Mid1 : List ℕ → Memory → Type 0) (Exit : ℕ → List ℕ → Memory → Type 0) (arm : CodePiece plan n first last Own j Mid1 Exit)
         (enters : (s : List ℕ) (m : Memory) → P s m → IsGood m × Pre k s m) (goes : (s s' : List ℕ) (m : Memory) → P s m → Keeps n s s' → Mid k s' m → Mid1 s' m) where
+      -- a run that went out by a hole of the way
+      module _ (final : List Instr) (callee : Callee) (next : Next) (law : Law final callee next) (agrees : AgreesBut final whole.code (length b.code) (length whole.code) Open) (s : List ℕ) (w : World)
+          (long : whole.slots ≤ length s) (pre : P s w.memory) where
+        of_choice : AgreesBut final (with_targets e holes starts).code (length b.code) (length e.code) Nowhere
+        of_choice = record {
+          same = λ pc lo hi out.
+              let len = whole_length in
+              let on = longer.longer in
+              agrees.same pc lo (omega (arith, hi, len, on)) (λ o. let h = opens pc o in omega (arith, h, hi))
+              ∙ at_closed q holes starts pc ∙ ap (retarget_all pc holes starts) (longer.same pc hi) ∙ sym (at_closed e holes starts pc);
+        }
+
+        of_arm : AgreesBut final last.code (length first.code) (length last.code) Own
+        of_arm = record {
+          same = λ pc lo hi out.
+              let len = whole_length in
+              let grown = choice.adds.grows.longer in
+              agrees.same pc (omega (arith, lo, behind, grown)) (let l = more.longer in omega (arith, hi, len, l)) (λ o. out (alone pc o lo hi))
+              ∙ behind_same pc (omega (arith, lo, behind)) ∙ more.same pc hi;
+        }
+
+        module _ (r : GoesOutBy final next holes n most (length b.code) s w k (Mid k)) where
+          to_arm : r.target ≡ length first.code
+          to_arm =
+              let all = closed_is final holes starts e (length b.code) (length e.code) of_choice (all_holes_of (length b.code) count e.code holes holes_are) ways in
+              let in_code = one_hole (length b.code) count e.code r.hole holes r.is_hole holes_are in
+              let to = all.leads r.hole r.is_hole in_code.0 in_code.1 in
+              same_Some r.target (slice_index starts k) (sym r.is_target ∙ to ∙ ap (λ i. Some (slice_index starts i)) r.is_way) ∙ start
+
+          through : ReachesExit next (length first.code) n j Exit r.slots r.world → ReachesExit next (length b.code) n (most + j) Exit s w
+          through x = (
+            x.0,
+            x.1,
+            x.2,
+            r.runs ∙ (ap (λ pc. next pc r.slots r.world) to_arm ∙ x.3),
+            Keeps-trans n n s r.slots x.1 (omega arith) r.keeps x.4,
+            later-trans most j w r.world x.2 r.later x.5,
+            subst (λ m. Exit x.0 x.1 m) r.later.memory x.6,
+          )
+
+          by_arm : ReachesExit next (length b.code) n (most + j) Exit s w
+          by_arm =
+              let sl = closed_slots q holes starts in
+              let kl = r.keeps.long in
+              let mid = subst (λ m. Mid1 r.slots m) (sym r.later.memory) (goes s r.slots w.memory pre r.keeps r.exit) in
+              through (arm.runs final callee next law of_arm r.slots r.world (omega (arith, long, sl, slots, kl)) mid)
+
+        by_way : ReachesExit next (length b.code) n (most + j) Exit s w
+        by_way =
+            let all = closed_is final holes starts e (length b.code) (length e.code) of_choice (all_holes_of (length b.code) count e.code holes holes_are) ways in
+            let sl = closed_slots q holes starts in
+            let sm = adds.more in
+            let enter = enters s w.memory pre in
+            by_arm (choice.leaves final callee next law all.finishes s w k (omega (arith, long, sl, sm)) enter.0 enter.1)
+
       pub way_piece : CodePiece plan n b whole Open (most + j) P Exit
       way_piece = record {
         adds = whole_adds;
         low = choice.low;
-        runs = λ final callee next law agrees s w long pre.
-            let len = whole_length in
-            let grown = choice.adds.grows.longer in
-            let on = longer.longer in
-            let of_choice : AgreesBut final (with_targets e holes starts).code (length b.code) (length e.code) Nowhere = record {
-              same = λ pc lo hi out.
-                  agrees.same pc lo (omega (arith, hi, len, on)) (λ o. let h = opens pc o in omega (arith, h, hi))
-                  ∙ at_closed q holes starts pc ∙ ap (retarget_all pc holes starts) (longer.same pc hi) ∙ sym (at_closed e holes starts pc);
-            } in
-            let all = closed_is final holes starts e (length b.code) (length e.code) of_choice (all_holes_of (length b.code) count e.code holes holes_are) ways in
-            let enter = enters s w.memory pre in
-            let r = choice.leaves final callee next law all.finishes s w k (let sl = closed_slots q holes starts in let sm = adds.more in omega (arith, long, sl, sm)) enter.0 enter.1 in
-            let in_code = one_hole (length b.code) count e.code r.hole holes r.is_hole holes_are in
-            let to = all.leads r.hole r.is_hole in_code.0 in_code.1 in
-            let same : r.target ≡ length first.code = same_Some r.target (slice_index starts k) (sym r.is_target ∙ to ∙ ap (λ i. Some (slice_index starts i)) r.is_way) ∙ start in
-            let of_arm : AgreesBut final last.code (length first.code) (length last.code) Own = record {
-              same = λ pc lo hi out.
-                  agrees.same pc (omega (arith, lo, behind, grown)) (let l = more.longer in omega (arith, hi, len, l)) (λ o. out (alone pc o lo hi))
-                  ∙ behind_same pc (omega (arith, lo, behind)) ∙ more.same pc hi;
-            } in
-            let mid = subst (λ m. Mid1 r.slots m) (sym r.later.memory) (goes s r.slots w.memory pre r.keeps r.exit) in
-            let x = arm.runs final callee next law of_arm r.slots r.world (let sl = closed_slots q holes starts in let kl = r.keeps.long in omega (arith, long, sl, slots, kl)) mid in (
-              x.0,
-              x.1,
-              x.2,
-              r.runs ∙ ap (λ pc. next pc r.slots r.world) same ∙ x.3,
-              Keeps-trans n n s r.slots x.1 (omega arith) r.keeps x.4,
-              record { memory = x.5.memory ∙ r.later.memory; left = x.5.left ∙ r.later.left; switches = let a = r.later.switches in let c = x.5.switches in omega (arith, a, c) },
-              subst (λ m. Exit x.0 x.1 m) r.later.memory x.6,
-            );
+        runs = λ final callee next law agrees s w long pre. by_way final callee next law agrees s w long pre;
       }

@@ -45,7 +45,7 @@ use Rattle.rb_fetch.specs.inner.Choice.{ChoosesLeaf, TakesWay}
 use Rattle.rb_fetch.specs.declared.asking.Start.{Start}
 use Rattle.rb_fetch.specs.Finding.{IsPlanOf}
 use Rattle.rb_fetch.specs.inner.Asking.{IsStart}
-use Rattle.rb_fetch.specs.inner.Choosing.{AreLeavesOf, AreOpen, ChoosesFrom, ChoosesWays, Follows, HasAll, HasParts, ChoiceIsReady, IsWayAt, PartsGiven, PartsHold, TakesOneWay, holes_from, left_of, parts_from, root_con}
+use Rattle.rb_fetch.specs.inner.Choosing.{AreLeavesOf, AreOpen, ChoosesFrom, ChoosesWays, Follows, HasAll, HasParts, ChoiceIsReady, IsWayAt, PartsGiven, PartsHold, TakesOneWay, choices_from, holes_from, left_of, parts_from, root_con}
 use Rattle.rb_fetch.specs.inner.Heads.{bare_paths, leaves_beside, leaves_for, shown_heads}
 use Rattle.rb_fetch.proofs.Chosen.{begins, leaf_found, matched_leaf}
 use Rattle.rb_fetch.proofs.Costs.{left_most}
@@ -212,11 +212,12 @@ module _ (agreed : LaidOut) (typed : IsTyped agreed.covered.program) (flat : agr
           let can = own_stays agreed.layouts con.ty layout is_there heads v has f.number f.leaf f.is_leaf f.is_number in
           let j = stays-from agreed.layouts con.ty heads of_con i.0 f.number (i.1 ∙ ap Some (z_of f.number)) can in
           let tk = all.takes v is_of parts follows f.number j.0 f.is_leaf j.1 in
+          let same : f.number ≡ tk.way.leaf = sym {a = tk.way.leaf} {b = f.number} tk.is_leaf in
           record {
             number = tk.number;
             way = tk.way;
             is_way = tk.is_way;
-            is_leaf = f.is_leaf ∙ ap Some (sym tk.is_leaf);
+            is_leaf = ◌∙◌ {b = Some f.number} {c = Some tk.way.leaf} f.is_leaf (ap Some {x = f.number} {y = tk.way.leaf} same);
             leaves = λ clean leaf is. go tk clean leaf is;
           }
         where
@@ -270,7 +271,7 @@ module _ (agreed : LaidOut) (typed : IsTyped agreed.covered.program) (flat : agr
 
 -- the same for what the choice begins with
 pub start_chooses : (agreed : LaidOut) (con : ConRef) (hs : List Held) (shown : List Pat) (start : Start) → IsStart agreed con hs shown start → (old new : Sheet) (ways : List Way)
-    → ChoosesFrom agreed con.ty start.leaves start.seen start.parts old new ways → AreOpen (length old.code) new.code ways → ChoosesLeaf agreed con hs shown old new (record { holes = holes_from 0 ways; ways = ways })
+    → ChoosesFrom agreed con.ty start.leaves start.seen start.parts old new ways → AreOpen (length old.code) new.code ways → ChoosesLeaf agreed con hs shown old new (choices_from ways)
 start_chooses agreed con hs shown start is old new ways chooses opened =
     let leaves = leaves_beside agreed.layouts con.ty (heads_below (map heads_of shown) 0) (leaves_for con.con (leaves_of_layout (layout_of agreed.layouts con.ty)) 0) in
     let first = subst (λ ns. ChoosesFrom agreed con.ty ns start.seen start.parts old new ways) is.are_leaves chooses in

@@ -307,11 +307,11 @@ module _ (agreed : LaidOut) (t : ℕ) (leaves : List ℕ) (some : 1 ≤ length l
       first_ends agreed none.has.sound.typed none.has.sound.flat none.has.sound.agrees t leaves some seen xs old new none.places none.has.leaf none.has.is_leaf none.has.are_places
       end.0 [] ways none.looked end.2 refl end.1
 
-  pub some_asked : (question : Question) → AsksFor agreed t (get_or leaves 0 0) seen xs question
-      → ((n : ℕ) → AsksFor agreed t n seen xs question → ChoosesBy agreed t leaves seen xs question.place.path question.place.con.ty old new ways) → ChoosesFrom agreed t leaves seen xs old new ways
+  pub some_asked : (question : Question) → AsksFor agreed t (get_or leaves 0 0) seen xs question → ChoosesBy agreed t leaves seen xs question.place.path question.place.con.ty old new ways
+      → ChoosesFrom agreed t leaves seen xs old new ways
   some_asked question asks by =
       first_looks agreed asks.has.sound.typed asks.has.sound.flat asks.has.sound.agrees t leaves some seen xs old new asks.places asks.has.leaf asks.has.is_leaf asks.has.are_places
-      ways question.place asks.next (by (get_or leaves 0 0) asks)
+      ways question.place asks.next by
 
 pub end_open : (agreed : LaidOut) (t n : ℕ) (xs : List Subvalue) (old new : Sheet) (way : Way) → IsEndOf agreed t n xs old new way → AreOpen (length old.code) new.code (way ∷ []) × Grows old.code new.code
 end_open agreed t n xs old new way end =

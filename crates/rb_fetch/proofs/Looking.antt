@@ -1,5 +1,5 @@
 -- What the code of a tree of splits does.
-use Rattle.std.proofs.Common.{◌≡◌, ◌≢◌, ℕ, zero, suc, ◌+◌, ◌<◌, ◌≤◌, ◌⊎◌, inl, inr, List, [], ◌∷◌, ◌++◌, length, Option, Some, None, refl, sym, subst, ap, ◌∙◌, arith, length-append}
+use Rattle.std.proofs.Common.{◌≡◌, ◌≢◌, ℕ, zero, suc, ◌+◌, ◌<◌, ◌≤◌, ◌⊎◌, inl, inr, List, [], ◌∷◌, ◌++◌, length, map, Option, Some, None, refl, sym, subst, ap, ◌∙◌, arith, length-append}
 use Rattle.std.specs.Prelude.{slice_get, slice_index, All, IfSome, is_some}
 use Rattle.std.specs.Bool.{then_some}
 use Rattle.std.proofs.lemmas.List.Elements.{All-nil, All-cons}
@@ -13,7 +13,7 @@ use Rattle.rb_target.specs.declared.body.Hole.{Hole}
 use Rattle.rb_target.specs.Growth.{AgreesBut, Nowhere, Grows, Keeps}
 use Rattle.rb_target.specs.Meaning.{Next, taken, with_switch, target_of, after_switch}
 use Rattle.rb_target.specs.Sheet.{Sheet, with_more, IsHoleIn, IsHole, with_target_at}
-use Rattle.rb_target.specs.Targets.{without_targets, without_targets_in, target_at, target_in, IsHoleAmong, IsOpenTarget}
+use Rattle.rb_target.specs.Targets.{without_target, without_targets, without_targets_in, target_at, target_in, IsHoleAmong, IsOpenTarget}
 use Rattle.rb_target.specs.Validity.{IsTarget}
 use Rattle.rb_target.proofs.Finishing.{agrees-sub}
 use Rattle.rb_target.proofs.Growing.{Keeps-refl, Keeps-trans, get-append, get-seam}
@@ -331,6 +331,13 @@ module _ (words : List Read) (widths : List ℕ) (loc : Loc) (arms : List FlatAr
   numbers-open t [] = refl
   numbers-open t (a ∷ ys) = ap (λ l. a.literal ∷ l) (numbers-open t ys)
 
+  -- where the switch of this code goes for the number of an arm
+  switch_goes : (final : List Instr) (a : ℕ) (e : Option ℕ) (list : List SwitchArm) (x value to : ℕ) → x ≡ value → map without_target list ≡ map without_target (open_arms_of (pc + 1) arms) → slice_get final pc ≡ Some (Switch a e list)
+      → target_in (slice_get final pc) (pick (literals arms) value) ≡ Some to → target_of list e x ≡ Some to
+  switch_goes final a e list x value to is same at leads =
+      ap (target_of list e) is ∙ target_shaped a e (open_arms_of (pc + 1) arms) list value same ∙ ap (λ cs. target_at (Switch a e list) (pick cs value)) (numbers-open (pc + 1) arms)
+      ∙ sym (ap (λ o. target_in o (pick (literals arms) value)) at) ∙ leads
+
   -- all is done
   pub split_looks : (old : Sheet) → FetchesAt words widths loc old c slot → Grows old.code c.code → (D : Option ℕ → Type 0) (b : Sheet) (hs : List Hole) → Done D b hs
       → ((x : Option ℕ) (t : FlatTree) → under_at arms other x ≡ Some t → D x) → Looks words widths Tree old hs0 b hs
@@ -363,11 +370,11 @@ module _ (words : List Read) (widths : List ℕ) (loc : Loc) (arms : List FlatAr
             let arm = pick (literals arms) wk.value in
             let ld = d.runs plan final callee next n0 top law all (omega (arith, le, more)) st.given le' fits below1 shaped (λ z dz no. a.targets z no) (λ q lo hi. fin q (omega (arith, lo, low)) hi) arm wk.tree (covers arm wk.tree wk.is_tree) wk.is_tree in
             let goes : target_of sw.list sw.other (slice_index s1 slot) ≡ Some ld.0 =
-            ap (target_of sw.list sw.other) r.6.1 ∙ target_shaped slot sw.other (open_arms_of (pc + 1) arms) sw.list wk.value sw.same
-            ∙ ap (λ cs. target_at (Switch slot sw.other sw.list) (pick cs wk.value)) (numbers-open (pc + 1) arms)
-            ∙ sym (ap (λ o. target_in o arm) sw.is) ∙ ld.1 in
+            switch_goes final slot sw.other sw.list (slice_index s1 slot) wk.value ld.0 r.6.1 sw.same sw.is ld.1 in
+            let came : next (length old.code) s w ≡ next pc s1 r.2 = ◌∙◌ {a = next (length old.code) s w} {b = next r.0 s1 r.2} {c = next pc s1 r.2} r.3 (ap (λ q. next q s1 r.2) r.6.0) in
             let ran : next pc s1 r.2 ≡ next ld.0 s1 w1 =
-            law.step pc (Switch slot sw.other sw.list) s1 r.2 sw.is ∙ ap (λ o. after_switch o (slice_index s1 slot) w1 (λ t. next t s1 w1)) goes in
+            ◌∙◌ {a = next pc s1 r.2} {b = after_switch (target_of sw.list sw.other (slice_index s1 slot)) (slice_index s1 slot) w1 (λ t. next t s1 w1)} {c = next ld.0 s1 w1}
+            (law.step pc (Switch slot sw.other sw.list) s1 r.2 sw.is) (ap (λ o. after_switch o (slice_index s1 slot) w1 (λ t. next t s1 w1)) goes) in
             let kept : Keeps n0 s s1 = record { long = r.4.long; same = λ i lt. r.4.same i (omega (arith, lt, le)) } in
             let meant1 : AreMeant words s1 r.2.memory ws = subst (λ m. AreMeant words s1 m ws) (sym r.5.memory) (meant-kept n0 s s1 w.memory kept words ws all meant) in
             let out = ld.2 s1 w1 n ws (omega (arith, long, r.4.long)) (subst IsGood (sym r.5.memory) good) meant1 small (ap (λ m. walk wk.tree ws m) r.5.memory ∙ wk.walks) in
@@ -380,9 +387,9 @@ module _ (words : List Read) (widths : List ℕ) (loc : Loc) (arms : List FlatAr
               is_target = out.is_target;
               slots = out.slots;
               world = out.world;
-              runs = r.3 ∙ ap (λ q. next q s1 r.2) r.6.0 ∙ ran ∙ out.runs;
+              runs = ◌∙◌ {a = next (length old.code) s w} {b = next ld.0 s1 w1} {c = next out.target out.slots out.world} (◌∙◌ {a = next (length old.code) s w} {b = next pc s1 r.2} {c = next ld.0 s1 w1} came ran) out.runs;
               keeps = Keeps-trans n0 n0 s s1 out.slots (omega arith) (record { long = r.4.long; same = λ k lt. r.4.same k (omega (arith, lt, le)) }) out.keeps;
-              later = record { memory = out.later.memory ∙ r.5.memory; left = out.later.left ∙ r.5.left; switches = omega (arith, out.later.switches, r.5.switches, deep) };
+              later = record { memory = ◌∙◌ {a = out.world.memory} {b = r.2.memory} {c = w.memory} out.later.memory r.5.memory; left = ◌∙◌ {a = out.world.left} {b = r.2.left} {c = w.left} out.later.left r.5.left; switches = omega (arith, out.later.switches, r.5.switches, deep) };
               exit = tt;
             };
       }

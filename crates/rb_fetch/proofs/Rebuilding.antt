@@ -1,10 +1,11 @@
 -- What a leaf has taken apart is rebuilt: parts are fetched, and values constructed of them without a block.
-use Rattle.std.proofs.Common.{◌≡◌, ℕ, zero, suc, ◌+◌, ◌<◌, ◌≤◌, inl, inr, map, take, length, List, [], ◌∷◌, ◌++◌, Bool, Option, Some, None, refl, sym, subst, ap, ◌∙◌, arith, length-append}
+use Rattle.std.proofs.Common.{◌≡◌, ℕ, zero, suc, ◌+◌, ◌<◌, ◌≤◌, inl, inr, map, take, length, List, [], ◌∷◌, ◌++◌, Bool, Option, Some, None, Result, IfOk, refl, sym, subst, ap, ◌∙◌, arith, length-append}
 use Rattle.std.specs.Prelude.{slice_get, unwrap_or}
 use Rattle.std.specs.List.{flat_map, sum_by}
 use Rattle.std.proofs.lemmas.List.{map-append}
 use Rattle.std.proofs.lemmas.List.Sums.{sum_by-cons}
 use Rattle.std.proofs.lemmas.Option.{same_Some}
+use Rattle.std.proofs.lemmas.Result.{IfOk-weaker}
 use Rattle.rb_core.specs.declared.value.Value.{Value}
 use Rattle.rb_core.specs.declared.value.Value as Values
 use Rattle.rb_core.specs.declared.types.Ty.{Ty}
@@ -352,6 +353,12 @@ module _ (agreed : LaidOut) (typed : IsTyped agreed.covered.program) (flat : agr
             ended_weaken plan old.slots old.slots old new 0 (mend_under plan.layouts f.pat) Pre Pre Post Post (omega arith) (omega arith) (λ s m x. x) (λ s m x. x)
             (a.runs clean v part (ap (λ (l : Layout). leaf_of l v) x.1 ∙ is_leaf) is_part);
       }
+
+  -- the same for the code of a last call
+  pub wild_fetched : {E : Type 0} (r : Result (List ℕ) E) (pat : Pat) (path words : List ℕ) (old new : Sheet) → ((ty : Ty) → open_type (out-Pat pat) ty ≡ Some ty) → IfOk r (FetchesOpen agreed t n path words old new)
+      → IfOk r (FetchesPart agreed t n pat path words old new)
+  wild_fetched r pat path words old new is_open =
+      IfOk-weaker r (FetchesOpen agreed t n path words old new) (FetchesPart agreed t n pat path words old new) (λ slots fetches. part_open pat path words old new slots is_open fetches)
 
   take_all : {A : Type 0} (xs : List A) (k : ℕ) → k ≡ length xs → take k xs ≡ xs
   take_all [] zero e = refl

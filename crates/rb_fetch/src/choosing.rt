@@ -9,18 +9,16 @@
 //! take one off `depth`. `agreed` has the program and its layouts, and `seen` is what is known of
 //! the value.
 
-ghost use Rattle.std.specs.Prelude.{◌≡◌, ℕ, ◌++◌, ◌∷◌, [], IfOk, OnOk, length, take};
+ghost use Rattle.std.specs.Prelude.{◌≡◌, ◌++◌, ◌∷◌, [], IfOk, OnOk, length, take};
 ghost use Rattle.rb_target.specs.Growth.{Grows};
-ghost use Rattle.rb_fragment.specs.Arms.{AreHoles, AreOfOneWay, ArePatchable, with_targets};
+ghost use Rattle.rb_fragment.specs.Arms.{ArePatchable, with_targets};
 ghost use Rattle.rb_fetch.specs.Constructing.{Constructs};
-ghost use Rattle.rb_fetch.specs.inner.Choice.{ChoosesLeaf};
 ghost use Rattle.rb_fetch.specs.inner.Rebuilding.{FetchesPart, FetchesParts};
-ghost use Rattle.rb_fetch.specs.inner.Choosing.{AreEndOf, AreOpen, BranchesDone, ChoosesBy, ChoosesFrom, ChoosesUnder, FetchesFields, IsEndOf, IsPartIn, holes_from};
-ghost use Rattle.rb_fetch.specs.inner.Asking.{AsksFor};
+ghost use Rattle.rb_fetch.specs.inner.Choosing.{AddsWays, AreEndOf, ChoosesBy, ChoosesFrom, ChoosesUnder, FetchesFields, IsEndOf, IsPartIn};
 ghost use Rattle.rb_fetch.specs.inner.Seen.{seen_before};
 
-use crate::asking::{Look, Question, find_leaves, next_question, start_of};
-use crate::choice::{Choices, Way};
+use crate::asking::{Look, find_leaves, next_question, start_of};
+use crate::choice::Way;
 use crate::construct::{alone_in, emit_alone, emit_choices};
 use crate::heads::{Place, leaf_at};
 use crate::known::{Seen, forget, learn};
@@ -151,29 +149,6 @@ fn end_ways(
     Ok(ways)
 }
 
-// The open jumps of ways, each with the number of its way, from 0 on, in place of a leaf.
-fn holes_of(alloc: Global, ways: &[Way]) -> Result<Seq<Hole>, AllocError>
-    ensures { IfOk result (λ holes. holes ≡ holes_from 0 ways.now) }
-{
-    let mut holes = Seq::new(alloc);
-    for (k, way) in ways.iter().enumerate() {
-        holes.push(Hole {
-            pc: way.pc,
-            arm: None,
-            leaf: k,
-        })?;
-    }
-    Ok(holes)
-}
-
-// The choice that these ways are: their open jumps are its holes.
-fn choices_of(alloc: Global, ways: Seq<Way>) -> Result<Choices, AllocError>
-    ensures { IfOk result (λ choices. choices ≡ record { holes = holes_from 0 ways; ways = ways }) }
-{
-    let holes = holes_of(alloc, ways.as_slice())?;
-    Ok(Choices { holes, ways })
-}
-
 // Adds the code of one more leaf of a part, which begins at instruction `start` and has these ways.
 // Want of memory may leave it added in part.
 fn add_leaf(code: &mut LeafCode, start: usize, ways: Seq<Way>) -> Result<(), AllocError>
@@ -197,49 +172,11 @@ fn close_look(body: &mut Body, holes: Seq<Hole>, code: LeafCode) -> Seq<Way>
     ways
 }
 
-// Code that looks into the arguments `args`, which are in slots and match the patterns `shown`,
-// until the leaf of the construction by `con` is known, and leaves by the hole of a way to that
-// leaf. Want of memory is the answer also where calls would be nested deeper than `depth`.
-#[cycle(fetching)]
-fn choose_leaf_at(
-    alloc: Global,
-    body: &mut Body,
-    agreed: &Agreed,
-    depth: usize,
-    con: ConRef,
-    args: &[Held],
-    shown: &[Pat],
-) -> Result<Choices, AllocError>
-    ensures chooses { IfOk result
-        (λ choices. ChoosesLeaf agreed.now con args.now shown.now body.old body.new choices) }
-    ensures holes { IfOk result (λ choices. AreHoles (length body.old.code)
-        (length choices.ways) body.new.code choices.holes) }
-    ensures ways { IfOk result (λ choices. AreOfOneWay choices.holes) }
-    ensures grows { OnOk result (Grows body.old.code body.new.code) }
-{
-    let mut start = start_of(alloc, agreed, con, args, shown)?;
-    let leaves = start.leaves.as_slice();
-    let whole = Whole {
-        agreed,
-        ty: con.ty,
-        leaves,
-    };
-    let ways = choose(
-        alloc,
-        body,
-        depth,
-        &whole,
-        &mut start.parts,
-        &mut start.seen,
-    )?;
-    let choices = choices_of(alloc, ways)?;
-    Ok(choices)
-}
-
 // Code that looks into a construction whose leaf is one of those of `whole`, until it is known.
 // `parts` are in slots, and `seen` is known of the value: both are lent for more, and on `Ok` are
-// what they were. Where there are no leaves, nothing is added, and there is no way. Want of memory
-// at a `depth` of 0.
+// what they were. What is known may tell the leaf of the part that is asked for next; else the code
+// looks there. Where there are no leaves, nothing is added, and there is no way. Want of memory at a
+// `depth` of 0.
 #[cycle(fetching)]
 fn choose(
     alloc: Global,
@@ -249,10 +186,9 @@ fn choose(
     parts: &mut Seq<Subvalue>,
     seen: &mut Seen,
 ) -> Result<Seq<Way>, AllocError>
-    ensures chooses { IfOk result (λ ways. ChoosesFrom whole.now.agreed.now whole.now.ty whole.now.leaves.now
-        seen.old parts.old body.old body.new ways) }
-    ensures ways { IfOk result (λ ways. AreOpen (length body.old.code) body.new.code ways) }
-    ensures grows { OnOk result (Grows body.old.code body.new.code) }
+    ensures chooses { IfOk result (λ ways. AddsWays body.old body.new ways
+        (ChoosesFrom whole.now.agreed.now whole.now.ty whole.now.leaves.now
+        seen.old parts.old body.old body.new ways)) }
     ensures parts { OnOk result (parts.new ≡ parts.old) }
     ensures seen { OnOk result (seen.new ≡ seen.old) }
 {
@@ -263,56 +199,20 @@ fn choose(
     let [leaf, ..] = whole.leaves else {
         return Ok(Seq::new(alloc));
     };
-    match next_question(alloc, agreed, ty, *leaf, parts.as_slice(), seen)? {
-        None => {
-            let ways = end_ways(alloc, body, agreed, ty, *leaf, parts.as_slice())?;
-            Ok(ways)
-        }
-        Some(question) => {
-            let ways = choose_at(alloc, body, depth - 1, whole, parts, seen, &question)?;
-            Ok(ways)
-        }
-    }
-}
-
-// Code that chooses among the leaves of `whole`, as `choose` does, where this question is next: the
-// leaf of a part. What is known of the value may tell it; else the code looks there.
-#[cycle(fetching)]
-fn choose_at(
-    alloc: Global,
-    body: &mut Body,
-    depth: usize,
-    whole: &Whole,
-    parts: &mut Seq<Subvalue>,
-    seen: &mut Seen,
-    question: &Question,
-) -> Result<Seq<Way>, AllocError>
-    ensures chooses { IfOk result (λ ways. (n : ℕ)
-        → AsksFor whole.now.agreed.now whole.now.ty n seen.old parts.old question.now
-        → ChoosesBy whole.now.agreed.now whole.now.ty whole.now.leaves.now seen.old parts.old
-        question.now.place.path question.now.place.con.ty body.old body.new ways) }
-    ensures ways { IfOk result (λ ways. AreOpen (length body.old.code) body.new.code ways) }
-    ensures grows { OnOk result (Grows body.old.code body.new.code) }
-    ensures parts { OnOk result (parts.new ≡ parts.old) }
-    ensures seen { OnOk result (seen.new ≡ seen.old) }
-{
+    let Some(question) = next_question(alloc, agreed, ty, *leaf, parts.as_slice(), seen)? else {
+        return end_ways(alloc, body, agreed, ty, *leaf, parts.as_slice());
+    };
     let place = &question.place;
     let words = question.words.as_slice();
     let part = Part { place, words };
     match question.told {
-        Some(inner) => {
-            let ways = choose_under(alloc, body, depth, whole, parts, seen, &part, inner)?;
-            Ok(ways)
-        }
-        None => {
-            let ways = look(alloc, body, depth, whole, parts, seen, &part)?;
-            Ok(ways)
-        }
+        Some(inner) => choose_under(alloc, body, depth - 1, whole, parts, seen, &part, inner),
+        None => look(alloc, body, depth - 1, whole, parts, seen, &part),
     }
 }
 
 // Code that chooses among the leaves of `whole`, as `choose` does, by a look at `part`, one of
-// `parts`: behind the look, each leaf of the part has its own code.
+// `parts`: behind the look, the leaves of the part have their code, one behind the other.
 #[cycle(fetching)]
 fn look(
     alloc: Global,
@@ -323,41 +223,15 @@ fn look(
     seen: &mut Seen,
     part: &Part,
 ) -> Result<Seq<Way>, AllocError>
-    ensures chooses { IfOk result (λ ways.
-        IsPartIn parts.old part.now.place.now.path part.now.place.now.con.ty part.now.words.now
+    ensures chooses { IfOk result (λ ways. AddsWays body.old body.new ways
+        (IsPartIn parts.old part.now.place.now.path part.now.place.now.con.ty part.now.words.now
         → ChoosesBy whole.now.agreed.now whole.now.ty whole.now.leaves.now seen.old parts.old
-        part.now.place.now.path part.now.place.now.con.ty body.old body.new ways) }
-    ensures ways { IfOk result (λ ways. AreOpen (length body.old.code) body.new.code ways) }
-    ensures grows { OnOk result (Grows body.old.code body.new.code) }
+        part.now.place.now.path part.now.place.now.con.ty body.old body.new ways)) }
     ensures parts { OnOk result (parts.new ≡ parts.old) }
     ensures seen { OnOk result (seen.new ≡ seen.old) }
 {
     let own = part.place.con.ty;
     let Look { count, holes } = find_leaves(alloc, body, whole.agreed, own, part.words)?;
-    let code = choose_each(alloc, body, depth, whole, parts, seen, part, count)?;
-    let ways = close_look(body, holes, code);
-    Ok(ways)
-}
-
-// The code behind a look at `part` for each of the first `count` leaves of its type, in their
-// order, one behind the other. `whole`, `parts` and `seen` are as `choose` has them.
-#[cycle(fetching)]
-fn choose_each(
-    alloc: Global,
-    body: &mut Body,
-    depth: usize,
-    whole: &Whole,
-    parts: &mut Seq<Subvalue>,
-    seen: &mut Seen,
-    part: &Part,
-    count: usize,
-) -> Result<LeafCode, AllocError>
-    ensures done { IfOk result (λ b. BranchesDone whole.now.agreed.now whole.now.ty whole.now.leaves.now
-        seen.old parts.old part.now.place.now.path part.now.place.now.con.ty part.now.words.now
-        count body.old body.new b.starts b.ways) }
-    ensures parts { OnOk result (parts.new ≡ parts.old) }
-    ensures seen { OnOk result (seen.new ≡ seen.old) }
-{
     let starts = Seq::new(alloc);
     let ways = Seq::new(alloc);
     let mut code = LeafCode { starts, ways };
@@ -366,7 +240,8 @@ fn choose_each(
         let ways = choose_under(alloc, body, depth, whole, parts, seen, part, inner)?;
         add_leaf(&mut code, start, ways)?;
     }
-    Ok(code)
+    let ways = close_look(body, holes, code);
+    Ok(ways)
 }
 
 // The code that goes on where `part` has leaf number `inner` of its type: it chooses among those
@@ -383,11 +258,10 @@ fn choose_under(
     part: &Part,
     inner: usize,
 ) -> Result<Seq<Way>, AllocError>
-    ensures chooses { IfOk result (λ ways. ChoosesUnder whole.now.agreed.now whole.now.ty whole.now.leaves.now
+    ensures chooses { IfOk result (λ ways. AddsWays body.old body.new ways
+        (ChoosesUnder whole.now.agreed.now whole.now.ty whole.now.leaves.now
         seen.old parts.old part.now.place.now.path part.now.place.now.con.ty part.now.words.now
-        inner body.old body.new ways) }
-    ensures ways { IfOk result (λ ways. AreOpen (length body.old.code) body.new.code ways) }
-    ensures grows { OnOk result (Grows body.old.code body.new.code) }
+        inner body.old body.new ways)) }
     ensures parts { OnOk result (parts.new ≡ parts.old) }
     ensures seen { OnOk result (seen.new ≡ seen.old) }
 {
@@ -469,8 +343,7 @@ pub(crate) fn fetch_part(
         Pat::Var(_, _) | Pat::Num(_, _) => Err(AllocError),
         Pat::Wild(_) => {
             let (words, ty, leaf) = (source.words, source.ty, source.leaf);
-            let slots = fetch_open(alloc, body, words, agreed, ty, leaf, path.as_slice())?;
-            Ok(slots)
+            fetch_open(alloc, body, words, agreed, ty, leaf, path.as_slice())
         }
         Pat::Con(_, con, subs) => {
             let subs = subs.as_slice();
@@ -512,6 +385,7 @@ fn fetch_parts(
 
 /// What `construct` appends, where `depth` calls may be nested still: code that makes the value of
 /// the constructor `con`, of the values `args`, which are in slots and match the patterns `shown`.
+/// It looks into the arguments until the leaf of the value is known.
 ///
 /// # Errors
 ///
@@ -531,15 +405,23 @@ pub(crate) fn construct_at(
         (λ held. Constructs agreed.now con args.now shown.now body.old body.new held) }
     ensures grows { OnOk result (Grows body.old.code body.new.code) }
 {
-    match alone_in(alloc, agreed, con)? {
-        Some(leaf) => {
-            let held = emit_alone(alloc, body, leaf, con, args)?;
-            Ok(held)
-        }
-        None => {
-            let choices = choose_leaf_at(alloc, body, agreed, depth, con, args, shown)?;
-            let held = emit_choices(alloc, body, agreed, con, choices)?;
-            Ok(held)
-        }
+    if let Some(leaf) = alone_in(alloc, agreed, con)? {
+        return emit_alone(alloc, body, leaf, con, args);
     }
+    let mut start = start_of(alloc, agreed, con, args, shown)?;
+    let leaves = start.leaves.as_slice();
+    let whole = Whole {
+        agreed,
+        ty: con.ty,
+        leaves,
+    };
+    let ways = choose(
+        alloc,
+        body,
+        depth,
+        &whole,
+        &mut start.parts,
+        &mut start.seen,
+    )?;
+    emit_choices(alloc, body, agreed, con, ways)
 }

@@ -12,10 +12,10 @@ ghost use Rattle.rb_target.specs.Growth.{Grows};
 ghost use Rattle.rb_fragment.specs.Arms.{AreHoles, ArmsAre, IsJoin};
 ghost use Rattle.rb_compose.specs.Making.{MakesLeaf};
 ghost use Rattle.rb_fetch.specs.Constructing.{Constructs};
-ghost use Rattle.rb_fetch.specs.inner.Choosing.{parts_from};
+ghost use Rattle.rb_fetch.specs.inner.Choosing.{AreOpen, parts_from};
 ghost use Rattle.rb_fetch.specs.inner.Constructing.{AreMet, EmitsArm, EmitsArms, IsAlone, IsAloneIn, IsMet, WaysMeet, meeting_slots, with_moves};
 
-use crate::choice::{Choices, Way};
+use crate::choice::{Choices, Way, choices_of};
 use crate::choosing::construct_at;
 use crate::heads::heads;
 use crate::parts::{is_leaf_for, parts_of};
@@ -170,22 +170,23 @@ pub(crate) fn emit_ways(
     })
 }
 
-/// What `emit_ways` appends, for the leaves of the layout of the constructor's type. Want of memory
-/// is the answer where there are no ways, or no layout.
+/// What `emit_ways` appends, for the choice that these ways are and the leaves of the layout of the
+/// constructor's type. Want of memory is the answer where there are no ways, or no layout.
 pub(crate) fn emit_choices(
     alloc: Global,
     body: &mut Body,
     agreed: &Agreed,
     con: ConRef,
-    choices: Choices,
+    ways: Seq<Way>,
 ) -> Result<Held, AllocError>
-    requires holes { (from : ℕ) × AreHoles from (length choices.ways) body.old.code choices.holes }
-    ensures { IfOk result (λ held. AreMet agreed.now con.ty choices body.old body.new held) }
+    requires open { (from : ℕ) × AreOpen from body.old.code ways }
+    ensures { IfOk result (λ held. AreMet agreed.now con.ty ways body.old body.new held) }
 {
     let _typed = agreed.covered().program();
     let Some(layout) = agreed.layouts().get(con.ty as usize) else {
         return Err(AllocError);
     };
+    let choices = choices_of(alloc, ways)?;
     let held = emit_ways(alloc, body, layout.leaves.as_slice(), con, choices)?;
     Ok(held)
 }

@@ -34,6 +34,7 @@ use Rattle.rb_fragment.specs.Plan.{Plan, Rep, words_needed}
 use Rattle.rb_fragment.specs.Slots.{AllBelow, AllFrom}
 use Rattle.rb_compose.specs.declared.subvalue.Subvalue.{Subvalue}
 use Rattle.rb_compose.specs.Subvalues.{AreGivenAt, subvalue_at}
+use Rattle.rb_fetch.specs.declared.choice.Choices.{Choices}
 use Rattle.rb_fetch.specs.declared.choice.Way.{Way}
 use Rattle.rb_fetch.specs.Finding.{IsPlanOf}
 use Rattle.rb_fetch.specs.inner.Fields.{leaf_at}
@@ -170,6 +171,16 @@ AreOpen from code (way ∷ ways) =
 abbrev pub holes_from : ℕ → List Way → List Hole
 holes_from k [] = []
 holes_from k (way ∷ ways) = record { pc = way.pc; arm = None; leaf = k } ∷ holes_from (k + 1) ways
+
+-- the choice that these ways are: its holes are their jumps
+abbrev pub choices_from : List Way → Choices
+choices_from ways = record { holes = holes_from 0 ways; ways = ways }
+
+-- the code new is old with more behind, in which the jumps of the ways stand, in order; it does what Does says
+pub record AddsWays (old new : Sheet) (ways : List Way) (Does : Type 0) : Type 0 where
+  pub grows : Grows old.code new.code
+  pub are_open : AreOpen (length old.code) new.code ways
+  pub does : Does
 
 -- the end of a way to leaf n of type t: the code from old to new is its open jump, and its parts are xs, of which one
 -- is at each open position of the leaf

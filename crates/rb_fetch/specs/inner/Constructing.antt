@@ -34,6 +34,7 @@ use Rattle.rb_fetch.specs.declared.choice.Choices.{Choices}
 use Rattle.rb_fetch.specs.declared.choice.Way.{Way}
 use Rattle.rb_fetch.specs.declared.construct.Met.{Met}
 use Rattle.rb_fetch.specs.inner.Choice.{IsWay}
+use Rattle.rb_fetch.specs.inner.Choosing.{choices_from}
 use Rattle.rb_fetch.specs.inner.Sound.{IsSound}
 
 -- One leaf -------------------------------------------------------------------------------------
@@ -167,9 +168,9 @@ pub record WaysMeet (t : ℕ) (leaves : List Leaf) (choices : Choices) (e new : 
   pub emits : EmitsArms t leaves choices.ways (length choices.ways) e last (Some held.slots) joins starts
   pub code : new ≡ whole_match last choices.holes starts joins
 
--- the same for the leaves of the layout of type t
-pub record AreMet (agreed : LaidOut) (t : ℕ) (choices : Choices) (e new : Sheet) (held : Held) : Type 0 where
+-- the same for the choice that the ways are and the leaves of the layout of type t
+pub record AreMet (agreed : LaidOut) (t : ℕ) (ways : List Way) (e new : Sheet) (held : Held) : Type 0 where
   pub sound : IsSound agreed
   pub layout : Layout
   pub is_layout : layout_of agreed.layouts t ≡ Some layout
-  pub meets : WaysMeet t layout.leaves choices e new held
+  pub meets : WaysMeet t layout.leaves (choices_from ways) e new held

@@ -6,54 +6,42 @@ use Rattle.rb_fetch.specs.declared.choosing.Amounts.{Amounts}
 use Rattle.rb_fetch.specs.declared.known.Seen.{Seen}
 use Rattle.rb_fetch.specs.inner.Choosing.{parts_under}
 use Rattle.rb_fetch.specs.inner.Seen.{seen_before}
-use Rattle.rb_fetch.proofs.Behind.{looked_chooses, looked_grows, looked_open, looked_patchable, told_asked}
+use Rattle.rb_fetch.proofs.Behind.{end_chosen, look_chosen, looked_chooses, looked_patchable, told_chosen}
 use Rattle.rb_fetch.proofs.Branches.{branches_more, branches_none, learnt_chooses, learnt_forgotten}
-use Rattle.rb_fetch.proofs.Choices.{start_chooses}
-use Rattle.rb_fetch.proofs.Chosen.{ends_open, none_asked, some_asked}
 use Rattle.rb_fetch.proofs.Constructed.{alone_constructed, ways_constructed, ways_grown}
 use Rattle.rb_fetch.proofs.FieldParts.{fetches_none, layer_fetches, take-left}
-use Rattle.rb_fetch.proofs.Rebuilding.{part_con, part_open, parts_more, parts_none, wild_open}
-use Rattle.rb_fetch.proofs.Ways.{are_holes, of_one_way, open-low}
+use Rattle.rb_fetch.proofs.Rebuilding.{part_con, parts_more, parts_none, wild_fetched, wild_open}
 use Rattle.rb_fetch.proofs.choosing.+fetching.Goals as goal
 
-pub choose-returns-in_ok-ways-in-None-clause-chooses : goal.choose-returns-in_ok-ways-in-None-clause-chooses
-choose-returns-in_ok-ways-in-None-clause-chooses t c =
-    none_asked c.args.whole.now.agreed.now c.args.whole.now.ty c.args.whole.now.leaves.now c.in-len1-up.len_at_least c.args.seen.now c.args.parts.now c.args.body.now c.end_ways.new.body c.in_ok-ways-in-None.ways
-    (rw c.in-None.is at c.in_ok-next_question.ensures) (rw c.as_slice-in-None.ensures at c.in_ok-ways-in-None.ensures)
+pub choose-returns-in_default-2-clause-chooses : goal.choose-returns-in_default-2-clause-chooses
+choose-returns-in_default-2-clause-chooses t c =
+    end_chosen c.end_ways.result c.args.whole.now.agreed.now c.args.whole.now.ty c.args.whole.now.leaves.now c.args.seen.now c.args.parts.now c.args.body.now c.end_ways.new.body c.in-len1-up.len_at_least
+    (rw c.in_default-2.is at c.in_ok-question.ensures) (rw c.as_slice-in_default-2.ensures at c.end_ways.ensures)
 
-pub choose-returns-in_ok-ways-in-None-clause-ways : goal.choose-returns-in_ok-ways-in-None-clause-ways
-choose-returns-in_ok-ways-in-None-clause-ways t c = (ends_open c.args.whole.now.agreed.now c.args.whole.now.ty _ _ c.args.body.now c.end_ways.new.body c.in_ok-ways-in-None.ways c.in_ok-ways-in-None.ensures).0
+pub choose-returns-in-Some-told-clause-chooses : goal.choose-returns-in-Some-told-clause-chooses
+choose-returns-in-Some-told-clause-chooses t c =
+    told_chosen c.choose_under.result c.args.whole.now.agreed.now c.args.whole.now.ty c.args.whole.now.leaves.now c.args.seen.now c.args.parts.now c.args.body.now c.choose_under.new.body c.in-len1-up.len_at_least
+    c.in-Some.question (rw (c.in-Some.is, c.as_slice.ensures) at c.in_ok-question.ensures) c.in-Some-told.inner c.in-Some-told.is (rw c.as_slice-words.ensures at c.choose_under.ensures.chooses)
 
-pub choose-returns-in_ok-ways-in-None-clause-grows : goal.choose-returns-in_ok-ways-in-None-clause-grows
-choose-returns-in_ok-ways-in-None-clause-grows t c = (ends_open c.args.whole.now.agreed.now c.args.whole.now.ty _ _ c.args.body.now c.end_ways.new.body c.in_ok-ways-in-None.ways c.in_ok-ways-in-None.ensures).1
+pub choose-returns-clause-chooses : goal.choose-returns-clause-chooses
+choose-returns-clause-chooses t c =
+    look_chosen c.look.result c.args.whole.now.agreed.now c.args.whole.now.ty c.args.whole.now.leaves.now c.args.seen.now c.args.parts.now c.args.body.now c.look.new.body c.in-len1-up.len_at_least
+    c.in-Some.question (rw (c.in-Some.is, c.as_slice.ensures) at c.in_ok-question.ensures) (rw c.as_slice-words.ensures at c.look.ensures.chooses)
 
-pub choose-returns-in_ok-ways-in-Some-clause-chooses : goal.choose-returns-in_ok-ways-in-Some-clause-chooses
-choose-returns-in_ok-ways-in-Some-clause-chooses t c =
-    some_asked c.args.whole.now.agreed.now c.args.whole.now.ty c.args.whole.now.leaves.now c.in-len1-up.len_at_least c.args.seen.now c.args.parts.now c.args.body.now c.choose_at.new.body c.in_ok-ways-in-Some.ways
-    c.in-Some.question (rw (c.in-Some.is, c.as_slice.ensures) at c.in_ok-next_question.ensures) c.in_ok-ways-in-Some.ensures.chooses
-
-pub choose_at-returns-in_ok-ways-in-Some-clause-chooses : goal.choose_at-returns-in_ok-ways-in-Some-clause-chooses
-choose_at-returns-in_ok-ways-in-Some-clause-chooses t c = λ n asks.
-    told_asked c.args.whole.now.agreed.now c.args.whole.now.ty c.args.whole.now.leaves.now c.args.seen.now c.args.parts.now c.args.body.now c.choose_under.new.body c.in_ok-ways-in-Some.ways n c.args.question.now asks c.in-Some.inner c.in-Some.is
-    (rw c.as_slice-words.ensures at c.in_ok-ways-in-Some.ensures.chooses)
-
-pub choose_at-returns-in_ok-ways-in-None-clause-chooses : goal.choose_at-returns-in_ok-ways-in-None-clause-chooses
-choose_at-returns-in_ok-ways-in-None-clause-chooses t c = λ n asks. (rw c.as_slice-words.ensures at c.in_ok-ways-in-None.ensures.chooses) asks.is_asked.is_part
-
-pub choose_each-loop-inner-init : goal.choose_each-loop-inner-init
-choose_each-loop-inner-init t c = record {
-  done = rw (c.new-starts.ensures, c.new-ways.ensures) (branches_none c.args.whole.now.agreed.now c.args.whole.now.ty c.args.whole.now.leaves.now c.args.seen.now c.args.parts.now c.args.part.now.place.now.path c.args.part.now.place.now.con.ty c.args.part.now.words.now c.args.body.now);
+pub look-loop-inner-init : goal.look-loop-inner-init
+look-loop-inner-init t c = record {
+  done = rw (c.new-starts.ensures, c.new-ways.ensures) (branches_none c.args.whole.now.agreed.now c.args.whole.now.ty c.args.whole.now.leaves.now c.args.seen.now c.args.parts.now c.args.part.now.place.now.path c.args.part.now.place.now.con.ty c.args.part.now.words.now c.find_leaves.new.body);
   parts = refl;
   seen = refl;
 }
 
-pub choose_each-loop-inner-preserved : goal.choose_each-loop-inner-preserved
-choose_each-loop-inner-preserved t c =
+pub look-loop-inner-preserved : goal.look-loop-inner-preserved
+look-loop-inner-preserved t c =
     let under = rw (c.loop-inner.invariant.parts, c.loop-inner.invariant.seen) at c.in_ok-ways.ensures.chooses in
     record {
       done = rw (c.in_ok-add_leaf.ensures, c.len-start.ensures.value)
-          (branches_more c.args.whole.now.agreed.now c.args.whole.now.ty c.args.whole.now.leaves.now c.args.seen.now c.args.parts.now c.args.part.now.place.now.path c.args.part.now.place.now.con.ty c.args.part.now.words.now c.loop-inner.inner c.args.body.now c.loop-inner.body c.choose_under.new.body
-          c.loop-inner.code.starts c.loop-inner.code.ways c.in_ok-ways.ways c.loop-inner.invariant.done c.in_ok-ways.ensures.grows c.in_ok-ways.ensures.ways under);
+          (branches_more c.args.whole.now.agreed.now c.args.whole.now.ty c.args.whole.now.leaves.now c.args.seen.now c.args.parts.now c.args.part.now.place.now.path c.args.part.now.place.now.con.ty c.args.part.now.words.now c.loop-inner.inner c.find_leaves.new.body c.loop-inner.body c.choose_under.new.body
+          c.loop-inner.code.starts c.loop-inner.code.ways c.in_ok-ways.ways c.loop-inner.invariant.done under);
       parts = c.in_ok-ways.ensures.parts ∙ c.loop-inner.invariant.parts;
       seen = c.in_ok-ways.ensures.seen ∙ c.loop-inner.invariant.seen;
     }
@@ -61,11 +49,7 @@ choose_each-loop-inner-preserved t c =
 pub choose_under-returns-clause-chooses : goal.choose_under-returns-clause-chooses
 choose_under-returns-clause-chooses t c =
     learnt_chooses c.args.whole.now.agreed.now c.args.whole.now.ty c.args.whole.now.leaves.now c.args.seen.now c.args.parts.now c.args.part.now.place.now c.args.part.now.words.now c.args.inner c.learn.new.seen c.in_ok-learnt.learnt c.in_ok-learnt.ensures
-    c.args.body.now c.fetch_fields.new.body c.choose.new.body c.fetch_fields.new.parts c.in_ok-ways.ways c.in_ok-fetch_fields.ensures.fetches (rw c.as_slice-leaves.ensures at c.in_ok-ways.ensures.chooses) c.in_ok-ways.ensures.ways
-
-pub choose_under-returns-clause-ways : goal.choose_under-returns-clause-ways
-choose_under-returns-clause-ways t c =
-    open-low (length c.fetch_fields.new.body.code) (length c.args.body.now.code) c.choose.new.body.code c.in_ok-ways.ways c.in_ok-fetch_fields.ensures.grows.longer c.in_ok-ways.ensures.ways
+    c.args.body.now c.fetch_fields.new.body c.choose.new.body c.fetch_fields.new.parts c.in_ok-ways.ways c.in_ok-fetch_fields.ensures.fetches c.in_ok-fetch_fields.ensures.grows (rw c.as_slice-leaves.ensures at c.in_ok-ways.ensures.chooses)
 
 pub choose_under-returns-clause-parts : goal.choose_under-returns-clause-parts
 choose_under-returns-clause-parts t c =
@@ -79,40 +63,16 @@ choose_under-returns-clause-seen t c =
 
 pub look-close_look-ways-requires : goal.look-close_look-ways-requires
 look-close_look-ways-requires t c =
-    looked_patchable c.args.whole.now.agreed.now c.args.whole.now.ty c.args.whole.now.leaves.now c.args.seen.now c.args.parts.now c.args.part.now.place.now.path c.args.part.now.place.now.con.ty c.args.part.now.words.now c.args.body.now c.find_leaves.new.body c.choose_each.new.body
-    c.in_ok-count.field-0 c.in_ok-code.code.starts c.in_ok-code.code.ways c.in_ok-count.ensures c.in_ok-code.ensures.done
+    let all : c.loop-inner.inner ≡ c.in_ok-count.field-0.count = omega (arith, c.loop-inner-test.false, c.loop-inner.auto.inner-end) in
+    looked_patchable c.args.whole.now.agreed.now c.args.whole.now.ty c.args.whole.now.leaves.now c.args.seen.now c.args.parts.now c.args.part.now.place.now.path c.args.part.now.place.now.con.ty c.args.part.now.words.now c.args.body.now c.find_leaves.new.body c.loop-inner.body
+    c.in_ok-count.field-0 c.loop-inner.code.starts c.loop-inner.code.ways c.in_ok-count.ensures (rw all at c.loop-inner.invariant.done)
 
 pub look-returns-clause-chooses : goal.look-returns-clause-chooses
 look-returns-clause-chooses t c =
+    let all : c.loop-inner.inner ≡ c.in_ok-count.field-0.count = omega (arith, c.loop-inner-test.false, c.loop-inner.auto.inner-end) in
     rw c.close_look-ways.ensures.ways
-    (looked_chooses c.args.whole.now.agreed.now c.args.whole.now.ty c.args.whole.now.leaves.now c.args.seen.now c.args.parts.now c.args.part.now.place.now.path c.args.part.now.place.now.con.ty c.args.part.now.words.now c.args.body.now c.find_leaves.new.body c.choose_each.new.body
-    c.in_ok-count.field-0 c.in_ok-code.code.starts c.in_ok-code.code.ways c.in_ok-count.ensures c.in_ok-code.ensures.done c.close_look-ways.new.body c.close_look-ways.ensures.code)
-
-pub look-returns-clause-ways : goal.look-returns-clause-ways
-look-returns-clause-ways t c =
-    rw c.close_look-ways.ensures.ways
-    (looked_open c.args.whole.now.agreed.now c.args.whole.now.ty c.args.whole.now.leaves.now c.args.seen.now c.args.parts.now c.args.part.now.place.now.path c.args.part.now.place.now.con.ty c.args.part.now.words.now c.args.body.now c.find_leaves.new.body c.choose_each.new.body
-    c.in_ok-count.field-0 c.in_ok-code.code.starts c.in_ok-code.code.ways c.in_ok-count.ensures c.in_ok-code.ensures.done c.close_look-ways.new.body c.close_look-ways.ensures.code)
-
-pub look-returns-clause-grows : goal.look-returns-clause-grows
-look-returns-clause-grows t c =
-    looked_grows c.args.whole.now.agreed.now c.args.whole.now.ty c.args.whole.now.leaves.now c.args.seen.now c.args.parts.now c.args.part.now.place.now.path c.args.part.now.place.now.con.ty c.args.part.now.words.now c.args.body.now c.find_leaves.new.body c.choose_each.new.body
-    c.in_ok-count.field-0 c.in_ok-code.code.starts c.in_ok-code.code.ways c.in_ok-count.ensures c.in_ok-code.ensures.done c.close_look-ways.new.body c.close_look-ways.ensures.code
-
-pub choose_leaf_at-returns-clause-chooses : goal.choose_leaf_at-returns-clause-chooses
-choose_leaf_at-returns-clause-chooses t c =
-    rw c.in_ok-choices.ensures
-    (start_chooses c.args.agreed.now c.args.con c.args.args.now c.args.shown.now c.in_ok-start.start c.in_ok-start.ensures c.args.body.now c.choose.new.body c.in_ok-ways.ways
-    (rw c.as_slice-leaves.ensures at c.in_ok-ways.ensures.chooses) c.in_ok-ways.ensures.ways)
-
-pub choose_leaf_at-returns-clause-holes : goal.choose_leaf_at-returns-clause-holes
-choose_leaf_at-returns-clause-holes t c =
-    rw c.in_ok-choices.ensures
-    (are_holes 0 (length c.args.body.now.code) (length c.args.body.now.code) (length c.in_ok-ways.ways) c.choose.new.body.code c.in_ok-ways.ways (omega arith) c.in_ok-ways.ensures.ways (omega arith))
-
-pub choose_leaf_at-returns-clause-ways : goal.choose_leaf_at-returns-clause-ways
-choose_leaf_at-returns-clause-ways t c =
-    rw c.in_ok-choices.ensures (of_one_way (length c.args.body.now.code) c.choose.new.body.code c.in_ok-ways.ways c.in_ok-ways.ensures.ways)
+    (looked_chooses c.args.whole.now.agreed.now c.args.whole.now.ty c.args.whole.now.leaves.now c.args.seen.now c.args.parts.now c.args.part.now.place.now.path c.args.part.now.place.now.con.ty c.args.part.now.words.now c.args.body.now c.find_leaves.new.body c.loop-inner.body
+    c.in_ok-count.field-0 c.loop-inner.code.starts c.loop-inner.code.ways c.in_ok-count.ensures (rw all at c.loop-inner.invariant.done) c.close_look-ways.new.body c.close_look-ways.ensures.code)
 
 pub fetch_fields-returns-then-not-needed-clause-fetches : goal.fetch_fields-returns-then-not-needed-clause-fetches
 fetch_fields-returns-then-not-needed-clause-fetches t c = fetches_none c.args.source.now.agreed.now c.args.path.now c.args.source.now.ty c.args.source.now.leaf c.args.source.now.words.now c.args.body.now c.args.parts.now
@@ -137,10 +97,10 @@ pub fetch_part-returns-in_ok-held-in-Con-clause-grows : goal.fetch_part-returns-
 fetch_part-returns-in_ok-held-in-Con-clause-grows t c =
     Grows-trans c.args.body.now.code c.fetch_parts.new.body.code c.construct_at.new.body.code c.in_ok-args-in-Con.ensures.grows c.in_ok-held-in-Con.ensures.grows
 
-pub fetch_part-returns-in_ok-slots-in-Wild-clause-fetches : goal.fetch_part-returns-in_ok-slots-in-Wild-clause-fetches
-fetch_part-returns-in_ok-slots-in-Wild-clause-fetches t c =
-    part_open c.args.source.now.agreed.now (rw c.covered.ensures.same at c.program-typed.ensures.typed) c.layouts-agreed.ensures.flat c.layouts-agreed.ensures.agree c.args.source.now.ty c.args.source.now.leaf c.args.pat.now c.args.path.now c.args.source.now.words.now c.args.body.now
-    c.fetch_open.new.body c.in_ok-slots-in-Wild.slots (wild_open c.args.pat.now c.in-Wild.field-0 c.in-Wild.is) (rw c.as_slice.ensures at c.in_ok-slots-in-Wild.ensures.fetches)
+pub fetch_part-returns-in-Wild-clause-fetches : goal.fetch_part-returns-in-Wild-clause-fetches
+fetch_part-returns-in-Wild-clause-fetches t c =
+    wild_fetched c.args.source.now.agreed.now (rw c.covered.ensures.same at c.program-typed.ensures.typed) c.layouts-agreed.ensures.flat c.layouts-agreed.ensures.agree c.args.source.now.ty c.args.source.now.leaf c.fetch_open.result c.args.pat.now c.args.path.now c.args.source.now.words.now
+    c.args.body.now c.fetch_open.new.body (wild_open c.args.pat.now c.in-Wild.field-0 c.in-Wild.is) (rw c.as_slice.ensures at c.fetch_open.ensures.fetches)
 
 pub fetch_parts-loop-j-init : goal.fetch_parts-loop-j-init
 fetch_parts-loop-j-init t c = record {
@@ -163,17 +123,20 @@ fetch_parts-returns-clause-fetches t c =
     let all : c.loop-j.j ≡ length c.args.subs.now = omega (arith, c.loop-j-test.false, c.loop-j.auto.j-end) in
     rw (← all) c.loop-j.invariant.fetches
 
-pub construct_at-returns-in_ok-held-in-Some-clause-constructs : goal.construct_at-returns-in_ok-held-in-Some-clause-constructs
-construct_at-returns-in_ok-held-in-Some-clause-constructs t c =
+pub construct_at-returns-in-Some-clause-constructs : goal.construct_at-returns-in-Some-clause-constructs
+construct_at-returns-in-Some-clause-constructs t c =
     let leaf = c.in-Some.leaf.now in
-    alone_constructed c.args.agreed.now c.args.con c.args.args.now c.args.shown.now c.args.body.now c.emit_alone.new.body c.in_ok-held-in-Some.held leaf (c.in_ok-leaf.ensures leaf (ap option_copied c.in-Some.is)) c.in_ok-held-in-Some.ensures.makes
+    alone_constructed c.emit_alone.result c.args.agreed.now c.args.con c.args.args.now c.args.shown.now c.args.body.now c.emit_alone.new.body leaf (c.in_ok-leaf.ensures leaf (ap option_copied c.in-Some.is)) c.emit_alone.ensures.makes
 
-pub construct_at-returns-in_ok-held-in-None-clause-constructs : goal.construct_at-returns-in_ok-held-in-None-clause-constructs
-construct_at-returns-in_ok-held-in-None-clause-constructs t c =
-    let chosen = c.in_ok-choices-in-None.ensures in
-    ways_constructed c.args.agreed.now c.args.con c.args.args.now c.args.shown.now c.args.body.now c.emit_choices.new.body c.in_ok-held-in-None.held c.choose_leaf_at.new.body c.in_ok-choices-in-None.choices chosen.chooses chosen.holes chosen.ways c.in_ok-held-in-None.ensures
+pub construct_at-emit_choices-requires : goal.construct_at-emit_choices-requires
+construct_at-emit_choices-requires t c = record { «open» = (length c.args.body.now.code, c.in_ok-ways.ensures.chooses.are_open) }
 
-pub construct_at-returns-in_ok-held-in-None-clause-grows : goal.construct_at-returns-in_ok-held-in-None-clause-grows
-construct_at-returns-in_ok-held-in-None-clause-grows t c =
-    let chosen = c.in_ok-choices-in-None.ensures in
-    ways_grown c.args.agreed.now c.args.con c.args.args.now c.args.shown.now c.args.body.now c.emit_choices.new.body c.in_ok-held-in-None.held c.choose_leaf_at.new.body c.in_ok-choices-in-None.choices chosen.grows chosen.holes c.in_ok-held-in-None.ensures
+pub construct_at-returns-clause-constructs : goal.construct_at-returns-clause-constructs
+construct_at-returns-clause-constructs t c =
+    ways_constructed c.emit_choices.result c.args.agreed.now c.args.con c.args.args.now c.args.shown.now c.args.body.now c.emit_choices.new.body c.in_ok-start.start c.in_ok-start.ensures c.choose.new.body c.in_ok-ways.ways
+    (rw c.as_slice-leaves.ensures at c.in_ok-ways.ensures.chooses) c.emit_choices.ensures
+
+pub construct_at-returns-clause-grows : goal.construct_at-returns-clause-grows
+construct_at-returns-clause-grows t c =
+    ways_grown c.emit_choices.result c.args.agreed.now c.args.con c.args.args.now c.args.shown.now c.args.body.now c.emit_choices.new.body c.in_ok-start.start c.in_ok-start.ensures c.choose.new.body c.in_ok-ways.ways
+    (rw c.as_slice-leaves.ensures at c.in_ok-ways.ensures.chooses) c.emit_choices.ensures

@@ -6,38 +6,29 @@ use Rattle.rb_fetch.proofs.choosing.+fetching.Given as goal
 
 -- `choose` and `fetch_part` take one off the depth; the others, between them, are ordered by who calls whom.
 abbrev pub decreases-choose : goal.decreases-choose
-decreases-choose l = l.depth * 8
+decreases-choose l = l.depth * 5
 
 abbrev pub decreases-fetch_part : goal.decreases-fetch_part
-decreases-fetch_part l = l.depth * 8
+decreases-fetch_part l = l.depth * 5
 
 abbrev pub decreases-fetch_parts : goal.decreases-fetch_parts
-decreases-fetch_parts l = l.depth * 8 + 1
-
-abbrev pub decreases-choose_leaf_at : goal.decreases-choose_leaf_at
-decreases-choose_leaf_at l = l.depth * 8 + 1
+decreases-fetch_parts l = l.depth * 5 + 1
 
 abbrev pub decreases-fetch_fields : goal.decreases-fetch_fields
-decreases-fetch_fields l = l.depth * 8 + 2
+decreases-fetch_fields l = l.depth * 5 + 2
 
 abbrev pub decreases-construct_at : goal.decreases-construct_at
-decreases-construct_at l = l.depth * 8 + 2
+decreases-construct_at l = l.depth * 5 + 1
 
 abbrev pub decreases-choose_under : goal.decreases-choose_under
-decreases-choose_under l = l.depth * 8 + 3
-
-abbrev pub decreases-choose_each : goal.decreases-choose_each
-decreases-choose_each l = l.depth * 8 + 4
+decreases-choose_under l = l.depth * 5 + 3
 
 abbrev pub decreases-look : goal.decreases-look
-decreases-look l = l.depth * 8 + 5
+decreases-look l = l.depth * 5 + 4
 
-abbrev pub decreases-choose_at : goal.decreases-choose_at
-decreases-choose_at l = l.depth * 8 + 6
-
-abbrev pub invariant-choose_each-loop-inner : goal.invariant-choose_each-loop-inner
-invariant-choose_each-loop-inner l = record {
-  done : BranchesDone l.whole.agreed.now l.whole.ty l.whole.leaves.now l.fn.seen l.fn.parts l.part.place.now.path l.part.place.now.con.ty l.part.words.now l.inner l.fn.body l.body l.code.starts l.code.ways;
+abbrev pub invariant-look-loop-inner : goal.invariant-look-loop-inner
+invariant-look-loop-inner l = record {
+  done : BranchesDone l.whole.agreed.now l.whole.ty l.whole.leaves.now l.fn.seen l.fn.parts l.part.place.now.path l.part.place.now.con.ty l.part.words.now l.inner l.initial.body l.body l.code.starts l.code.ways;
   parts : l.parts ≡ l.fn.parts;
   seen : l.seen ≡ l.fn.seen;
 }

@@ -1,7 +1,13 @@
-use Rattle.std.proofs.Common.{length, refl, sym, ap, ◌∙◌}
+use Rattle.std.proofs.Common.{length, refl, sym, ap, ◌∙◌, arith}
 use Rattle.std.specs.Prelude.{slice_get}
 use Rattle.std.proofs.lemmas.Option.{slice_get_read}
+use Rattle.rb_fetch.proofs.Ways.{are_holes}
 use Rattle.rb_fetch.proofs.construct.emit_choices.Goals as goal
+
+pub emit_ways-requires : goal.emit_ways-requires
+emit_ways-requires c =
+    let from = c.requires.open.0 in
+    record { holes = (from, rw c.in_ok-choices.ensures (are_holes 0 from from (length c.args.ways) c.args.body.now.code c.args.ways (omega arith) c.requires.open.1 (omega arith))) }
 
 pub returns : goal.returns
 returns c =
@@ -11,5 +17,5 @@ returns c =
       sound = record { typed = rw c.covered.ensures.same at c.program-typed.ensures.typed; flat = c.layouts.ensures.flat; agrees = c.layouts.ensures.agree };
       layout = c.in-Some.layout.now;
       is_layout = at;
-      meets = rw c.as_slice.ensures at c.in_ok-held.ensures.meets;
+      meets = rw (c.as_slice.ensures, c.in_ok-choices.ensures) at c.in_ok-held.ensures.meets;
     }
