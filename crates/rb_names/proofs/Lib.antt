@@ -6,6 +6,7 @@ pub mod DistinctNumbers
 pub mod Dropping
 pub mod Examples
 pub mod ExpressionEquations
+pub mod FormLemmas
 pub mod FrameLemmas
 pub mod Inverting
 pub mod LeftLemmas

@@ -1,14 +1,14 @@
 -- Clauses, layouts and functions, from what is found of their parts.
-use Rattle.std.proofs.Common.{◌≡◌, ℕ, ◌+◌, List, [], map, length, Option, Some, None, Ok, Err, refl, sym, ap, ◌∙◌, arith}
+use Rattle.std.proofs.Common.{◌≡◌, ℕ, ◌+◌, List, [], map, length, Option, Some, None, Ok, Err, refl, sym, ap, ◌∙◌, subst, arith}
 use Rattle.rb_core.specs.declared.types.Ty.{Ty}
 use Rattle.rb_core.specs.declared.pattern.Pat.{Pat}
 use Rattle.rb_core.specs.declared.expression.Expr.{Expr}
 use Rattle.rb_core.specs.declared.expression.Clause.{Clause}
+use Rattle.rb_core.specs.declared.program.Fun.{Fun}
 use Rattle.rb_core.specs.declared.program.Param.{Param}
 use Rattle.rb_core.specs.declared.layout_decl.Arm.{Arm}
 use Rattle.rb_core.specs.declared.layout_decl.LayItem.{LayItem}
 use Rattle.rb_core.specs.declared.layout_decl.LayTree.{LayTree}
-use Rattle.rb_core.specs.declared.layout_decl.LayTree as core_tree
 use Rattle.rb_syntax.specs.declared.tree.PatTree.{PatTree}
 use Rattle.rb_syntax.specs.declared.tree.ClauseTree.{ClauseTree}
 use Rattle.rb_syntax.specs.declared.tree.FunTree.{FunTree}
@@ -25,7 +25,8 @@ use Rattle.rb_names.specs.inner.Frames.{scope_of}
 use Rattle.rb_syntax.specs.declared.tree.NameTree.{NameTree}
 use Rattle.rb_names.specs.Programs.{no_twice}
 use Rattle.rb_names.specs.Numbering.{Resolved, and_then, Numbered, Numbering, all_of, numbered_pattern, numbered_expression, numbered_param, numbered_type, numbered_function, split_step, arm_step, numbered_split}
-use Rattle.rb_names.specs.inner.Parts.{numbered_clause}
+use Rattle.rb_names.specs.Answers.{AnswersNumbering}
+use Rattle.rb_names.specs.inner.Parts.{numbered_clause, numbered_within}
 use Rattle.rb_names.proofs.ExpressionEquations.{clause-is}
 
 module _ (t : Tables) where
@@ -33,11 +34,10 @@ module _ (t : Tables) where
   unfolding S.roll-SplitTree denote.Hole.Carrier.roll
   split-Leaf at p items = fold-roll-SplitTree (Resolved LayTree) (Resolved Arm) (split_step t) arm_step (split.Leaf at p items)
 
-  pub leaf-found : (tree : SplitTree) (at : ℕ) (p : PatTree) (items copies : List LayItem) (scope : Scope) (q : Pat)
-      → tree ≡ S.Leaf at p items → scope ≡ [] → copies ≡ items → numbered_pattern t scope p ≡ Ok q → numbered_split t tree ≡ Ok (core_tree.Leaf at q copies)
-  leaf-found tree at p items copies scope q is empty same h =
-      let found : numbered_pattern t [] p ≡ Ok q = sym (ap (λ s. numbered_pattern t s p) empty) ∙ h in
-      ap (numbered_split t) is ∙ split-Leaf at p items ∙ rw (found, same) refl
+  pub leaf-answers : (r : Resolved LayTree) (tree : SplitTree) (at : ℕ) (p : PatTree) (items seen : List LayItem) → tree ≡ S.Leaf at p items → seen ≡ items
+      → AnswersNumbering r (split_step t (split.Leaf at p seen)) → AnswersNumbering r (numbered_split t tree)
+  leaf-answers r tree at p items seen is same h =
+      subst (AnswersNumbering r) (ap (λ us. split_step t (split.Leaf at p us)) same ∙ sym (split-Leaf at p items) ∙ sym (ap (numbered_split t) is)) h
 
   -- a clause whose pattern's variables are in this scope
   module _ (c : ClauseTree) (scope inner : Scope) (next after : ℕ) (opened : inner ≡ inside (binders_of c.pat) next scope) (counted : after ≡ next + length (binders_of c.pat)) where
@@ -61,37 +61,31 @@ module _ (t : Tables) where
         sym (ap (λ s. numbered_expression t c.body s (next + length (binders_of c.pat))) opened) ∙ sym (ap (numbered_expression t c.body inner) counted) ∙ g in
         ap (λ (n : Numbering Clause). n scope next) (clause-is t c) ∙ rw (found, body) refl
 
-  -- a function whose parameters are in this scope
-  module _ (f : FunTree) (scope : Scope) (next : ℕ) (opened : scope ≡ inside (param_binders f.params) 0 []) (counted : next ≡ length (param_binders f.params)) where
-    pub function-params : (e : NameFault) → all_of (map (numbered_param t scope) f.params) ≡ Err e → numbered_function t f ≡ Err e
-    function-params e h = rw (sym (ap (λ s. all_of (map (numbered_param t s) f.params)) opened) ∙ h) refl
-
-    pub function-result : (ps : List Param) (e : NameFault) → all_of (map (numbered_param t scope) f.params) ≡ Ok ps → numbered_type t f.result ≡ Err e → numbered_function t f ≡ Err e
-    function-result ps e h r = rw (sym (ap (λ s. all_of (map (numbered_param t s) f.params)) opened) ∙ h, r) refl
-
+  -- a function within the scope of its parameters
+  module _ (f : FunTree) (scope : Scope) (next : ℕ) where
     pub function-body : (ps : List Param) (u : Ty) (e : NameFault) → all_of (map (numbered_param t scope) f.params) ≡ Ok ps → numbered_type t f.result ≡ Ok u
-        → numbered_expression t f.body scope next ≡ Err e → numbered_function t f ≡ Err e
-    function-body ps u e h r g =
-        rw (
-          sym (ap (λ s. all_of (map (numbered_param t s) f.params)) opened) ∙ h,
-          r,
-          sym (ap (λ s. numbered_expression t f.body s (length (param_binders f.params))) opened) ∙ sym (ap (numbered_expression t f.body scope) counted) ∙ g,
-        ) refl
+        → numbered_expression t f.body scope next ≡ Err e → numbered_within t scope next f ≡ Err e
+    function-body ps u e h r g = rw (h, r, g) refl
 
     pub function-found : (ps : List Param) (u : Ty) (e : Numbered Expr) → all_of (map (numbered_param t scope) f.params) ≡ Ok ps → numbered_type t f.result ≡ Ok u
-        → numbered_expression t f.body scope next ≡ Ok e → numbered_function t f ≡ Ok (record { name = f.name.text; params = ps; result = u; body = e.what })
-    function-found ps u e h r g =
-        rw (
-          sym (ap (λ s. all_of (map (numbered_param t s) f.params)) opened) ∙ h,
-          r,
-          sym (ap (λ s. numbered_expression t f.body s (length (param_binders f.params))) opened) ∙ sym (ap (numbered_expression t f.body scope) counted) ∙ g,
-        ) refl
+        → numbered_expression t f.body scope next ≡ Ok e → numbered_within t scope next f ≡ Ok (record { name = f.name.text; params = ps; result = u; body = e.what })
+    function-found ps u e h r g = rw (h, r, g) refl
 
--- A file whose tables were found.
-pub program-fails : {A B : Type 0} (twice : Option NameTree) (all found : Tables) (rule : Tables → Resolved A) (go : A → Resolved B) (f : NameFault)
-    → and_then (no_twice twice) (λ done. Ok all) ≡ Ok found → rule found ≡ Err f → and_then (no_twice twice) (λ done. and_then (rule all) go) ≡ Err f
-program-fails None all found rule go f h g = let same : all ≡ found = cc in ap (λ t. and_then (rule t) go) same ∙ ap (λ r. and_then r go) g
-program-fails (Some name) all found rule go f h g = cc
+    pub function-within : (r : Resolved Fun) → scope ≡ inside (param_binders f.params) 0 [] → next ≡ length (param_binders f.params)
+        → AnswersNumbering r (numbered_within t scope next f) → AnswersNumbering r (numbered_function t f)
+    function-within r opened counted h =
+        subst (AnswersNumbering r) (ap (λ s. numbered_within t s next f) opened ∙ ap (λ n. numbered_within t (inside (param_binders f.params) 0 []) n f) counted) h
+
+-- A file with these tables, or one that defines a name twice.
+pub tables-found : {A : Type 0} (r : Resolved A) (twice : Option NameTree) (all found : Tables) (go : Tables → Resolved A)
+    → and_then (no_twice twice) (λ done. Ok all) ≡ Ok found → AnswersNumbering r (go found) → AnswersNumbering r (and_then (no_twice twice) (λ done. go all))
+tables-found r None all found go h g = let same : all ≡ found = cc in subst (λ t. AnswersNumbering r (go t)) (sym same) g
+tables-found r (Some name) all found go h g = absurd cc
+
+pub tables-fail : {A : Type 0} (twice : Option NameTree) (all : Tables) (go : Unit {0} → Resolved A) (f : NameFault)
+    → and_then (no_twice twice) (λ done. Ok all) ≡ Err f → and_then (no_twice twice) go ≡ Err f
+tables-fail None all go f h = absurd cc
+tables-fail (Some name) all go f h = cc
 
 -- The scope that a function's parameters open.
 

@@ -4,7 +4,7 @@
 //! the function. The first name that stands for nothing is the fault `Unknown`; an `Err` may also
 //! be want of memory.
 
-ghost use Rattle.std.specs.Prelude.{◌≡◌, ◌∷◌, map, OnOk};
+ghost use Rattle.std.specs.Prelude.{◌≡◌, map, OnOk};
 ghost use Rattle.rb_syntax.specs.declared.tree.ExprTree.TheOpen as expr;
 ghost use Rattle.rb_names.specs.inner.Parts.{AnswersFrom, numbered_clause};
 ghost use Rattle.rb_names.specs.Numbering.{expr_step, in_turn, numbered_expression};
@@ -19,7 +19,7 @@ use crate::types::number_type;
 use rb_core::boxed::Boxed;
 use rb_core::expression::{Clause, Expr};
 use rb_core::seq::Seq;
-use rb_syntax::tree::{ClauseTree, ExprTree, NameTree, Op, TyTree};
+use rb_syntax::tree::{ClauseTree, ExprTree, NameTree, TyTree};
 use std::alloc::Global;
 
 /// The expression of a tree within a scope, with numbers for its names. `next` is the number of the
@@ -47,13 +47,19 @@ pub fn number_expression<'a>(
             Ok(Expr::Var(*at, var))
         }
         ExprTree::Call(at, name, args) => {
-            number_call(alloc, tables, *at, name, args.as_slice(), scope, next)
+            let fun = known_or_fault(alloc, name, tables.functions.get(name.text.as_slice()))?;
+            let args = number_expressions(alloc, tables, args.as_slice(), scope, next)?;
+            Ok(Expr::Call(*at, fun, args))
         }
         ExprTree::Build(at, name, fields) => {
-            number_build(alloc, tables, *at, name, fields.as_slice(), scope, next)
+            let con = known_or_fault(alloc, name, tables.constructors.get(name.text.as_slice()))?;
+            let fields = number_expressions(alloc, tables, fields.as_slice(), scope, next)?;
+            Ok(Expr::Build(*at, con, fields))
         }
         ExprTree::Binary(at, op, a, b) => {
-            number_binary(alloc, tables, *at, *op, a.get(), b.get(), scope, next)
+            let first = number_boxed(alloc, tables, a.get(), scope, next)?;
+            let second = number_boxed(alloc, tables, b.get(), scope, next)?;
+            Ok(Expr::Binary(*at, *op, first, second))
         }
         ExprTree::To(at, bits, a) => {
             let inner = number_boxed(alloc, tables, a.get(), scope, next)?;
@@ -63,73 +69,11 @@ pub fn number_expression<'a>(
             number_let(alloc, tables, *at, name, ty, a.get(), b.get(), scope, next)
         }
         ExprTree::Match(at, a, clauses) => {
-            number_match(alloc, tables, *at, a.get(), clauses.as_slice(), scope, next)
+            let scrutinee = number_boxed(alloc, tables, a.get(), scope, next)?;
+            let clauses = number_clauses(alloc, tables, clauses.as_slice(), scope, next)?;
+            Ok(Expr::Match(*at, scrutinee, clauses))
         }
     }
-}
-
-// A call of a function by its name, with its arguments.
-#[cycle(expression)]
-fn number_call<'a>(
-    alloc: Global,
-    tables: &Tables,
-    at: u32,
-    name: &NameTree,
-    args: &'a [ExprTree],
-    scope: &mut Scope<'a>,
-    next: &mut u32,
-) -> Result<Expr, NameFault>
-    ensures answers { AnswersFrom result next.new
-        (expr_step tables.now (expr.Call at name.now (map (numbered_expression tables.now) args.now))
-        (scope_of scope.old) next.old) }
-    ensures scope { OnOk result (scope.new ≡ scope.old) }
-{
-    let fun = known_or_fault(alloc, name, tables.functions.get(name.text.as_slice()))?;
-    let args = number_expressions(alloc, tables, args, scope, next)?;
-    Ok(Expr::Call(at, fun, args))
-}
-
-// A constructor by its name, with its fields.
-#[cycle(expression)]
-fn number_build<'a>(
-    alloc: Global,
-    tables: &Tables,
-    at: u32,
-    name: &NameTree,
-    fields: &'a [ExprTree],
-    scope: &mut Scope<'a>,
-    next: &mut u32,
-) -> Result<Expr, NameFault>
-    ensures answers { AnswersFrom result next.new
-        (expr_step tables.now (expr.Build at name.now (map (numbered_expression tables.now) fields.now))
-        (scope_of scope.old) next.old) }
-    ensures scope { OnOk result (scope.new ≡ scope.old) }
-{
-    let con = known_or_fault(alloc, name, tables.constructors.get(name.text.as_slice()))?;
-    let fields = number_expressions(alloc, tables, fields, scope, next)?;
-    Ok(Expr::Build(at, con, fields))
-}
-
-// An operator with its two operands.
-#[cycle(expression)]
-fn number_binary<'a>(
-    alloc: Global,
-    tables: &Tables,
-    at: u32,
-    op: Op,
-    a: &'a ExprTree,
-    b: &'a ExprTree,
-    scope: &mut Scope<'a>,
-    next: &mut u32,
-) -> Result<Expr, NameFault>
-    ensures answers { AnswersFrom result next.new
-        (expr_step tables.now (expr.Binary at op (numbered_expression tables.now a.now)
-        (numbered_expression tables.now b.now)) (scope_of scope.old) next.old) }
-    ensures scope { OnOk result (scope.new ≡ scope.old) }
-{
-    let first = number_boxed(alloc, tables, a, scope, next)?;
-    let second = number_boxed(alloc, tables, b, scope, next)?;
-    Ok(Expr::Binary(at, op, first, second))
 }
 
 // A `let` of this name and type, with the bound expression `a` and the body `b`.
@@ -154,30 +98,10 @@ fn number_let<'a>(
     let ty = number_type(alloc, tables, ty)?;
     let var = fresh(next)?;
     let bound = number_boxed(alloc, tables, a, scope, next)?;
-    let body = number_inside(alloc, tables, name.text.as_slice(), var, b, scope, next)?;
+    scope.enter_one(alloc, name.text.as_slice(), var)?;
+    let body = number_boxed(alloc, tables, b, scope, next)?;
+    scope.leave();
     Ok(Expr::Let(at, var, ty, bound, body))
-}
-
-// A match of the expression `a`, with its clauses.
-#[cycle(expression)]
-fn number_match<'a>(
-    alloc: Global,
-    tables: &Tables,
-    at: u32,
-    a: &'a ExprTree,
-    clauses: &'a [ClauseTree],
-    scope: &mut Scope<'a>,
-    next: &mut u32,
-) -> Result<Expr, NameFault>
-    ensures answers { AnswersFrom result next.new
-        (expr_step tables.now (expr.Match at (numbered_expression tables.now a.now)
-        (map (numbered_clause tables.now) clauses.now))
-        (scope_of scope.old) next.old) }
-    ensures scope { OnOk result (scope.new ≡ scope.old) }
-{
-    let scrutinee = number_boxed(alloc, tables, a, scope, next)?;
-    let clauses = number_clauses(alloc, tables, clauses, scope, next)?;
-    Ok(Expr::Match(at, scrutinee, clauses))
 }
 
 // The expression of a tree, in a box.
@@ -195,27 +119,6 @@ fn number_boxed<'a>(
 {
     let expr = number_expression(alloc, tables, tree, scope, next)?;
     Ok(Boxed::new(alloc, expr)?)
-}
-
-// An expression, in a box, inside one more binder, with this name and the number `var`.
-#[cycle(expression)]
-fn number_inside<'a>(
-    alloc: Global,
-    tables: &Tables,
-    name: &'a [u8],
-    var: u32,
-    tree: &'a ExprTree,
-    scope: &mut Scope<'a>,
-    next: &mut u32,
-) -> Result<Boxed<Expr>, NameFault>
-    ensures answers { AnswersFrom result next.new
-        (numbered_expression tables.now tree.now ((name.now, var) ∷ scope_of scope.old) next.old) }
-    ensures scope { OnOk result (scope.new ≡ scope.old) }
-{
-    scope.enter_one(alloc, name, var)?;
-    let expr = number_boxed(alloc, tables, tree, scope, next)?;
-    scope.leave();
-    Ok(expr)
 }
 
 // The expressions of trees, from left to right.

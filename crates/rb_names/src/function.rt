@@ -8,6 +8,7 @@ ghost use Rattle.rb_names.specs.Answers.{AnswersNumbering};
 ghost use Rattle.rb_names.specs.Numbering.{all_of, numbered_function, numbered_param};
 ghost use Rattle.rb_names.specs.Scopes.{inside, param_binders};
 ghost use Rattle.rb_names.specs.inner.Frames.{scope_of, with_binders};
+ghost use Rattle.rb_names.specs.inner.Parts.{numbered_within};
 
 use crate::expression::number_expression;
 use crate::fault::{NameFault, known_or_fault};
@@ -31,9 +32,22 @@ pub fn number_function(alloc: Global, tables: &Tables, tree: &FunTree) -> Result
     let mut scope = Scope::new(alloc);
     let mut next = 0;
     enter_params(alloc, &mut scope, tree.params.as_slice(), &mut next)?;
-    let params = number_params(alloc, tables, &scope, tree.params.as_slice())?;
+    number_within(alloc, tables, tree, &mut scope, &mut next)
+}
+
+// A function within the scope of its parameters; `next` is the number of the binder behind them.
+fn number_within<'a>(
+    alloc: Global,
+    tables: &Tables,
+    tree: &'a FunTree,
+    scope: &mut Scope<'a>,
+    next: &mut u32,
+) -> Result<Fun, NameFault>
+    ensures { AnswersNumbering result (numbered_within tables.now (scope_of scope.old) next.old tree.now) }
+{
+    let params = number_params(alloc, tables, scope, tree.params.as_slice())?;
     let result = number_type(alloc, tables, &tree.result)?;
-    let body = number_expression(alloc, tables, &tree.body, &mut scope, &mut next)?;
+    let body = number_expression(alloc, tables, &tree.body, scope, next)?;
     let name = tree.name.text.copy(alloc)?;
     Ok(Fun {
         name,

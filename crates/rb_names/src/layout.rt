@@ -3,9 +3,10 @@
 //! of types and constructors, by `tables`; all else stays. The first name that stands for nothing
 //! is the fault `Unknown`; an `Err` may also be want of memory.
 
-ghost use Rattle.std.specs.Prelude.{map};
+ghost use Rattle.std.specs.Prelude.{map, option_map};
+ghost use Rattle.rb_syntax.specs.declared.tree.SplitTree.TheOpen as split;
 ghost use Rattle.rb_names.specs.Answers.{AnswersNumbering};
-ghost use Rattle.rb_names.specs.Numbering.{all_of, numbered_layout, numbered_split};
+ghost use Rattle.rb_names.specs.Numbering.{all_of, numbered_else, numbered_layout, numbered_split, split_step};
 ghost use Rattle.rb_names.specs.inner.Parts.{numbered_arm};
 
 use crate::fault::{NameFault, known_or_fault};
@@ -13,10 +14,10 @@ use crate::pattern::number_pattern;
 use crate::scope::Scope;
 use crate::tables::Tables;
 use rb_core::boxed::Boxed;
-use rb_core::layout_decl::{Arm, LayTree, LayoutDecl};
+use rb_core::layout_decl::{Arm, LayItem, LayTree, LayoutDecl};
 use rb_core::layout_items::copy_items;
 use rb_core::seq::Seq;
-use rb_syntax::tree::{ArmTree, LayoutTree, SplitTree};
+use rb_syntax::tree::{ArmTree, LayoutTree, PatTree, SplitTree};
 use std::alloc::Global;
 
 /// A layout with the numbers of its type and of the constructors of its provenances.
@@ -49,46 +50,62 @@ fn number_split(alloc: Global, tables: &Tables, tree: &SplitTree) -> Result<LayT
 {
     match tree {
         SplitTree::Leaf(at, provenance, items) => {
-            let provenance = number_pattern(alloc, tables, &Scope::new(alloc), provenance)?;
-            let items = copy_items(alloc, items.as_slice())?;
-            Ok(LayTree::Leaf(*at, provenance, items))
+            number_leaf(alloc, tables, *at, provenance, items.as_slice())
         }
-        SplitTree::Split(loc, arms, None) => {
+        SplitTree::Split(loc, arms, other) => {
             let arms = number_arms(alloc, tables, arms.as_slice())?;
+            let other = number_other(alloc, tables, other)?;
             let loc = loc.copy(alloc)?;
-            Ok(LayTree::Split(loc, arms, None))
-        }
-        SplitTree::Split(loc, arms, Some(other)) => {
-            let arms = number_arms(alloc, tables, arms.as_slice())?;
-            let other = number_split(alloc, tables, other.get())?;
-            let other = Boxed::new(alloc, other)?;
-            let loc = loc.copy(alloc)?;
-            Ok(LayTree::Split(loc, arms, Some(other)))
+            Ok(LayTree::Split(loc, arms, other))
         }
     }
 }
 
-// The arms of a split, in their order.
+// The arms of a split, in their order, with numbers in the trees under them: their literals stay.
 #[cycle(splitting)]
 fn number_arms(alloc: Global, tables: &Tables, trees: &[ArmTree]) -> Result<Seq<Arm>, NameFault>
     ensures { AnswersNumbering result (all_of (map (numbered_arm tables.now) trees.now)) }
 {
     let mut arms = Seq::new(alloc);
     for tree in trees {
-        let arm = number_arm(alloc, tables, tree)?;
-        arms.push(arm)?;
+        let under = number_split(alloc, tables, &tree.under)?;
+        arms.push(Arm {
+            literal: tree.literal,
+            under,
+        })?;
     }
     Ok(arms)
 }
 
-// An arm of a split, with numbers in the tree under it: its literal stays.
+// What stands under the `else` of a split; None where it has no `else`.
 #[cycle(splitting)]
-fn number_arm(alloc: Global, tables: &Tables, tree: &ArmTree) -> Result<Arm, NameFault>
-    ensures { AnswersNumbering result (numbered_arm tables.now tree.now) }
+fn number_other(
+    alloc: Global,
+    tables: &Tables,
+    other: &Option<Boxed<SplitTree>>,
+) -> Result<Option<Boxed<LayTree>>, NameFault>
+    ensures { AnswersNumbering result (numbered_else (option_map (numbered_split tables.now) other.now)) }
 {
-    let under = number_split(alloc, tables, &tree.under)?;
-    Ok(Arm {
-        literal: tree.literal,
-        under,
-    })
+    match other {
+        None => Ok(None),
+        Some(tree) => {
+            let under = number_split(alloc, tables, tree.get())?;
+            Ok(Some(Boxed::new(alloc, under)?))
+        }
+    }
+}
+
+// A leaf with the numbers of its provenance, in which nothing is bound.
+fn number_leaf(
+    alloc: Global,
+    tables: &Tables,
+    at: u32,
+    provenance: &PatTree,
+    items: &[LayItem],
+) -> Result<LayTree, NameFault>
+    ensures { AnswersNumbering result (split_step tables.now (split.Leaf at provenance.now items.now)) }
+{
+    let provenance = number_pattern(alloc, tables, &Scope::new(alloc), provenance)?;
+    let items = copy_items(alloc, items)?;
+    Ok(LayTree::Leaf(at, provenance, items))
 }

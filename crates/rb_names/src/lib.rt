@@ -34,6 +34,7 @@ ghost use Rattle.rb_syntax.specs.declared.token.Token.{Token};
 ghost use Rattle.rb_names.specs.Answers.{AnswersNumbering};
 ghost use Rattle.rb_names.specs.Programs.{program_of};
 ghost use Rattle.rb_names.specs.Written.{IsReadFile};
+ghost use Rattle.rb_names.specs.inner.Parts.{numbered_program};
 
 pub mod complete;
 mod derivation;
@@ -52,9 +53,9 @@ mod types;
 
 pub use crate::fault::NameFault;
 use crate::items::number_items;
-use crate::tables::define_all;
+use crate::tables::{Tables, define_all};
 use rb_core::program::Program;
-use rb_syntax::tree::FileTree;
+use rb_syntax::tree::{FileTree, ItemTree};
 use std::alloc::Global;
 
 /// The program of a tree: each name is replaced by the number of what it names. Types, functions,
@@ -71,24 +72,24 @@ pub fn resolve(alloc: Global, tree: &FileTree) -> Result<Program, NameFault>
     // the program of a file that was read is well numbered
     ensures well { (ts : List Token) → IsReadFile ts tree.now → IfOk result IsWellNumbered }
 {
-    number_file(alloc, tree)
-}
-
-// The program of a tree, or the first fault of its names: one that is defined twice, then one that
-// stands for nothing, then that no function is called `main`; or want of memory.
-fn number_file(alloc: Global, tree: &FileTree) -> Result<Program, NameFault>
-    ensures { AnswersNumbering result (program_of tree.now) }
-{
     let items = tree.items.as_slice();
     let tables = define_all(alloc, items)?;
-    let found = number_items(alloc, &tables, items)?;
-    let Some(main) = tables.functions.get(b"main".as_slice()) else {
-        return Err(NameFault::NoMain);
-    };
-    Ok(Program {
-        types: found.types,
-        layouts: found.layouts,
-        funs: found.functions,
-        main,
-    })
+    number_file(alloc, &tables, items)
+}
+
+// The program of a file's items by its tables, or the first fault of the names in them: one that
+// stands for nothing, then that no function is called `main`; or want of memory.
+fn number_file(alloc: Global, tables: &Tables, items: &[ItemTree]) -> Result<Program, NameFault>
+    ensures { AnswersNumbering result (numbered_program tables.now items.now) }
+{
+    let found = number_items(alloc, tables, items)?;
+    match tables.functions.get(b"main".as_slice()) {
+        None => Err(NameFault::NoMain),
+        Some(main) => Ok(Program {
+            types: found.types,
+            layouts: found.layouts,
+            funs: found.functions,
+            main,
+        }),
+    }
 }

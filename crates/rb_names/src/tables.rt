@@ -3,14 +3,14 @@
 //! the names of all types of the file, and a name that its table has already is the fault `Twice`.
 //! An `Err` may also be want of memory.
 
-ghost use Rattle.std.specs.Prelude.{◌≡◌, [], ◌∷◌, ◌++◌, List, Ok, Err, OnOk, IfOk, IfErr, map, length, false, is_some, ◌||◌};
+ghost use Rattle.std.specs.Prelude.{◌≡◌, [], ◌∷◌, ◌++◌, List, None, Ok, Err, OnOk, IfOk, IfErr, map, length, false, is_some, ◌||◌};
 ghost use Rattle.std.specs.List.{list_any};
 ghost use Rattle.std.specs.Str.{bytes_eq};
 ghost use Rattle.rb_syntax.specs.declared.tree.ItemTree.{ItemTree as Tree};
 ghost use Rattle.rb_syntax.specs.declared.tree.ItemTree.TheVariants.{Types};
 ghost use Rattle.rb_names.specs.declared.fault.NameFault.TheVariants.{Memory};
 ghost use Rattle.rb_names.specs.Answers.{AnswersNumbering};
-ghost use Rattle.rb_names.specs.inner.Defining.{AreAdded, AreKnown, HasNames, IsAgain, repeated_name, with_rest};
+ghost use Rattle.rb_names.specs.inner.Defining.{AreAdded, AreKnown, HasNames, IsAgain, nothing_defined, repeated_name, with_rest};
 ghost use Rattle.rb_names.specs.Definitions as spec;
 ghost use Rattle.rb_names.specs.Definitions.{Definition, OfFunction, constructor_definition, constructors_from, defined_twice, definitions, layout_definition, tables_of};
 ghost use Rattle.rb_names.specs.Numbering.{and_then};
@@ -38,6 +38,22 @@ pub struct Defining<'a> {
     pub laid: Table<'a, u32>,
 }
 
+impl<'a> Defining<'a> {
+    // The tables before any item.
+    fn new(alloc: Global) -> Self
+        ensures { result ≡ nothing_defined }
+    {
+        Defining {
+            tables: Tables {
+                types: Table::new(alloc),
+                constructors: Table::new(alloc),
+                functions: Table::new(alloc),
+            },
+            laid: Table::new(alloc),
+        }
+    }
+}
+
 /// The tables of a file, or the first name in it that is defined twice.
 ///
 /// # Errors
@@ -48,18 +64,29 @@ pub fn define_all<'a>(alloc: Global, items: &'a [ItemTree]) -> Result<Tables<'a>
         (and_then (no_twice (defined_twice items.now)) (λ done. Ok (tables_of items.now))) }
 {
     let types = type_names(alloc, items)?;
-    let mut known = Defining {
-        tables: Tables {
-            types: Table::new(alloc),
-            constructors: Table::new(alloc),
-            functions: Table::new(alloc),
-        },
-        laid: Table::new(alloc),
-    };
-    for item in items {
-        define_item(alloc, &types, item, &mut known)?;
-    }
+    let mut known = Defining::new(alloc);
+    define_items(alloc, &types, items, &mut known)?;
     Ok(known.tables)
+}
+
+// Goes through all items of a file, where `types` has the names of their types and nothing is
+// defined yet.
+fn define_items<'a>(
+    alloc: Global,
+    types: &Table<'a, u32>,
+    items: &'a [ItemTree],
+    known: &mut Defining<'a>,
+) -> Result<(), NameFault>
+    requires names { HasNames types.now (spec.type_names items.now) }
+    requires nothing { known.old ≡ nothing_defined }
+    ensures tables { OnOk result (known.new.tables ≡ tables_of items.now) }
+    ensures once { OnOk result (defined_twice items.now ≡ None) }
+    ensures again { IfErr result (λ e. AnswersNumbering {A = Unit {0}} (Err e) (no_twice (defined_twice items.now))) }
+{
+    for item in items {
+        define_item(alloc, types, item, known)?;
+    }
+    Ok(())
 }
 
 // The names of all types of a file, each with 0: a layout is of one of them, and may stand before

@@ -57,6 +57,10 @@ repeated_name there name = if there then Some name else None
 abbrev pub HasNames : {A : Type 0} → Table A → List Name → Type 0
 HasNames table names = (name : Name) → is_some (meaning table name) ≡ list_any (bytes_eq name) names
 
+-- the tables before any item
+abbrev pub nothing_defined : Defining
+nothing_defined = record { tables = record { types = []; constructors = []; functions = [] }; laid = [] }
+
 -- the tables t when the items that are left are gone through as well: new types and functions get the numbers that
 -- follow those of t
 abbrev pub with_rest : Tables → List ItemTree → Tables

@@ -11,26 +11,11 @@ use Rattle.rb_names.proofs.expression.+expression.Given as goal
 abbrev pub decreases-number_expression : goal.decreases-number_expression
 decreases-number_expression l = 4 * size-ExprTree l.tree.now + 1
 
-abbrev pub decreases-number_call : goal.decreases-number_call
-decreases-number_call l = 4 * most size-ExprTree l.args.now + 3
-
-abbrev pub decreases-number_build : goal.decreases-number_build
-decreases-number_build l = 4 * most size-ExprTree l.fields.now + 3
-
-abbrev pub decreases-number_binary : goal.decreases-number_binary
-decreases-number_binary l = 4 * max (size-ExprTree l.a.now) (size-ExprTree l.b.now) + 3
-
 abbrev pub decreases-number_let : goal.decreases-number_let
 decreases-number_let l = 4 * max (size-ExprTree l.a.now) (size-ExprTree l.b.now) + 4
 
-abbrev pub decreases-number_match : goal.decreases-number_match
-decreases-number_match l = 4 * max (size-ExprTree l.a.now) (most size-ClauseTree l.clauses.now) + 4
-
 abbrev pub decreases-number_boxed : goal.decreases-number_boxed
 decreases-number_boxed l = 4 * size-ExprTree l.tree.now + 2
-
-abbrev pub decreases-number_inside : goal.decreases-number_inside
-decreases-number_inside l = 4 * size-ExprTree l.tree.now + 3
 
 abbrev pub decreases-number_expressions : goal.decreases-number_expressions
 decreases-number_expressions l = 4 * most size-ExprTree l.trees.now + 2

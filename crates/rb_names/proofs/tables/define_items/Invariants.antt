@@ -2,7 +2,7 @@ use Rattle.std.proofs.Common.{◌≡◌, List, drop}
 use Rattle.std.specs.List.{flat_map}
 use Rattle.rb_names.specs.Definitions.{Definition, defined_twice, definitions, first_again, tables_of, type_names}
 use Rattle.rb_names.specs.inner.Defining.{AreKnown, with_rest}
-use Rattle.rb_names.proofs.tables.define_all.Given as goal
+use Rattle.rb_names.proofs.tables.define_items.Given as goal
 
 -- the items before are gone through
 abbrev pub invariant-loop-item : goal.invariant-loop-item
