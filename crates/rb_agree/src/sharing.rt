@@ -142,11 +142,14 @@ fn distinct(alloc: Global, heads: &[Option<u32>]) -> Result<usize, AllocError> {
     Ok(count)
 }
 
-// The path of a constructor in the first leaf's provenance at which the leaves have most different
-// constructors, so that it tells most of them apart; the root's where there is no leaf or no
-// constructor.
-fn telling_path(alloc: Global, leaves: &[Leaf]) -> Result<Seq<u32>, AllocError> {
-    let mut best = Seq::new(alloc);
+// For each leaf the number of the constructor at one path of its provenance; None where none stands
+// there. The path is that of a constructor in the first leaf's provenance at which the leaves have
+// most different constructors, so that it tells most of them apart; the root's where there is no
+// leaf or no constructor.
+fn telling_heads(alloc: Global, leaves: &[Leaf]) -> Result<Seq<Option<u32>>, AllocError>
+    ensures { IfOk result (AreHeads leaves.now) }
+{
+    let mut best = heads_in(alloc, &[], leaves)?;
     let Some(first) = leaves.get(0) else {
         return Ok(best);
     };
@@ -158,7 +161,7 @@ fn telling_path(alloc: Global, leaves: &[Leaf]) -> Result<Seq<u32>, AllocError> 
         let count = distinct(alloc, heads.as_slice())?;
         if count > most {
             most = count;
-            best = path.copy(alloc)?;
+            best = heads;
         }
     }
     Ok(best)
@@ -288,8 +291,7 @@ pub(crate) fn sharing_marks(
     ensures { IfOk result (ApartWhereOff types.now ty layout.now.leaves) }
 {
     let leaves = layout.leaves.as_slice();
-    let path = telling_path(alloc, leaves)?;
-    let heads = heads_in(alloc, path.as_slice(), leaves)?;
+    let heads = telling_heads(alloc, leaves)?;
     let groups = groups(alloc, heads.as_slice())?;
     let mut marks = Seq::new(alloc);
     for n in 0..leaves.len() {
