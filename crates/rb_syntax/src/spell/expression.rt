@@ -63,7 +63,9 @@ pub(crate) fn put_expr(
         ExprTree::To(_, bits, a) => put_conversion(alloc, out, *bits, a.get()),
         ExprTree::Let(_, name, ty, a, b) => put_let(alloc, out, name, ty, a.get(), b.get()),
         ExprTree::Match(_, scrutinee, clauses) => {
-            put_match(alloc, out, scrutinee.get(), clauses.as_slice())?;
+            put_clauses(alloc, out, clauses.as_slice())?;
+            put_expr(alloc, out, scrutinee.get())?;
+            put_word(out, ReservedWord::Match)?;
             Ok(())
         }
     }
@@ -134,25 +136,6 @@ fn put_let(
     put_symbol(out, Symbol::Colon)?;
     put_lower(alloc, out, name)?;
     put_word(out, ReservedWord::Let)?;
-    Ok(())
-}
-
-// Puts a match with its clauses, as `match a { p => e, q => f }`.
-#[cycle(expression)]
-fn put_match(
-    alloc: Global,
-    out: &mut Vec<Token>,
-    scrutinee: &ExprTree,
-    clauses: &[ClauseTree],
-) -> Result<(), AllocError>
-    ensures { OnOk result ((l : ℕ) → Wrote (λ rest. spelling.word_token word.Match
-        ∷ expr_written scrutinee.now l (spelling.sym symbol.OpenBrace
-        ∷ some_with comma (at_level l (map clause_written clauses.now))
-        (spelling.sym symbol.CloseBrace ∷ rest))) out.old.items out.new.items) }
-{
-    put_clauses(alloc, out, clauses)?;
-    put_expr(alloc, out, scrutinee)?;
-    put_word(out, ReservedWord::Match)?;
     Ok(())
 }
 

@@ -7,7 +7,7 @@ use Rattle.rb_syntax.specs.declared.token.ReservedWord.TheVariants as word
 use Rattle.rb_syntax.specs.Written.{Written, token, tokens_in, any_with, some_with}
 use Rattle.rb_syntax.specs.Spelling.{expr_step, expr_written, clause_written, lower_written, upper_written, ty_written, uint_written, at_level, comma, sym, word_token}
 use Rattle.rb_syntax.proofs.ListLemmas.{any-some, fields-none, fields-some, parts_from, part-first, part-later}
-use Rattle.rb_syntax.proofs.SpellingLemmas.{clause-is, expr-Build, expr-Call}
+use Rattle.rb_syntax.proofs.SpellingLemmas.{clause-is, expr-Build, expr-Call, expr-Match}
 use Rattle.rb_syntax.proofs.spell.expression.+expression.Goals as goal
 
 pub put_expr-returns-in_ok-put_lower-in-Call : goal.put_expr-returns-in_ok-put_lower-in-Call
@@ -39,6 +39,15 @@ put_expr-returns-in_ok-put_upper-in-len1-up t c l rest h =
     let some = ap (λ (xs : List ExprTree). tokens_in (upper_written c.in-Build.name (sym symbol.OpenParen ∷ any_with comma (at_level (suc l) (map expr_written xs)) closed))) same
     ∙ ap (λ (ws : List Written). tokens_in (upper_written c.in-Build.name ws)) (turned (fields-some expr_written (suc l) fields rest c.in-len1-up.len_at_least)) in
     rw e (rw (← c.as_slice-in-Build.ensures) (all ∙ some))
+
+pub put_expr-returns-in_ok-put_word-in-Match : goal.put_expr-returns-in_ok-put_word-in-Match
+put_expr-returns-in_ok-put_word-in-Match t c l rest h =
+    let opened = sym symbol.OpenBrace ∷ some_with comma (at_level (suc l) (map clause_written c.as_slice-in-Match.result.now)) (sym symbol.CloseBrace ∷ rest) in
+    let e : expr_written c.args.expr.now l rest ≡ expr_step (expr.Match c.in-Match.field-0 (expr_written c.in-Match.scrutinee) (map clause_written c.in-Match.clauses)) l rest =
+    ap (λ (x : ExprTree). expr_written x l rest) c.in-Match.is ∙ expr-Match c.in-Match.field-0 c.in-Match.scrutinee c.in-Match.clauses l rest in
+    let all = c.in_ok-put_word-in-Match.ensures (expr_written c.get-in-Match.result.now (suc l) opened)
+    (c.in_ok-put_expr-in-Match.ensures (suc l) opened (c.in_ok-put_clauses-in-Match.ensures (suc l) rest h)) in
+    rw e (rw (← c.get-in-Match.ensures) (rw (← c.as_slice-in-Match.ensures) all))
 
 pub put_binary-returns : goal.put_binary-returns
 put_binary-returns t c l rest h =

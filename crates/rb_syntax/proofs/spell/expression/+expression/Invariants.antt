@@ -19,9 +19,6 @@ decreases-put_conversion l = 4 * size-ExprTree l.a.now + 2
 abbrev pub decreases-put_let : goal.decreases-put_let
 decreases-put_let l = 4 * max (size-ExprTree l.a.now) (size-ExprTree l.b.now) + 2
 
-abbrev pub decreases-put_match : goal.decreases-put_match
-decreases-put_match l = 4 * max (size-ExprTree l.scrutinee.now) (most size-ClauseTree l.clauses.now) + 4
-
 abbrev pub decreases-put_args : goal.decreases-put_args
 decreases-put_args l = 4 * most size-ExprTree l.args.now + 3
 
