@@ -41,19 +41,9 @@ fn begins_expression(placed: &[Placed]) -> bool
         [] => false,
         [first, ..] => match first.token {
             Token::Upper(_) | Token::Lower(_) | Token::Num(_) => true,
-            Token::Reserved(word) => is_form(form_of(word)),
+            Token::Reserved(word) => !matches!(form_of(word), Form::Other),
             _ => false,
         },
-    }
-}
-
-// Whether a form is one of an expression, as all but `Other` are.
-fn is_form(form: Form) -> bool
-    ensures { result ≡ reading.is_form form }
-{
-    match form {
-        Form::Operation(_) | Form::Conversion | Form::Binding | Form::Matching => true,
-        Form::Other => false,
     }
 }
 

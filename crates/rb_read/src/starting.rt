@@ -7,6 +7,7 @@ use rb_core::expression::Op;
 use rb_syntax::token::ReservedWord;
 
 /// A form of expression that a reserved word begins.
+#[derive(Drop)]
 pub enum Form {
     /// This operation on two numbers.
     Operation(Op),
