@@ -10,9 +10,9 @@
 //! add(x, y)|7|7|127|15|14
 //! ```
 //!
-//! The answers to files were worked out from the language's pages, the bytes counted by hand: each refusal with its text
-//! and its status, for `check`, `layout` and `run`, each limit at its number and one over, and clauses that no value
-//! reaches. A row is a file, a `~`, and its answer: the status, and what is written.
+//! The answers to files were worked out from the language's pages, the bytes counted by hand: each refusal with its
+//! text and its status, for `check`, `layout` and `run`, each limit at its number and one over, and clauses that no
+//! value reaches. A row is a file, a `~`, and its answer: the status, and what is written.
 //!
 //! ```text
 //! type T = A | A; fun main(): u8 = 0;~2 ribbit: name A twice at byte 13;

@@ -11,19 +11,19 @@
 //! fun main(x: u8,~): u8 = x;
 //! ```
 //!
-//! The texts of images were written by hand from the grammar of an image, with numbers at their bounds or one past them,
-//! and hold the contract of `read_image_text` against it. A row is a text and what reading it gives: an image of so many
-//! root words and blocks, the byte at which no image goes on, or the first block that is out of its place. A number has
-//! no zero in front:
+//! The texts of images were written by hand from the grammar of an image, with numbers at their bounds or one past
+//! them, and hold the contract of `read_image_text` against it. A row is a text and what reading it gives: an image of
+//! so many root words and blocks, the byte at which no image goes on, or the first block that is out of its place. A
+//! number has no zero in front:
 //!
 //! ```text
 //! (b"root 0x01\n", Found::Syntax(8)),
 //! ```
 //!
 //! The proof of the compiler rests on the definition of what the source means, so that is held against programs whose
-//! results, logs and calls left were worked out by hand. A row has the calls that are allowed, how the run ends, and how
-//! many events its log has. The sum of `Cons(1, Cons(2, Nil))` takes four calls, and its log has an event for each of
-//! three matches:
+//! results, logs and calls left were worked out by hand. A row has the calls that are allowed, how the run ends, and
+//! how many events its log has. The sum of `Cons(1, Cons(2, Nil))` takes four calls, and its log has an event for each
+//! of three matches:
 //!
 //! ```text
 //! (4, Some((3, 0)), 3),
