@@ -1,21 +1,25 @@
 -- Expressions, form by form, from what is found of their parts: a fault of a part is the fault of the whole.
-use Rattle.std.proofs.Common.{◌≡◌, ℕ, List, map, Ok, Err, sym, ap, ◌∙◌, subst}
+use Rattle.std.proofs.Common.{◌≡◌, ℕ, suc, ◌+◌, List, ◌∷◌, map, Ok, Err, sym, ap, ◌∙◌, subst, add-one}
 use Rattle.std.specs.Result.{IsErrAnd}
 use Rattle.rb_core.specs.declared.expression.Op.{Op}
+use Rattle.rb_core.specs.declared.types.Ty.{Ty}
+use Rattle.rb_core.specs.declared.expression.Expr.{Expr}
 use Rattle.rb_core.specs.declared.expression.Expr as core
 use Rattle.rb_syntax.specs.declared.tree.NameTree.{NameTree}
+use Rattle.rb_syntax.specs.declared.tree.TyTree.{TyTree}
 use Rattle.rb_syntax.specs.declared.tree.ClauseTree.{ClauseTree}
 use Rattle.rb_syntax.specs.declared.tree.ExprTree.{ExprTree}
 use Rattle.rb_syntax.specs.declared.tree.ExprTree as X
+use Rattle.rb_syntax.specs.declared.tree.ExprTree.TheOpen as expr
 use Rattle.rb_names.specs.declared.fault.NameFault.{NameFault}
 use Rattle.rb_names.specs.declared.fault.NameFault.TheVariants.{Twice, Unknown, NoMain, Memory}
 use Rattle.rb_names.specs.declared.tables.Tables.{Tables}
 use Rattle.rb_names.specs.Tables.{meaning}
 use Rattle.rb_names.specs.Scopes.{Scope}
 use Rattle.rb_names.specs.Answers.{AnswersNumbering}
-use Rattle.rb_names.specs.Numbering.{Resolved, Numbered, and_then, name_found, numbered_as, in_turn, numbered_expression}
+use Rattle.rb_names.specs.Numbering.{Resolved, Numbered, and_then, name_found, numbered_as, in_turn, numbered_type, expr_step, numbered_expression}
 use Rattle.rb_names.specs.inner.Parts.{AnswersFrom, numbered_clause}
-use Rattle.rb_names.proofs.ExpressionEquations.{expr-Call, expr-Build, expr-Binary, expr-To, expr-Match}
+use Rattle.rb_names.proofs.ExpressionEquations.{expr-Num, expr-Var, expr-Let, expr-Call, expr-Build, expr-Binary, expr-To, expr-Match}
 
 through : {A B : Type 0} (fault : NameFault) (after : ℕ) (here : Resolved A) (gives : Resolved (Numbered B))
     → AnswersNumbering (Err fault) here → ((f : NameFault) → here ≡ Err f → gives ≡ Err f) → AnswersFrom (Err fault) after gives
@@ -71,8 +75,70 @@ module _ {A C : Type 0} (whole : A → C) where
   pub alone-found : (r : Resolved (Numbered A)) (a : Numbered A) → r ≡ Ok a → alone r ≡ numbered_as (whole a.what) a.next
   alone-found r a h = ap alone h
 
+-- a `let`
+module _ (t : Tables) (at : ℕ) (name : NameTree) (ty : TyTree) (a b : ExprTree) (scope : Scope) (next : ℕ) where
+  abbrev let_of : Resolved Ty → Resolved (Numbered Expr) → (ℕ → Resolved (Numbered Expr)) → Resolved (Numbered Expr)
+  let_of r s body = and_then r (λ u. and_then s (λ x. and_then (body x.next) (λ y. numbered_as (core.Let at next u x.what y.what) y.next)))
+
+  abbrev bound_in : Resolved (Numbered Expr)
+  bound_in = numbered_expression t a scope (suc next)
+
+  abbrev body_in : ℕ → Resolved (Numbered Expr)
+  body_in = numbered_expression t b ((name.text, next) ∷ scope)
+
+  abbrev let_whole : Resolved (Numbered Expr)
+  let_whole = expr_step t (expr.Let at name ty (numbered_expression t a) (numbered_expression t b)) scope next
+
+  pub type-fails : (f : NameFault) → numbered_type t ty ≡ Err f → let_whole ≡ Err f
+  type-fails f h = ap (λ r. let_of r bound_in body_in) h
+
+  -- the bound expression is numbered behind the variable
+  module _ (u : Ty) (typed : numbered_type t ty ≡ Ok u) (after : ℕ) (counted : after ≡ next + 1) where
+    bound-is : (r : Resolved (Numbered Expr)) → numbered_expression t a scope after ≡ r → let_whole ≡ let_of (Ok u) r body_in
+    bound-is r h =
+        ap (λ q. let_of q bound_in body_in) typed
+        ∙ ap (λ q. let_of (Ok u) q body_in) (ap (numbered_expression t a scope) (sym (counted ∙ add-one next)) ∙ h)
+
+    pub bound-fails : (f : NameFault) → numbered_expression t a scope after ≡ Err f → let_whole ≡ Err f
+    bound-fails f h = bound-is (Err f) h
+
+    -- and the body inside it
+    module _ (x : Numbered Expr) (bound : numbered_expression t a scope after ≡ Ok x) (var : ℕ) (is : var ≡ next) (inner : Scope) (opened : inner ≡ (name.text, var) ∷ scope) where
+      body-is : (r : Resolved (Numbered Expr)) → numbered_expression t b inner x.next ≡ r
+          → let_whole ≡ and_then r (λ y. numbered_as (core.Let at next u x.what y.what) y.next)
+      body-is r h =
+          bound-is (Ok x) bound
+          ∙ ap (λ q. and_then q (λ y. numbered_as (core.Let at next u x.what y.what) y.next))
+          (ap (λ s. numbered_expression t b s x.next) (sym (opened ∙ ap (λ n. (name.text, n) ∷ scope) is)) ∙ h)
+
+      pub body-fails : (f : NameFault) → numbered_expression t b inner x.next ≡ Err f → let_whole ≡ Err f
+      body-fails f h = body-is (Err f) h
+
+      pub let-found : (y : Numbered Expr) → numbered_expression t b inner x.next ≡ Ok y → let_whole ≡ numbered_as (core.Let at var u x.what y.what) y.next
+      let-found y h = body-is (Ok y) h ∙ ap (λ n. numbered_as (core.Let at n u x.what y.what) y.next) (sym is)
+
 -- the forms
 module _ (t : Tables) (tree : ExprTree) (scope : Scope) (next : ℕ) where
+  pub is-Num : (at n : ℕ) → tree ≡ X.Num at n → numbered_expression t tree scope next ≡ numbered_as (core.Num at n) next
+  is-Num at n is = ap (λ (e : ExprTree). numbered_expression t e scope next) is ∙ expr-Num t at n scope next
+
+  -- a variable
+  module _ (at : ℕ) (name : NameTree) (is : tree ≡ X.Var at name) where
+    var-is : (r : Resolved ℕ) → name_found name (meaning scope name.text) ≡ r → numbered_expression t tree scope next ≡ and_then r (λ x. numbered_as (core.Var at x) next)
+    var-is r h =
+        ap (λ (e : ExprTree). numbered_expression t e scope next) is ∙ expr-Var t at name scope next
+        ∙ ap (λ q. and_then q (λ x. numbered_as (core.Var at x) next)) h
+
+    pub var-fails : (f : NameFault) → name_found name (meaning scope name.text) ≡ Err f → numbered_expression t tree scope next ≡ Err f
+    var-fails f h = var-is (Err f) h
+
+    pub var-found : (x : ℕ) → name_found name (meaning scope name.text) ≡ Ok x → numbered_expression t tree scope next ≡ numbered_as (core.Var at x) next
+    var-found x h = var-is (Ok x) h
+
+  pub is-Let : (at : ℕ) (name : NameTree) (ty : TyTree) (a b : ExprTree) → tree ≡ X.Let at name ty a b
+      → numbered_expression t tree scope next ≡ expr_step t (expr.Let at name ty (numbered_expression t a) (numbered_expression t b)) scope next
+  is-Let at name ty a b is = ap (λ (e : ExprTree). numbered_expression t e scope next) is ∙ expr-Let t at name ty a b scope next
+
   pub is-Call : (at : ℕ) (name : NameTree) (es : List ExprTree) → tree ≡ X.Call at name es
       → numbered_expression t tree scope next ≡ named (core.Call at) (name_found name (meaning t.functions name.text)) (in_turn (map (numbered_expression t) es) scope next)
   is-Call at name es is = ap (λ (e : ExprTree). numbered_expression t e scope next) is ∙ expr-Call t at name es scope next

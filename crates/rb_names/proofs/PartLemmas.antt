@@ -1,5 +1,5 @@
 -- Clauses, layouts and functions, from what is found of their parts.
-use Rattle.std.proofs.Common.{◌≡◌, ℕ, ◌+◌, List, [], map, length, Option, Some, None, Ok, Err, refl, sym, ap, ◌∙◌, subst, arith}
+use Rattle.std.proofs.Common.{◌≡◌, ℕ, ◌+◌, List, [], map, length, Option, Some, None, option_map, Ok, Err, refl, sym, ap, ◌∙◌, subst, arith}
 use Rattle.rb_core.specs.declared.types.Ty.{Ty}
 use Rattle.rb_core.specs.declared.pattern.Pat.{Pat}
 use Rattle.rb_core.specs.declared.expression.Expr.{Expr}
@@ -9,13 +9,16 @@ use Rattle.rb_core.specs.declared.program.Param.{Param}
 use Rattle.rb_core.specs.declared.layout_decl.Arm.{Arm}
 use Rattle.rb_core.specs.declared.layout_decl.LayItem.{LayItem}
 use Rattle.rb_core.specs.declared.layout_decl.LayTree.{LayTree}
+use Rattle.rb_core.specs.declared.layout_decl.LayTree as core_tree
+use Rattle.rb_core.specs.declared.layout_decl.Loc.{Loc}
 use Rattle.rb_syntax.specs.declared.tree.PatTree.{PatTree}
 use Rattle.rb_syntax.specs.declared.tree.ClauseTree.{ClauseTree}
 use Rattle.rb_syntax.specs.declared.tree.FunTree.{FunTree}
 use Rattle.rb_syntax.specs.declared.tree.SplitTree.{SplitTree}
 use Rattle.rb_syntax.specs.declared.tree.SplitTree as S
 use Rattle.rb_syntax.specs.declared.tree.SplitTree.TheOpen as split
-use Rattle.rb_syntax.specs.declared.tree.SplitTree.TheFolds.{fold-roll-SplitTree}
+use Rattle.rb_syntax.specs.declared.tree.SplitTree.TheFolds.{fold-roll-SplitTree, fold_out-ArmTree}
+use Rattle.rb_syntax.specs.declared.tree.ArmTree.{ArmTree}
 use Rattle.rb_names.specs.declared.fault.NameFault.{NameFault}
 use Rattle.rb_names.specs.declared.tables.Tables.{Tables}
 use Rattle.rb_syntax.specs.declared.tree.ParamTree.{ParamTree}
@@ -24,20 +27,58 @@ use Rattle.rb_names.specs.Scopes.{Scope, inside, binders_of, param_binders}
 use Rattle.rb_names.specs.inner.Frames.{scope_of}
 use Rattle.rb_syntax.specs.declared.tree.NameTree.{NameTree}
 use Rattle.rb_names.specs.Programs.{no_twice}
-use Rattle.rb_names.specs.Numbering.{Resolved, and_then, Numbered, Numbering, all_of, numbered_pattern, numbered_expression, numbered_param, numbered_type, numbered_function, split_step, arm_step, numbered_split}
+use Rattle.rb_names.specs.Numbering.{Resolved, and_then, Numbered, Numbering, all_of, numbered_pattern, numbered_expression, numbered_param, numbered_type, function_in_scope, numbered_function, numbered_else, split_step, arm_step, numbered_split}
 use Rattle.rb_names.specs.Answers.{AnswersNumbering}
-use Rattle.rb_names.specs.inner.Parts.{numbered_clause, numbered_within}
+use Rattle.rb_names.specs.inner.Parts.{numbered_arm, numbered_clause}
 use Rattle.rb_names.proofs.ExpressionEquations.{clause-is}
 
 module _ (t : Tables) where
-  split-Leaf : (at : ℕ) (p : PatTree) (items : List LayItem) → numbered_split t (S.Leaf at p items) ≡ split_step t (split.Leaf at p items)
+  pub numbered-Leaf : (at : ℕ) (p : PatTree) (items : List LayItem) → numbered_split t (S.Leaf at p items) ≡ split_step t (split.Leaf at p items)
   unfolding S.roll-SplitTree denote.Hole.Carrier.roll
-  split-Leaf at p items = fold-roll-SplitTree (Resolved LayTree) (Resolved Arm) (split_step t) arm_step (split.Leaf at p items)
+  numbered-Leaf at p items = fold-roll-SplitTree (Resolved LayTree) (Resolved Arm) (split_step t) arm_step (split.Leaf at p items)
+
+  pub numbered-Split : (loc : Loc) (arms : List ArmTree) (other : Option SplitTree)
+      → numbered_split t (S.Split loc arms other) ≡ split_step t (split.Split loc (map (numbered_arm t) arms) (option_map (numbered_split t) other))
+  unfolding S.roll-SplitTree denote.Hole.Carrier.roll
+  numbered-Split loc arms None = fold-roll-SplitTree (Resolved LayTree) (Resolved Arm) (split_step t) arm_step (split.Split loc arms None)
+  numbered-Split loc arms (Some other) = fold-roll-SplitTree (Resolved LayTree) (Resolved Arm) (split_step t) arm_step (split.Split loc arms (Some other))
+
+  pub numbered-arm : (a : ArmTree) → numbered_arm t a ≡ arm_step (record { literal = a.literal; under = numbered_split t a.under })
+  numbered-arm a = fold_out-ArmTree (Resolved LayTree) (Resolved Arm) (split_step t) arm_step a
+
+  pub arm-fails : (a : ArmTree) (f : NameFault) → numbered_split t a.under ≡ Err f → numbered_arm t a ≡ Err f
+  arm-fails a f h = numbered-arm a ∙ ap (λ r. arm_step (record { literal = a.literal; under = r })) h
+
+  pub arm-found : (a : ArmTree) (u : LayTree) → numbered_split t a.under ≡ Ok u → numbered_arm t a ≡ Ok (record { literal = a.literal; under = u })
+  arm-found a u h = numbered-arm a ∙ ap (λ r. arm_step (record { literal = a.literal; under = r })) h
+
+  -- a split, from what is found of its arms and its `else`
+  module _ (tree : SplitTree) (loc : Loc) (arms seen : List ArmTree) (other : Option SplitTree) (is : tree ≡ S.Split loc arms other) (same : seen ≡ arms) where
+    abbrev parts : Resolved (List Arm) → Resolved (Option LayTree) → Resolved LayTree
+    parts r s = and_then r (λ xs. and_then s (λ o. Ok (core_tree.Split loc xs o)))
+
+    split-is : numbered_split t tree ≡ parts (all_of (map (numbered_arm t) seen)) (numbered_else (option_map (numbered_split t) other))
+    split-is =
+        ap (numbered_split t) is ∙ numbered-Split loc arms other
+        ∙ ap (λ us. parts (all_of (map (numbered_arm t) us)) (numbered_else (option_map (numbered_split t) other))) (sym same)
+
+    pub arms-fail : (f : NameFault) → all_of (map (numbered_arm t) seen) ≡ Err f → numbered_split t tree ≡ Err f
+    arms-fail f h = split-is ∙ ap (λ r. parts r (numbered_else (option_map (numbered_split t) other))) h
+
+    module _ (xs : List Arm) (found : all_of (map (numbered_arm t) seen) ≡ Ok xs) where
+      arms-found : (r : Resolved (Option LayTree)) → numbered_else (option_map (numbered_split t) other) ≡ r → numbered_split t tree ≡ parts (Ok xs) r
+      arms-found r h = split-is ∙ ap (λ q. parts q (numbered_else (option_map (numbered_split t) other))) found ∙ ap (parts (Ok xs)) h
+
+      pub other-fails : (f : NameFault) → numbered_else (option_map (numbered_split t) other) ≡ Err f → numbered_split t tree ≡ Err f
+      other-fails f h = arms-found (Err f) h
+
+      pub split-found : (o : Option LayTree) → numbered_else (option_map (numbered_split t) other) ≡ Ok o → numbered_split t tree ≡ Ok (core_tree.Split loc xs o)
+      split-found o h = arms-found (Ok o) h
 
   pub leaf-answers : (r : Resolved LayTree) (tree : SplitTree) (at : ℕ) (p : PatTree) (items seen : List LayItem) → tree ≡ S.Leaf at p items → seen ≡ items
       → AnswersNumbering r (split_step t (split.Leaf at p seen)) → AnswersNumbering r (numbered_split t tree)
   leaf-answers r tree at p items seen is same h =
-      subst (AnswersNumbering r) (ap (λ us. split_step t (split.Leaf at p us)) same ∙ sym (split-Leaf at p items) ∙ sym (ap (numbered_split t) is)) h
+      subst (AnswersNumbering r) (ap (λ us. split_step t (split.Leaf at p us)) same ∙ sym (numbered-Leaf at p items) ∙ sym (ap (numbered_split t) is)) h
 
   -- a clause whose pattern's variables are in this scope
   module _ (c : ClauseTree) (scope inner : Scope) (next after : ℕ) (opened : inner ≡ inside (binders_of c.pat) next scope) (counted : after ≡ next + length (binders_of c.pat)) where
@@ -64,17 +105,17 @@ module _ (t : Tables) where
   -- a function within the scope of its parameters
   module _ (f : FunTree) (scope : Scope) (next : ℕ) where
     pub function-body : (ps : List Param) (u : Ty) (e : NameFault) → all_of (map (numbered_param t scope) f.params) ≡ Ok ps → numbered_type t f.result ≡ Ok u
-        → numbered_expression t f.body scope next ≡ Err e → numbered_within t scope next f ≡ Err e
+        → numbered_expression t f.body scope next ≡ Err e → function_in_scope t scope next f ≡ Err e
     function-body ps u e h r g = rw (h, r, g) refl
 
     pub function-found : (ps : List Param) (u : Ty) (e : Numbered Expr) → all_of (map (numbered_param t scope) f.params) ≡ Ok ps → numbered_type t f.result ≡ Ok u
-        → numbered_expression t f.body scope next ≡ Ok e → numbered_within t scope next f ≡ Ok (record { name = f.name.text; params = ps; result = u; body = e.what })
+        → numbered_expression t f.body scope next ≡ Ok e → function_in_scope t scope next f ≡ Ok (record { name = f.name.text; params = ps; result = u; body = e.what })
     function-found ps u e h r g = rw (h, r, g) refl
 
     pub function-within : (r : Resolved Fun) → scope ≡ inside (param_binders f.params) 0 [] → next ≡ length (param_binders f.params)
-        → AnswersNumbering r (numbered_within t scope next f) → AnswersNumbering r (numbered_function t f)
+        → AnswersNumbering r (function_in_scope t scope next f) → AnswersNumbering r (numbered_function t f)
     function-within r opened counted h =
-        subst (AnswersNumbering r) (ap (λ s. numbered_within t s next f) opened ∙ ap (λ n. numbered_within t (inside (param_binders f.params) 0 []) n f) counted) h
+        subst (AnswersNumbering r) (ap (λ s. function_in_scope t s next f) opened ∙ ap (λ n. function_in_scope t (inside (param_binders f.params) 0 []) n f) counted) h
 
 -- A file with these tables, or one that defines a name twice.
 pub tables-found : {A : Type 0} (r : Resolved A) (twice : Option NameTree) (all found : Tables) (go : Tables → Resolved A)

@@ -25,16 +25,15 @@ use Rattle.rb_syntax.specs.declared.tree.PatTree.{PatTree}
 use Rattle.rb_syntax.specs.declared.tree.ArmTree.{ArmTree}
 use Rattle.rb_syntax.specs.declared.tree.SplitTree.{SplitTree}
 use Rattle.rb_syntax.specs.declared.tree.SplitTree as S
-use Rattle.rb_syntax.specs.declared.tree.SplitTree.TheOpen as split
-use Rattle.rb_syntax.specs.declared.tree.SplitTree.TheFolds.{fold-roll-SplitTree, fold_out-ArmTree}
 use Rattle.rb_syntax.specs.declared.tree.LayoutTree.{LayoutTree}
 use Rattle.rb_syntax.specs.Written.{Written, Writing, token, number, node, tokens_in, each, some_with}
 use Rattle.rb_syntax.specs.Spelling.{comma, prov_written, loc_step_written, loc_written, lay_item_written, split_written, arm_written, width_written, layout_written}
 use Rattle.rb_syntax.proofs.SpellingLemmas.{arm-is, split-Leaf, split-None, split-Some}
 use Rattle.rb_names.specs.declared.tables.Tables.{Tables}
 use Rattle.rb_names.specs.Tables.{Name, meaning}
-use Rattle.rb_names.specs.Numbering.{Resolved, and_then, all_of, name_found, numbered_pattern, numbered_else, split_step, arm_step, numbered_split, numbered_layout}
+use Rattle.rb_names.specs.Numbering.{Resolved, all_of, name_found, numbered_pattern, numbered_else, numbered_split, numbered_layout}
 use Rattle.rb_names.specs.inner.Parts.{numbered_arm}
+use Rattle.rb_names.proofs.PartLemmas.{numbered-Leaf, numbered-Split, numbered-arm}
 use Rattle.rb_names.proofs.Rising.{Right}
 use Rattle.rb_names.proofs.Inverting.{then-ok, known-ok, ok-is}
 use Rattle.rb_core.proofs.LayoutInduction as lay-items
@@ -44,25 +43,6 @@ use Rattle.rb_names.proofs.WellProvenances.{at_level-of, short-of, provenance-we
 use Rattle.rb_names.proofs.WellLeaves.{leaf-well}
 
 -- Trees in layers.
-
-module _ (t : Tables) where
-  numbered-Leaf : (at : ℕ) (prov : PatTree) (items : List LayItem)
-      → numbered_split t (S.Leaf at prov items) ≡ and_then (numbered_pattern t [] prov) (λ p. Ok (L.Leaf at p items))
-  unfolding S.roll-SplitTree denote.Hole.Carrier.roll
-  numbered-Leaf at prov items = fold-roll-SplitTree (Resolved LayTree) (Resolved Arm) (split_step t) arm_step (split.Leaf at prov items)
-
-  numbered-None : (loc : Loc) (arms : List ArmTree)
-      → numbered_split t (S.Split loc arms None) ≡ split_step t (split.Split loc (map (numbered_arm t) arms) None)
-  unfolding S.roll-SplitTree denote.Hole.Carrier.roll
-  numbered-None loc arms = fold-roll-SplitTree (Resolved LayTree) (Resolved Arm) (split_step t) arm_step (split.Split loc arms None)
-
-  numbered-Some : (loc : Loc) (arms : List ArmTree) (other : SplitTree)
-      → numbered_split t (S.Split loc arms (Some other)) ≡ split_step t (split.Split loc (map (numbered_arm t) arms) (Some (numbered_split t other)))
-  unfolding S.roll-SplitTree denote.Hole.Carrier.roll
-  numbered-Some loc arms other = fold-roll-SplitTree (Resolved LayTree) (Resolved Arm) (split_step t) arm_step (split.Split loc arms (Some other))
-
-  numbered-arm : (a : ArmTree) → numbered_arm t a ≡ and_then (numbered_split t a.under) (λ u. Ok (record { literal = a.literal; under = u }))
-  numbered-arm a = fold_out-ArmTree (Resolved LayTree) (Resolved Arm) (split_step t) arm_step a
 
 abbrev pub tree_short : LayTree → Bool
 tree_short = fold-LayTree Bool Bool tree_step arm_is_short
@@ -247,7 +227,7 @@ module _ (total : ℕ) (small : total < 2 ^ 32) (types : List DataDecl) (t : Tab
       is-as total SplitTree LayTree (numbered_split t) leaf_count IsTree (tree_at l) (S.Split loc arms None) rest (opened l loc inner) e
       (off-token total _ _ a.right) (omega (arith, p.shorter, a.count))
       (λ b k.
-      let f = then-ok (all_of (map (numbered_arm t) arms)) _ b (sym (numbered-None t loc arms) ∙ k) in
+      let f = then-ok (all_of (map (numbered_arm t) arms)) _ b (sym (numbered-Split t loc arms None) ∙ k) in
       let v = a.well f.0 f.1 in
       let few : length f.0 ≤ total = omega (arith, v.same, a.count, p.right.fits) in
       let m = arms-short f.0 few v.good in
@@ -276,7 +256,7 @@ module _ (total : ℕ) (small : total < 2 ^ 32) (types : List DataDecl) (t : Tab
       is-as total SplitTree LayTree (numbered_split t) leaf_count IsTree (tree_at l) (S.Split loc arms (Some other)) rest (opened l loc inner) e
       (off-token total _ _ x.right) (omega (arith, p.shorter, a.count, x.shorter))
       (λ b k.
-      let f = then-ok (all_of (map (numbered_arm t) arms)) _ b (sym (numbered-Some t loc arms other) ∙ k) in
+      let f = then-ok (all_of (map (numbered_arm t) arms)) _ b (sym (numbered-Split t loc arms (Some other)) ∙ k) in
       let g = then-ok (numbered_else (Some (numbered_split t other))) _ b f.2 in
       let j = then-ok (numbered_split t other) _ g.0 g.1 in
       let v = a.well f.0 f.1 in

@@ -162,13 +162,17 @@ numbered_param t scope p =
     and_then (numbered_type t p.ty) (λ u. and_then (name_found p.var (meaning scope p.var.text))
     (λ x. Ok (record { at = p.at; var = x; ty = u })))
 
+-- a function, given the scope of its parameters and the number of the binder behind them
+abbrev pub function_in_scope : Tables → Scope → ℕ → FunTree → Resolved Fun
+function_in_scope t scope next f =
+    and_then (all_of (map (numbered_param t scope) f.params)) (λ ps. and_then (numbered_type t f.result) (λ u.
+    and_then (numbered_expression t f.body scope next) (λ e.
+    Ok (record { name = f.name.text; params = ps; result = u; body = e.what }))))
+
 -- a function: its parameters are its first binders, from number 0 on, and are the scope of its body
 abbrev pub numbered_function : Tables → FunTree → Resolved Fun
 numbered_function t f =
-    let scope = inside (param_binders f.params) 0 [] in
-    and_then (all_of (map (numbered_param t scope) f.params)) (λ ps. and_then (numbered_type t f.result) (λ u.
-    and_then (numbered_expression t f.body scope (length (param_binders f.params))) (λ e.
-    Ok (record { name = f.name.text; params = ps; result = u; body = e.what }))))
+    function_in_scope t (inside (param_binders f.params) 0 []) (length (param_binders f.params)) f
 
 -- the tree below the `else` of a split as it was numbered, or its fault; none where there is no `else`
 abbrev pub numbered_else : Option (Resolved LayTree) → Resolved (Option LayTree)

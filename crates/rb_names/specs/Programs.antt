@@ -52,11 +52,14 @@ abbrev pub main_number : Option ℕ → Resolved ℕ
 main_number None = Err NoMain
 main_number (Some n) = Ok n
 
--- The program of a file's tree, or its first fault: first a name that is defined twice is looked for, then one that
--- stands for nothing, then `main`.
+-- the program of a file's items by its tables, or their first fault: a name that stands for nothing, then that there
+-- is no `main`
+abbrev pub program_by_tables : Tables → List ItemTree → Resolved Program
+program_by_tables t items =
+    and_then (numbered_items t items) (λ all. and_then (main_number (meaning t.functions (codes "main"))) (λ main.
+    Ok (record { types = all.types; layouts = all.layouts; funs = all.functions; main = main })))
+
+-- the program of a file's tree, or its first fault: a name that is defined twice is looked for before all else
 abbrev pub program_of : FileTree → Resolved Program
 program_of file =
-    let t = tables_of file.items in
-    and_then (no_twice (defined_twice file.items)) (λ done. and_then (numbered_items t file.items) (λ all.
-    and_then (main_number (meaning t.functions (codes "main"))) (λ main.
-    Ok (record { types = all.types; layouts = all.layouts; funs = all.functions; main = main }))))
+    and_then (no_twice (defined_twice file.items)) (λ done. program_by_tables (tables_of file.items) file.items)

@@ -10,7 +10,7 @@ ghost use Rattle.rb_names.specs.inner.Parts.{AnswersFrom, numbered_clause};
 ghost use Rattle.rb_names.specs.Numbering.{expr_step, in_turn, numbered_expression};
 ghost use Rattle.rb_names.specs.inner.Frames.{scope_of};
 
-use crate::fault::{NameFault, known_or_fault};
+use crate::fault::NameFault;
 use crate::frame::fresh;
 use crate::pattern::{enter_pattern, number_pattern};
 use crate::scope::Scope;
@@ -43,33 +43,33 @@ pub fn number_expression<'a>(
     match tree {
         ExprTree::Num(at, n) => Ok(Expr::Num(*at, *n)),
         ExprTree::Var(at, name) => {
-            let var = known_or_fault(alloc, name, scope.get(name.text.as_slice()))?;
+            let var = scope.known(alloc, name)?;
             Ok(Expr::Var(*at, var))
         }
         ExprTree::Call(at, name, args) => {
-            let fun = known_or_fault(alloc, name, tables.functions.get(name.text.as_slice()))?;
+            let fun = tables.functions.known(alloc, name)?;
             let args = number_expressions(alloc, tables, args.as_slice(), scope, next)?;
             Ok(Expr::Call(*at, fun, args))
         }
         ExprTree::Build(at, name, fields) => {
-            let con = known_or_fault(alloc, name, tables.constructors.get(name.text.as_slice()))?;
+            let con = tables.constructors.known(alloc, name)?;
             let fields = number_expressions(alloc, tables, fields.as_slice(), scope, next)?;
             Ok(Expr::Build(*at, con, fields))
         }
         ExprTree::Binary(at, op, a, b) => {
-            let first = number_boxed(alloc, tables, a.get(), scope, next)?;
-            let second = number_boxed(alloc, tables, b.get(), scope, next)?;
+            let first = number_boxed(alloc, tables, a, scope, next)?;
+            let second = number_boxed(alloc, tables, b, scope, next)?;
             Ok(Expr::Binary(*at, *op, first, second))
         }
         ExprTree::To(at, bits, a) => {
-            let inner = number_boxed(alloc, tables, a.get(), scope, next)?;
+            let inner = number_boxed(alloc, tables, a, scope, next)?;
             Ok(Expr::To(*at, *bits, inner))
         }
         ExprTree::Let(at, name, ty, a, b) => {
-            number_let(alloc, tables, *at, name, ty, a.get(), b.get(), scope, next)
+            number_let(alloc, tables, *at, name, ty, a, b, scope, next)
         }
         ExprTree::Match(at, a, clauses) => {
-            let scrutinee = number_boxed(alloc, tables, a.get(), scope, next)?;
+            let scrutinee = number_boxed(alloc, tables, a, scope, next)?;
             let clauses = number_clauses(alloc, tables, clauses.as_slice(), scope, next)?;
             Ok(Expr::Match(*at, scrutinee, clauses))
         }
@@ -84,8 +84,8 @@ fn number_let<'a>(
     at: u32,
     name: &'a NameTree,
     ty: &TyTree,
-    a: &'a ExprTree,
-    b: &'a ExprTree,
+    a: &'a Boxed<ExprTree>,
+    b: &'a Boxed<ExprTree>,
     scope: &mut Scope<'a>,
     next: &mut u32,
 ) -> Result<Expr, NameFault>
@@ -104,12 +104,12 @@ fn number_let<'a>(
     Ok(Expr::Let(at, var, ty, bound, body))
 }
 
-// The expression of a tree, in a box.
+// The expression of a tree in a box, in a box of its own.
 #[cycle(expression)]
 fn number_boxed<'a>(
     alloc: Global,
     tables: &Tables,
-    tree: &'a ExprTree,
+    tree: &'a Boxed<ExprTree>,
     scope: &mut Scope<'a>,
     next: &mut u32,
 ) -> Result<Boxed<Expr>, NameFault>
@@ -117,7 +117,7 @@ fn number_boxed<'a>(
         (numbered_expression tables.now tree.now (scope_of scope.old) next.old) }
     ensures scope { OnOk result (scope.new ≡ scope.old) }
 {
-    let expr = number_expression(alloc, tables, tree, scope, next)?;
+    let expr = number_expression(alloc, tables, tree.get(), scope, next)?;
     Ok(Boxed::new(alloc, expr)?)
 }
 

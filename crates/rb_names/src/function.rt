@@ -5,13 +5,12 @@
 ghost use Rattle.std.specs.Prelude.{◌≡◌, ◌+◌, length, map, OnOk, IfErr};
 ghost use Rattle.rb_names.specs.declared.fault.NameFault.TheVariants.{Memory};
 ghost use Rattle.rb_names.specs.Answers.{AnswersNumbering};
-ghost use Rattle.rb_names.specs.Numbering.{all_of, numbered_function, numbered_param};
+ghost use Rattle.rb_names.specs.Numbering.{all_of, function_in_scope, numbered_function, numbered_param};
 ghost use Rattle.rb_names.specs.Scopes.{inside, param_binders};
 ghost use Rattle.rb_names.specs.inner.Frames.{scope_of, with_binders};
-ghost use Rattle.rb_names.specs.inner.Parts.{numbered_within};
 
 use crate::expression::number_expression;
-use crate::fault::{NameFault, known_or_fault};
+use crate::fault::NameFault;
 use crate::frame::Frame;
 use crate::scope::Scope;
 use crate::tables::Tables;
@@ -43,7 +42,7 @@ fn number_within<'a>(
     scope: &mut Scope<'a>,
     next: &mut u32,
 ) -> Result<Fun, NameFault>
-    ensures { AnswersNumbering result (numbered_within tables.now (scope_of scope.old) next.old tree.now) }
+    ensures { AnswersNumbering result (function_in_scope tables.now (scope_of scope.old) next.old tree.now) }
 {
     let params = number_params(alloc, tables, scope, tree.params.as_slice())?;
     let result = number_type(alloc, tables, &tree.result)?;
@@ -99,7 +98,7 @@ fn number_param(
     ensures { AnswersNumbering result (numbered_param tables.now (scope_of scope.now) tree.now) }
 {
     let ty = number_type(alloc, tables, &tree.ty)?;
-    let var = known_or_fault(alloc, &tree.var, scope.get(tree.var.text.as_slice()))?;
+    let var = scope.known(alloc, &tree.var)?;
     Ok(Param {
         at: tree.at,
         var,

@@ -9,7 +9,7 @@ ghost use Rattle.rb_names.specs.Answers.{AnswersNumbering};
 ghost use Rattle.rb_names.specs.inner.Joining.{behind_items};
 ghost use Rattle.rb_names.specs.Programs.{numbered_items};
 
-use crate::fault::{NameFault, known_or_fault};
+use crate::fault::NameFault;
 use crate::function::number_function;
 use crate::layout::number_layout;
 use crate::tables::Tables;
@@ -80,7 +80,7 @@ fn number_item(
             Ok(())
         }
         ItemTree::Derived(name, _) => {
-            known_or_fault(alloc, name, tables.types.get(name.text.as_slice()))?;
+            tables.types.known(alloc, name)?;
             Ok(())
         }
     }

@@ -9,7 +9,7 @@ ghost use Rattle.rb_names.specs.Answers.{AnswersNumbering};
 ghost use Rattle.rb_names.specs.Numbering.{all_of, numbered_else, numbered_layout, numbered_split, split_step};
 ghost use Rattle.rb_names.specs.inner.Parts.{numbered_arm};
 
-use crate::fault::{NameFault, known_or_fault};
+use crate::fault::NameFault;
 use crate::pattern::number_pattern;
 use crate::scope::Scope;
 use crate::tables::Tables;
@@ -32,7 +32,7 @@ pub fn number_layout(
 ) -> Result<LayoutDecl, NameFault>
     ensures { AnswersNumbering result (numbered_layout tables.now tree.now) }
 {
-    let ty = known_or_fault(alloc, &tree.ty, tables.types.get(tree.ty.text.as_slice()))?;
+    let ty = tables.types.known(alloc, &tree.ty)?;
     let under = number_split(alloc, tables, &tree.tree)?;
     let shape = tree.shape.copy(alloc)?;
     Ok(LayoutDecl {

@@ -32,9 +32,8 @@ ghost use Rattle.std.specs.Prelude.{List, IfOk};
 ghost use Rattle.rb_core.specs.WellNumbered.{IsWellNumbered};
 ghost use Rattle.rb_syntax.specs.declared.token.Token.{Token};
 ghost use Rattle.rb_names.specs.Answers.{AnswersNumbering};
-ghost use Rattle.rb_names.specs.Programs.{program_of};
+ghost use Rattle.rb_names.specs.Programs.{program_by_tables, program_of};
 ghost use Rattle.rb_names.specs.Written.{IsReadFile};
-ghost use Rattle.rb_names.specs.inner.Parts.{numbered_program};
 
 pub mod complete;
 mod derivation;
@@ -80,7 +79,7 @@ pub fn resolve(alloc: Global, tree: &FileTree) -> Result<Program, NameFault>
 // The program of a file's items by its tables, or the first fault of the names in them: one that
 // stands for nothing, then that no function is called `main`; or want of memory.
 fn number_file(alloc: Global, tables: &Tables, items: &[ItemTree]) -> Result<Program, NameFault>
-    ensures { AnswersNumbering result (numbered_program tables.now items.now) }
+    ensures { AnswersNumbering result (program_by_tables tables.now items.now) }
 {
     let found = number_items(alloc, tables, items)?;
     match tables.functions.get(b"main".as_slice()) {

@@ -10,7 +10,7 @@ ghost use Rattle.rb_names.specs.Numbering.{all_of, numbered_pattern};
 ghost use Rattle.rb_names.specs.Scopes.{binders_of, inside, names_in};
 ghost use Rattle.rb_names.specs.inner.Frames.{scope_of, with_binders};
 
-use crate::fault::{NameFault, known_or_fault};
+use crate::fault::NameFault;
 use crate::frame::Frame;
 use crate::scope::Scope;
 use crate::tables::Tables;
@@ -95,11 +95,11 @@ pub fn number_pattern(
         PatTree::Wild(at) => Ok(Pat::Wild(*at)),
         PatTree::Num(at, n) => Ok(Pat::Num(*at, *n)),
         PatTree::Var(at, name) => {
-            let var = known_or_fault(alloc, name, scope.get(name.text.as_slice()))?;
+            let var = scope.known(alloc, name)?;
             Ok(Pat::Var(*at, var))
         }
         PatTree::Con(at, name, trees) => {
-            let con = known_or_fault(alloc, name, tables.constructors.get(name.text.as_slice()))?;
+            let con = tables.constructors.known(alloc, name)?;
             let pats = number_patterns(alloc, tables, scope, trees.as_slice())?;
             Ok(Pat::Con(*at, con, pats))
         }

@@ -2,11 +2,15 @@
 //! function. A frame has the binders of one pattern, one list of parameters or one `let`.
 
 ghost use Rattle.std.specs.Prelude.{◌≡◌, [], ◌∷◌, drop, reverse, OnOk};
+ghost use Rattle.rb_names.specs.Answers.{AnswersNumbering};
+ghost use Rattle.rb_names.specs.Numbering.{name_found};
 ghost use Rattle.rb_names.specs.Tables.{meaning};
 ghost use Rattle.rb_names.specs.inner.Frames.{scope_of};
 
+use crate::fault::{NameFault, known_or_fault};
 use crate::table::Table;
 use rb_core::seq::Seq;
+use rb_syntax::tree::NameTree;
 use std::alloc::{AllocError, Global};
 use std::marker::Model;
 
@@ -43,6 +47,17 @@ impl<'a> Scope<'a> {
         ensures { result ≡ meaning (scope_of self.now) name.now }
     {
         innermost(self.frames.as_slice(), name)
+    }
+
+    /// The number of the innermost binder of a name of the tree.
+    ///
+    /// # Errors
+    ///
+    /// `Unknown` where the name isn't bound; or want of memory.
+    pub fn known(&self, alloc: Global, name: &NameTree) -> Result<u32, NameFault>
+        ensures { AnswersNumbering result (name_found name.now (meaning (scope_of self.now) name.now.text)) }
+    {
+        known_or_fault(alloc, name, self.get(name.text.as_slice()))
     }
 
     /// Goes into the scope of these binders.

@@ -1,10 +1,14 @@
 //! Tables of names. A table says what names stand for; a name is the bytes of its text.
 
 ghost use Rattle.std.specs.Prelude.{◌≡◌, [], ◌∷◌, is_some, length, not, reverse, IfOk, OnOk};
+ghost use Rattle.rb_names.specs.Answers.{AnswersNumbering};
+ghost use Rattle.rb_names.specs.Numbering.{name_found};
 ghost use Rattle.rb_names.specs.Tables.{meaning};
 ghost use Rattle.rb_names.specs.inner.Defining.{with_definition};
 
+use crate::fault::{NameFault, known_or_fault};
 use indexmap::IndexMap;
+use rb_syntax::tree::NameTree;
 use std::alloc::{AllocError, Global};
 use std::marker::Model;
 
@@ -61,6 +65,17 @@ impl<'a, T: Copy> Table<'a, T> {
         ensures { result ≡ meaning self.now name.now }
     {
         self.by_name.get(name).copied()
+    }
+
+    /// What a name of the tree stands for.
+    ///
+    /// # Errors
+    ///
+    /// `Unknown` where it isn't defined; or want of memory.
+    pub fn known(&self, alloc: Global, name: &NameTree) -> Result<T, NameFault>
+        ensures { AnswersNumbering result (name_found name.now (meaning self.now name.now.text)) }
+    {
+        known_or_fault(alloc, name, self.get(name.text.as_slice()))
     }
 
     /// What the last of a name stands for; a name is defined once, so it is the first, too.

@@ -64,8 +64,22 @@ pub fn define_all<'a>(alloc: Global, items: &'a [ItemTree]) -> Result<Tables<'a>
         (and_then (no_twice (defined_twice items.now)) (λ done. Ok (tables_of items.now))) }
 {
     let types = type_names(alloc, items)?;
+    define_by(alloc, &types, items)
+}
+
+// The tables of a file, where `types` has the names of its types, or the first name in it that is
+// defined twice.
+fn define_by<'a>(
+    alloc: Global,
+    types: &Table<'a, u32>,
+    items: &'a [ItemTree],
+) -> Result<Tables<'a>, NameFault>
+    requires { HasNames types.now (spec.type_names items.now) }
+    ensures { AnswersNumbering result
+        (and_then (no_twice (defined_twice items.now)) (λ done. Ok (tables_of items.now))) }
+{
     let mut known = Defining::new(alloc);
-    define_items(alloc, &types, items, &mut known)?;
+    define_items(alloc, types, items, &mut known)?;
     Ok(known.tables)
 }
 

@@ -6,7 +6,7 @@ ghost use Rattle.std.specs.Prelude.{map};
 ghost use Rattle.rb_names.specs.Answers.{AnswersNumbering};
 ghost use Rattle.rb_names.specs.Numbering.{all_of, numbered_type, numbered_constructor, numbered_data};
 
-use crate::fault::{NameFault, known_or_fault};
+use crate::fault::NameFault;
 use crate::tables::Tables;
 use rb_core::seq::Seq;
 use rb_core::types::{Con, DataDecl, Ty};
@@ -24,7 +24,7 @@ pub fn number_type(alloc: Global, tables: &Tables, tree: &TyTree) -> Result<Ty, 
     match tree {
         TyTree::Int(bits) => Ok(Ty::Int(*bits)),
         TyTree::Named(name) => {
-            let number = known_or_fault(alloc, name, tables.types.get(name.text.as_slice()))?;
+            let number = tables.types.known(alloc, name)?;
             Ok(Ty::Named(number))
         }
     }

@@ -6,8 +6,7 @@ use Rattle.rb_names.specs.declared.tables.Tables.{Tables}
 use Rattle.rb_names.specs.Answers.{AnswersNumbering}
 use Rattle.rb_names.specs.Definitions.{defined_twice, tables_of}
 use Rattle.rb_names.specs.Numbering.{Resolved, and_then}
-use Rattle.rb_names.specs.Programs.{no_twice, program_of}
-use Rattle.rb_names.specs.inner.Parts.{numbered_program}
+use Rattle.rb_names.specs.Programs.{no_twice, program_by_tables, program_of}
 use Rattle.rb_names.proofs.AnswerLemmas.{Answers-fails}
 use Rattle.rb_names.proofs.PartLemmas.{tables-found, tables-fail}
 use Rattle.rb_names.proofs.WellProgram.{answer-well}
@@ -19,9 +18,9 @@ returns-in_err-tables-clause-answers c =
     (tables-fail (defined_twice c.args.tree.now.items) (tables_of c.args.tree.now.items) _)
 
 answered : (tree : FileTree) (r : Resolved Program) (found : Tables) (seen : List ItemTree) → seen ≡ tree.items
-    → and_then (no_twice (defined_twice seen)) (λ done. Ok (tables_of seen)) ≡ Ok found → AnswersNumbering r (numbered_program found seen) → AnswersNumbering r (program_of tree)
+    → and_then (no_twice (defined_twice seen)) (λ done. Ok (tables_of seen)) ≡ Ok found → AnswersNumbering r (program_by_tables found seen) → AnswersNumbering r (program_of tree)
 answered tree r found seen same h g =
-    tables-found r (defined_twice tree.items) (tables_of tree.items) found (λ t. numbered_program t tree.items) (rw same at h) (rw same at g)
+    tables-found r (defined_twice tree.items) (tables_of tree.items) found (λ t. program_by_tables t tree.items) (rw same at h) (rw same at g)
 
 pub returns-clause-answers : goal.returns-clause-answers
 returns-clause-answers c =
