@@ -1,7 +1,7 @@
 -- What was found where numbering found something.
-use Rattle.std.proofs.Common.{◌≡◌, Option, Some, None, Ok, Err, refl}
+use Rattle.std.proofs.Common.{◌≡◌, ℕ, Option, Some, None, Ok, Err, refl, ap}
 use Rattle.rb_syntax.specs.declared.tree.NameTree.{NameTree}
-use Rattle.rb_names.specs.Numbering.{Resolved, and_then, name_found}
+use Rattle.rb_names.specs.Numbering.{Resolved, Numbered, numbered_as, and_then, name_found}
 
 pub then-ok : {A B : Type 0} (r : Resolved A) (f : A → Resolved B) (y : B) → and_then r f ≡ Ok y → (x : A) × (r ≡ Ok x) × (f x ≡ Ok y)
 then-ok (Ok x) f y e = (x, refl, e)
@@ -13,3 +13,6 @@ known-ok name (Some a) x e = cc
 
 pub ok-is : {A : Type 0} (x y : A) → (let r : Resolved A = Ok x in r) ≡ Ok y → x ≡ y
 ok-is x y e = cc
+
+pub made-is : {A : Type 0} (x : A) (next : ℕ) (y : Numbered A) → numbered_as x next ≡ Ok y → x ≡ y.what
+made-is x next y e = ap (λ n. n.what) (ok-is (record { what = x; next = next }) y e)

@@ -43,7 +43,7 @@ use Rattle.rb_names.specs.Numbering.{name_found, Numbered, Numbering, in_turn, n
 use Rattle.rb_names.specs.inner.Parts.{numbered_clause}
 use Rattle.rb_names.proofs.ExpressionEquations as numbering
 use Rattle.rb_names.proofs.Rising.{Rise, rise-wider, rise-append, Right, place}
-use Rattle.rb_names.proofs.Inverting.{then-ok, known-ok, ok-is}
+use Rattle.rb_names.proofs.Inverting.{then-ok, known-ok, made-is}
 use Rattle.rb_names.proofs.WellTypes.{TypeWell, type-well}
 use Rattle.rb_names.proofs.WellPatterns.{at_level-map, any-left, any-right, or-cases, length-map, short-list, moved, PatternWell, pattern-well}
 
@@ -157,14 +157,14 @@ module _ (total : ℕ) (small : total < 2 ^ 32) (types : List DataDecl) (funs : 
   two-found p ps scope next all e =
       let a = then-ok (p scope next) _ all e in
       let b = then-ok (in_turn ps scope a.0.next) _ all a.2 in
-      (a.0, b.0, a.1, b.1, ap (λ r. r.what) (ok-is _ all b.2))
+      (a.0, b.0, a.1, b.1, made-is (a.0.what ∷ b.0.what) b.0.next all b.2)
 
   args-behind : (es : List ExprTree) → Each Well es → (l : ℕ) (rest : List Written) → Right total (each_behind comma (map (at_expr l) es) rest)
       → ArgsWell es (each_behind comma (map (at_expr l) es) rest) rest
   args-behind [] h l rest r = record {
     right = r;
     count = omega arith;
-    well = λ scope next rs xs e c. let same : [] ≡ rs.what = ap (λ q. q.what) (ok-is _ rs e) in rw (← same) (refl, refl, omega arith);
+    well = λ scope next rs xs e c. let same : [] ≡ rs.what = made-is [] next rs e in rw (← same) (refl, refl, omega arith);
   }
   args-behind (a ∷ es) h l rest r =
       let behind : List Written = each_behind comma (map (at_expr l) es) rest in
@@ -230,7 +230,7 @@ module _ (total : ℕ) (small : total < 2 ^ 32) (types : List DataDecl) (funs : 
         right = record { formed = s.formed; numbers = s.numbers.1; fits = omega (arith, s.fits) };
         shorter = short;
         well = λ scope next q xs e c.
-            let same : C.Num at n ≡ q.what = ap (λ p. p.what) (ok-is _ q (sym (numbering.expr-Num t at n scope next) ∙ e)) in
+            let same : C.Num at n ≡ q.what = made-is (C.Num at n) next q (sym (numbering.expr-Num t at n scope next) ∙ e) in
             rw (← same) (record { numbered = numbered-is types funs (E.Num at n) xs; rises = no-match (at_expr l (X.Num at n) rest) rest (C.Num at n) (omega (arith, short)) (tokens-are types funs (E.Num at n)) });
       }
 
@@ -243,7 +243,7 @@ module _ (total : ℕ) (small : total < 2 ^ 32) (types : List DataDecl) (funs : 
         shorter = short;
         well = λ scope next q xs e c.
             let f = then-ok (name_found v (meaning scope v.text)) _ q (sym (numbering.expr-Var t at v scope next) ∙ e) in
-            let same : C.Var at f.0 ≡ q.what = ap (λ p. p.what) (ok-is _ q f.2) in
+            let same : C.Var at f.0 ≡ q.what = made-is (C.Var at f.0) next q f.2 in
             rw (← same) (record {
               numbered = numbered-is types funs (E.Var at f.0) xs ∙ c v.text f.0 (known-ok v (meaning scope v.text) f.0 f.1);
               rises = no-match (at_expr l (X.Var at v) rest) rest (C.Var at f.0) (omega (arith, short)) (tokens-are types funs (E.Var at f.0));
@@ -281,7 +281,7 @@ module _ (total : ℕ) (small : total < 2 ^ 32) (types : List DataDecl) (funs : 
             let f = then-ok (name_found x (meaning t.functions x.text)) _ q (sym (numbering.expr-Call t at x es scope next) ∙ e) in
             let g = then-ok (in_turn (map (numbered_expression t) es) scope next) _ q f.2 in
             let v = a.well scope next g.0 xs g.1 c in
-            let same : C.Call at f.0 g.0.what ≡ q.what = ap (λ p. p.what) (ok-is _ q g.2) in
+            let same : C.Call at f.0 g.0.what ≡ q.what = made-is (C.Call at f.0 g.0.what) g.0.next q g.2 in
             rw (← same) (record {
               numbered = numbered-is types funs (E.Call at f.0 g.0.what) xs ∙ and_from _ _ (known_fun x.text f.0 (known-ok x (meaning t.functions x.text) f.0 f.1))
                   (and_from _ _ (short-args es vs close g.0.what v.0 a.count (omega (arith, s.fits))) v.1);
@@ -303,7 +303,7 @@ module _ (total : ℕ) (small : total < 2 ^ 32) (types : List DataDecl) (funs : 
             let f = then-ok (name_found x (meaning t.constructors x.text)) _ q (sym (numbering.expr-Build t at x es scope next) ∙ e) in
             let g = then-ok (in_turn (map (numbered_expression t) es) scope next) _ q f.2 in
             let v = a.well scope next g.0 xs g.1 c in
-            let same : C.Build at f.0 g.0.what ≡ q.what = ap (λ p. p.what) (ok-is _ q g.2) in
+            let same : C.Build at f.0 g.0.what ≡ q.what = made-is (C.Build at f.0 g.0.what) g.0.next q g.2 in
             rw (← same) (record {
               numbered = numbered-is types funs (E.Build at f.0 g.0.what) xs ∙ and_from _ _ (known_con x.text f.0 (known-ok x (meaning t.constructors x.text) f.0 f.1))
                   (and_from _ _ (short-args es vs rest g.0.what v.0 a.count (omega (arith, s.fits))) v.1);
@@ -328,7 +328,7 @@ module _ (total : ℕ) (small : total < 2 ^ 32) (types : List DataDecl) (funs : 
             let j = then-ok (numbered_expression t b scope i.0.next) _ q i.2 in
             let v = f.well scope next i.0 xs i.1 c in
             let w = g.well scope i.0.next j.0 xs j.1 c in
-            let same : C.Binary at o i.0.what j.0.what ≡ q.what = ap (λ p. p.what) (ok-is _ q j.2) in
+            let same : C.Binary at o i.0.what j.0.what ≡ q.what = made-is (C.Binary at o i.0.what j.0.what) j.0.next q j.2 in
             rw (← same) (record {
               numbered = numbered-is types funs (E.Binary at o i.0.what j.0.what) xs ∙ and_from _ _ v.numbered w.numbered;
               rises = rw (spelled.expr-Binary at o a b l rest, tokens-are types funs (E.Binary at o i.0.what j.0.what))
@@ -352,7 +352,7 @@ module _ (total : ℕ) (small : total < 2 ^ 32) (types : List DataDecl) (funs : 
         well = λ scope next q xs e c.
             let i = then-ok (numbered_expression t a scope next) _ q (sym (numbering.expr-To t at bits a scope next) ∙ e) in
             let v = f.well scope next i.0 xs i.1 c in
-            let same : C.To at bits i.0.what ≡ q.what = ap (λ p. p.what) (ok-is _ q i.2) in
+            let same : C.To at bits i.0.what ≡ q.what = made-is (C.To at bits i.0.what) i.0.next q i.2 in
             rw (← same) (record {
               numbered = numbered-is types funs (E.To at bits i.0.what) xs ∙ and_from _ _ (k.well (core_ty.Int bits) refl) v.numbered;
               rises = rw (spelled.expr-To at bits a l rest, tokens-are types funs (E.To at bits i.0.what))
@@ -386,7 +386,7 @@ module _ (total : ℕ) (small : total < 2 ^ 32) (types : List DataDecl) (funs : 
             let j = then-ok (numbered_expression t b ((x.text, next) ∷ scope) i.0.next) _ q i.2 in
             let v = f.well scope (suc next) i.0 xs i.1 c in
             let w = g.well ((x.text, next) ∷ scope) i.0.next j.0 (next ∷ xs) j.1 (covers-one scope xs x.text next c) in
-            let same : C.Let at next h.0 i.0.what j.0.what ≡ q.what = ap (λ p. p.what) (ok-is _ q j.2) in
+            let same : C.Let at next h.0 i.0.what j.0.what ≡ q.what = made-is (C.Let at next h.0 i.0.what j.0.what) j.0.next q j.2 in
             rw (← same) (record {
               numbered = numbered-is types funs (E.Let at next h.0 i.0.what j.0.what) xs ∙ and_from _ _ (k.well h.0 h.1) (and_from _ _ v.numbered w.numbered);
               rises = rw (spelled.expr-Let at x u a b l rest, tokens-are types funs (E.Let at next h.0 i.0.what j.0.what))
@@ -425,7 +425,7 @@ module _ (total : ℕ) (small : total < 2 ^ 32) (types : List DataDecl) (funs : 
             let w = p.well inner i.0 i.1 in
             let v = f.well inner (next + length (binders_of c.pat)) j.0 (vars_of i.0 ++ xs) j.1 (covers-inside c.pat i.0 next scope xs w.binds k) in
             let made : Clause = record { pat = i.0; body = j.0.what } in
-            let same : made ≡ d.what = ap (λ q. q.what) (ok-is _ d j.2) in
+            let same : made ≡ d.what = made-is made j.0.next d j.2 in
             rw (← same) (
               clause_numbered-is types funs made xs ∙ and_from _ _ w.numbered v.numbered,
               rw (spelled.clause-is c l rest, clause-tokens-are types funs made) (rise-wider _ _ _ _ (match_tokens j.0.what) (omega (arith, p.shorter)) (omega arith) v.rises),
@@ -446,7 +446,7 @@ module _ (total : ℕ) (small : total < 2 ^ 32) (types : List DataDecl) (funs : 
   clauses-behind [] h l rest r = record {
     right = r;
     count = omega arith;
-    well = λ scope next ds xs e c. let same : [] ≡ ds.what = ap (λ q. q.what) (ok-is _ ds e) in rw (← same) (refl, refl, omega arith);
+    well = λ scope next ds xs e c. let same : [] ≡ ds.what = made-is [] next ds e in rw (← same) (refl, refl, omega arith);
   }
   clauses-behind (a ∷ cs) h l rest r =
       let behind : List Written = each_behind comma (map (at_clause l) cs) rest in
@@ -510,7 +510,7 @@ module _ (total : ℕ) (small : total < 2 ^ 32) (types : List DataDecl) (funs : 
             let j = then-ok (in_turn (map (numbered_clause t) cs) scope i.0.next) _ q i.2 in
             let v = f.well scope next i.0 xs i.1 c in
             let w = g.well scope i.0.next j.0 xs j.1 c in
-            let same : C.Match at i.0.what j.0.what ≡ q.what = ap (λ p. p.what) (ok-is _ q j.2) in
+            let same : C.Match at i.0.what j.0.what ≡ q.what = made-is (C.Match at i.0.what j.0.what) j.0.next q j.2 in
             let many : length (map (clause_numbered types funs) j.0.what) ≡ length cs = length-map total small types t known_con (clause_numbered types funs) j.0.what ∙ w.0 in
             let some_there : nat_lt 0 (length (map (clause_numbered types funs) j.0.what)) ≡ true = let k : 0 < length (map (clause_numbered types funs) j.0.what) = omega (arith, many, some.0) in grind (arith, common_steps, k) in
             rw (← same) (record {
