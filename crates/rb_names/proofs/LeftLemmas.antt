@@ -5,6 +5,7 @@ use Rattle.std.specs.Cmp.Lexicographic.{bytes_decides}
 use Rattle.std.proofs.lemmas.List.{append_assoc, append-nil, drop_all, map-append}
 use Rattle.rb_core.specs.declared.types.Auto.{Auto}
 use Rattle.rb_syntax.specs.declared.tree.ItemTree.{ItemTree}
+use Rattle.rb_syntax.specs.declared.tree.ItemTree.TheVariants as top
 use Rattle.rb_syntax.specs.declared.tree.FileTree.{FileTree}
 use Rattle.rb_names.specs.declared.tables.Tables.{Tables}
 use Rattle.rb_names.specs.Tables.{Name, Table, meaning}
@@ -12,7 +13,7 @@ use Rattle.rb_names.specs.inner.Defining.{with_definition}
 use Rattle.rb_names.specs.Definitions.{defined_twice, tables_of, type_names}
 use Rattle.rb_names.specs.Numbering.{and_then}
 use Rattle.rb_names.specs.Programs.{no_twice}
-use Rattle.rb_names.specs.Completing.{kinds_of, left_in, left_types, type_numbers}
+use Rattle.rb_names.specs.Completing.{kinds_of, left_in, left_types, type_numbers, with_number}
 use Rattle.rb_names.specs.inner.Deriving.{MeanTheSame}
 use Rattle.rb_names.proofs.Inverting.{ok-is}
 use Rattle.rb_names.proofs.ListLemmas.{drop-here}
@@ -50,6 +51,30 @@ left-added old new n kind rest is q = ap (λ t. meaning (t ++ rest) q) is ∙ de
 
 -- Items, one after another -----------------------------------------------------------------------
 
+module _ (types : Table ℕ) where
+  numbers-cons : (item : ItemTree) (items : List ItemTree) → type_numbers types (left_in (item ∷ items)) ≡ type_numbers types (left_in (item ∷ [])) ++ type_numbers types (left_in items)
+  numbers-cons (top.Types t) items = refl
+  numbers-cons (top.Layouts l) items = refl
+  numbers-cons (top.Funs f) items = refl
+  numbers-cons (top.Derived name a) items = by (meaning types name.text)
+    where
+      by : (o : Option ℕ) → with_number o (type_numbers types (left_in items)) ≡ with_number o [] ++ type_numbers types (left_in items)
+      by None = refl
+      by (Some n) = refl
+
+  pub numbers-next : (items : List ItemTree) (i : ℕ) (item : ItemTree) (old new all : List ℕ) → i < length items → item ≡ get_or items i item
+      → new ≡ old ++ type_numbers types (left_in (item ∷ [])) → old ++ type_numbers types (left_in (drop i items)) ≡ all
+      → new ++ type_numbers types (left_in (drop (i + 1) items)) ≡ all
+  numbers-next items i item old new all lt is grown h =
+      let rest = drop (suc i) items in
+      let here : type_numbers types (left_in (drop i items)) ≡ type_numbers types (left_in (item ∷ [])) ++ type_numbers types (left_in rest) =
+      ap (λ (us : List ItemTree). type_numbers types (left_in us)) (drop-here items i item lt is) ∙ numbers-cons item rest in
+      rw (add-one i) (ap (λ ns. ns ++ type_numbers types (left_in rest)) grown
+      ∙ append_assoc old (type_numbers types (left_in (item ∷ []))) (type_numbers types (left_in rest)) ∙ ap (λ ns. old ++ ns) (sym here) ∙ h)
+
+  pub numbers-end : (items : List ItemTree) (i : ℕ) (numbers all : List ℕ) → length items ≤ i → numbers ++ type_numbers types (left_in (drop i items)) ≡ all → numbers ≡ all
+  numbers-end items i numbers all le h = sym (append-nil numbers) ∙ ap (λ us. numbers ++ type_numbers types (left_in us)) (sym (drop_all i items le)) ∙ h
+
 module _ (items : List ItemTree) (i : ℕ) (item : ItemTree) (lt : i < length items) (is : item ≡ get_or items i item) where
   pub kinds-next : (left : Table Auto) (old new all : List (Option Auto)) → new ≡ old ++ map (meaning left) (type_names (item ∷ []))
       → old ++ map (meaning left) (type_names (drop i items)) ≡ all → new ++ map (meaning left) (type_names (drop (i + 1) items)) ≡ all
@@ -78,12 +103,11 @@ kinds-all file items left (Ok kinds) is same h =
     h ∙ same-kinds left (left_in items) same (type_names items) ∙ ap (λ us. map (meaning (left_in us)) (type_names us)) is
 kinds-all file items left (Err e) is same h = tt
 
-pub numbers-all : (file : FileTree) (items : List ItemTree) (tables : Tables) (i : ℕ) (numbers : List ℕ) → items ≡ file.items → defined_twice file.items ≡ None
-    → and_then (no_twice (defined_twice items)) (λ done. Ok (tables_of items)) ≡ Ok tables → length items ≤ i
-    → numbers ++ type_numbers tables.types (left_in (drop i items)) ≡ type_numbers tables.types (left_in items) → numbers ≡ left_types file
-numbers-all file items tables i numbers is once found le h =
+pub numbers-all : {E : Type 0} (file : FileTree) (items : List ItemTree) (tables : Tables) (r : Result (List ℕ) E) → items ≡ file.items → defined_twice file.items ≡ None
+    → and_then (no_twice (defined_twice items)) (λ done. Ok (tables_of items)) ≡ Ok tables → IfOk r (λ numbers. numbers ≡ type_numbers tables.types (left_in items))
+    → IfOk r (λ numbers. numbers ≡ left_types file)
+numbers-all file items tables (Ok numbers) is once found h =
     let same : defined_twice items ≡ None = ap defined_twice is ∙ once in
     let these : tables_of items ≡ tables = ok-is (tables_of items) tables (rw same at found) in
-    sym (append-nil numbers)
-    ∙ ap (λ us. numbers ++ type_numbers tables.types (left_in us)) (sym (drop_all i items le)) ∙ h
-    ∙ ap (λ t. type_numbers t.types (left_in items)) (sym these) ∙ ap (λ us. type_numbers (tables_of us).types (left_in us)) is
+    h ∙ ap (λ t. type_numbers t.types (left_in items)) (sym these) ∙ ap (λ us. type_numbers (tables_of us).types (left_in us)) is
+numbers-all file items tables (Err e) is once found h = tt

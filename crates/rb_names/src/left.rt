@@ -100,9 +100,17 @@ pub fn left_types(alloc: Global, tree: &FileTree) -> Result<Seq<u32>, AllocError
     let Ok(tables) = define_all(alloc, items) else {
         return Err(AllocError);
     };
+    numbers_by(alloc, &tables.types, items)
+}
+
+// The numbers, by a table, of the types whose layouts items leave to the compiler, in their order.
+// A name that the table doesn't have is left out.
+fn numbers_by(alloc: Global, types: &Table<u32>, items: &[ItemTree]) -> Result<Seq<u32>, AllocError>
+    ensures { IfOk result (λ numbers. numbers ≡ type_numbers types.now (spec.left_in items.now)) }
+{
     let mut numbers = Seq::new(alloc);
     for item in items {
-        add_number(&tables.types, item, &mut numbers)?;
+        add_number(types, item, &mut numbers)?;
     }
     Ok(numbers)
 }

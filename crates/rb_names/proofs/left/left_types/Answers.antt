@@ -3,5 +3,5 @@ use Rattle.rb_names.proofs.left.left_types.Goals as goal
 
 pub returns : goal.returns
 returns c =
-    numbers-all c.args.tree.now c.as_slice-items.result.now c.in-Ok.tables c.loop-item.item-index c.loop-item.numbers c.as_slice-items.ensures c.requires c.in-Ok.ensures
-    c.loop-item-test.false c.loop-item.invariant
+    numbers-all c.args.tree.now c.as_slice-items.result.now c.in-Ok.tables c.numbers_by.result c.as_slice-items.ensures c.requires c.in-Ok.ensures
+    c.numbers_by.ensures
