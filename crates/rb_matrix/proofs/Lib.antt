@@ -7,6 +7,7 @@ pub mod Differing
 pub mod Examples
 pub mod Exhausts
 pub mod FirstAbsent
+pub mod Gathering
 pub mod Grouping
 pub mod HeadLemmas
 pub mod HeadSets
