@@ -1,7 +1,7 @@
 -- Leaves that may share a value: constructors at a path, the groups by them, and what no group shows.
-use Rattle.std.proofs.Common.{◌≡◌, ℕ, zero, suc, ◌⊎◌, inl, inr, get_or, ◌+◌, ◌<◌, ◌≤◌, List, [], ◌∷◌, ◌++◌, length, drop, add-one, Bool, false, Option, Some, None, refl, sym, ap, subst, ◌∙◌, arith}
-use Rattle.std.specs.Prelude.{slice_get}
-use Rattle.std.proofs.lemmas.Bool.{cases_lt}
+use Rattle.std.proofs.Common.{◌≡◌, ℕ, zero, suc, ◌⊎◌, inl, inr, get_or, ◌+◌, ◌<◌, ◌≤◌, List, [], ◌∷◌, ◌++◌, length, drop, add-one, Bool, true, false, Option, Some, None, refl, sym, ap, subst, ◌∙◌, arith}
+use Rattle.std.specs.Prelude.{slice_get, MatchBool}
+use Rattle.std.proofs.lemmas.Bool.{cases_lt, false≢true}
 use Rattle.std.proofs.lemmas.List.{length-append}
 use Rattle.std.proofs.lemmas.Option.{same_Some, slice_get_within}
 use Rattle.rb_core.specs.declared.types.DataDecl.{DataDecl}
@@ -13,7 +13,7 @@ use Rattle.rb_layout.specs.declared.layout.Leaf.{Leaf}
 use Rattle.rb_layout.specs.A5.{HaveCommon}
 use Rattle.rb_layout.proofs.Walks.{drop_from}
 use Rattle.rb_layout.specs.Positions.{con_of_layer, sub_of_layer}
-use Rattle.rb_agree.specs.inner.Sharing.{ApartWhereOff, AreGroups, HaveAll, HaveBefore, IsAlone, IsGroupOf, IsMember, MayBe, SharesNone, con_at, con_from, heads_in}
+use Rattle.rb_agree.specs.inner.Sharing.{ApartWhereOff, AreGroups, HaveAll, HaveBefore, IsAlone, IsGroupOf, IsMember, MayBe, SharesNone, SharesNot, con_at, con_from, heads_in}
 use Rattle.rb_matrix.specs.Apart.{PatternsAreApart}
 use Rattle.rb_matrix.proofs.Differing.{cons-apart}
 use Rattle.rb_agree.proofs.Lists.{at-item, map-at}
@@ -140,8 +140,13 @@ may-or None c = inl tt
 may-or (Some d) c = elim (same-or d c) [ inl same ↦ inl same | inr other ↦ inr (d, refl, other) ]
 
 module _ (types : List DataDecl) (t : ℕ) (leaves : List Leaf) (n : ℕ) (leaf : Leaf) where
+  pub shares-not : (m : ℕ) (one : Leaf) (b : Bool) → slice_get leaves m ≡ Some one → MatchBool b (HaveCommon types t leaf.prov one.prov) (HaveCommon types t leaf.prov one.prov → ⊥) → b ≡ false
+      → SharesNot types t leaves n leaf m
+  shares-not m one true at none clear = absurd (false≢true (sym clear))
+  shares-not m one false at none clear = λ later less found common. none (subst (λ (x : Leaf). HaveCommon types t leaf.prov x.prov) (same_Some later one (sym found ∙ at)) common)
+
   pub shares-next : (members : List ℕ) (k : ℕ) (m : ℕ) → SharesNone types t leaves n leaf members k → slice_get members k ≡ Some m
-      → ((later : Leaf) → n < m → slice_get leaves m ≡ Some later → HaveCommon types t leaf.prov later.prov → ⊥) → SharesNone types t leaves n leaf members (k + 1)
+      → SharesNot types t leaves n leaf m → SharesNone types t leaves n leaf members (k + 1)
   shares-next members k m before at none = λ j x later lt is less found. elim (cases_lt j k) [
     | inl sooner ↦ before j x later sooner is less found
     | inr most ↦ (let same : j ≡ k = omega (arith, most, lt) in

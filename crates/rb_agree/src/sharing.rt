@@ -21,7 +21,7 @@ ghost use Rattle.rb_core.specs.declared.pattern.Pat.{out-Pat};
 ghost use Rattle.rb_core.specs.declared.types.Ty.TheVariants as Tys;
 ghost use Rattle.rb_layout.specs.Positions.{con_of_layer, sub_of_layer};
 ghost use Rattle.rb_matrix.specs.Search.{AreInhabited, IsTypeIn};
-ghost use Rattle.rb_agree.specs.inner.Sharing.{ApartWhereOff, AreGroups, AreHeads, HaveAll, IsAlone, IsGroupOf, MayBe, SharesNone, con_at, heads_in};
+ghost use Rattle.rb_agree.specs.inner.Sharing.{ApartWhereOff, AreGroups, AreHeads, HaveAll, IsAlone, IsGroupOf, MayBe, SharesNone, SharesNot, con_at, heads_in};
 
 use crate::values::{apart_fault, have_common};
 use rb_core::limits::MOST_CONSTRUCTORS;
@@ -202,6 +202,30 @@ fn groups(alloc: Global, heads: &[Option<u32>]) -> Result<Seq<Seq<u32>>, AllocEr
     Ok(groups)
 }
 
+// Whether leaf `n` shares a value of type `ty` with leaf `m`, where there is such a leaf and it is a
+// later one.
+fn shares_later(
+    alloc: Global,
+    types: &[DataDecl],
+    ty: u32,
+    leaves: &[Leaf],
+    n: usize,
+    leaf: &Leaf,
+    m: usize,
+) -> Result<bool, AllocError>
+    requires inhabited { AreInhabited types.now }
+    requires ty { IsTypeIn types.now (Tys.Named ty) }
+    ensures { IfOk result (λ b. b ≡ false → SharesNot types.now ty leaves.now n leaf.now m) }
+{
+    if m <= n {
+        return Ok(false);
+    }
+    match leaves.get(m) {
+        None => Ok(false),
+        Some(later) => have_common(alloc, types, ty, &leaf.prov, &later.prov),
+    }
+}
+
 // Whether leaf `n` shares a value of type `ty` with a later one of these members.
 fn shares_with(
     alloc: Global,
@@ -217,14 +241,9 @@ fn shares_with(
     ensures { IfOk result
         (λ b. b ≡ false → SharesNone types.now ty leaves.now n leaf.now members.now (length members.now)) }
 {
-    for k in 0..members.len() {
-        let m = members[k] as usize;
-        if n < m {
-            if let Some(later) = leaves.get(m) {
-                if have_common(alloc, types, ty, &leaf.prov, &later.prov)? {
-                    return Ok(true);
-                }
-            }
+    for m in members {
+        if shares_later(alloc, types, ty, leaves, n, leaf, *m as usize)? {
+            return Ok(true);
         }
     }
     Ok(false)

@@ -58,6 +58,11 @@ abbrev pub AreHeads : List Leaf → List (Option ℕ) → Type 0
 AreHeads leaves heads = (path : List ℕ) × (heads ≡ heads_in path leaves)
 
 module _ (types : List DataDecl) (t : ℕ) where
+  -- leaf n shares no value of type t with leaf m, where there is such a leaf and it is a later one
+  abbrev pub SharesNot : List Leaf → ℕ → Leaf → ℕ → Type 0
+  SharesNot leaves n leaf m =
+      (later : Leaf) → n < m → slice_get leaves m ≡ Some later → HaveCommon types t leaf.prov later.prov → ⊥
+
   -- leaf n shares no value of type t with a later one among the first i of these members
   abbrev pub SharesNone : List Leaf → ℕ → Leaf → List ℕ → ℕ → Type 0
   SharesNone leaves n leaf members i =
@@ -66,8 +71,7 @@ module _ (types : List DataDecl) (t : ℕ) where
 
   -- leaf n shares no value of type t with a later one
   abbrev pub IsAlone : List Leaf → ℕ → Leaf → Type 0
-  IsAlone leaves n leaf =
-      (m : ℕ) (later : Leaf) → n < m → slice_get leaves m ≡ Some later → HaveCommon types t leaf.prov later.prov → ⊥
+  IsAlone leaves n leaf = (m : ℕ) → SharesNot leaves n leaf m
 
   -- each leaf whose mark is off shares no value of type t with a later one
   abbrev pub ApartWhereOff : List Leaf → List Bool → Type 0
