@@ -211,7 +211,35 @@ ranges_stop m range steps items i d fault found same lt e =
     ap (λ ss. found ++ ranges_after m range (drop i ss)) (sym same) ∙ ap (λ ss. found ++ ranges_after m range ss) (drop_at items i d lt)
     ∙ ap (λ (r : Ranged). found ++ if_found r (λ w. range_of w s.o s.l ∷ ranges_after m (range_of w s.o s.l) (drop (i + 1) items))) e ∙ append-nil found
 
+-- a step more
+module _ (m : List ImageBlock) (range : Kept) (steps items : List Step) (i : ℕ) (d : Step) (same : items ≡ steps) (lt : i < length items) where
+  abbrev s : Step
+  s = slice_index_or items i d
+
+  left_is : drop i steps ≡ s ∷ drop (i + 1) steps
+  left_is = ap (drop i) (sym same) ∙ drop_at items i d lt ∙ ap (λ ss. s ∷ drop (i + 1) ss) same
+
+  range_left : (r : Ranged) → step_over m range s ≡ r → range_from m range (drop i steps) ≡ and_then r (λ w. range_from m (range_of w s.o s.l) (drop (i + 1) steps))
+  range_left r is = ap (range_from m range) left_is ∙ ap (λ (x : Ranged). and_then x (λ w. range_from m (range_of w s.o s.l) (drop (i + 1) steps))) is
+
+  pub range_more : (due : Ranged) (w new : Kept) → due ≡ range_from m range (drop i steps) → ◌≡◌ {A = Ranged} (step_over m range s) (Ok w) → new ≡ range_of w s.o s.l → due ≡ range_from m new (drop (i + 1) steps)
+  range_more due w new before is is_new = before ∙ range_left (Ok w) is ∙ ap (λ r. range_from m r (drop (i + 1) steps)) (sym is_new)
+
+  pub range_stopped : (due : Ranged) (fault : ImageFault) → due ≡ range_from m range (drop i steps) → ◌≡◌ {A = Ranged} (step_over m range s) (Err fault) → None ≡ found_or_none due
+  range_stopped due fault before is = sym (ap found_or_none (before ∙ range_left (Err fault) is))
+
+  pub ranges_more : (w new : Kept) (found after all : List Kept) → found ++ ranges_after m range (drop i steps) ≡ all → ◌≡◌ {A = Ranged} (step_over m range s) (Ok w) → new ≡ range_of w s.o s.l
+      → after ≡ found ++ new ∷ [] → after ++ ranges_after m new (drop (i + 1) steps) ≡ all
+  ranges_more w new found after all before is is_new added =
+      ap (λ xs. xs ++ ranges_after m new (drop (i + 1) steps)) added ∙ append_assoc found (new ∷ []) (ranges_after m new (drop (i + 1) steps))
+      ∙ ap (λ r. found ++ r ∷ ranges_after m r (drop (i + 1) steps)) is_new
+      ∙ ap (λ (r : Ranged). found ++ if_found r (λ x. range_of x s.o s.l ∷ ranges_after m (range_of x s.o s.l) (drop (i + 1) steps))) (sym is)
+      ∙ ap (λ ss. found ++ ranges_after m range ss) (sym left_is) ∙ before
+
 -- behind the last step
+pub range_ended : (m : List ImageBlock) (range : Kept) (steps : List Step) (i : ℕ) (due : Ranged) → length steps ≤ i → due ≡ range_from m range (drop i steps) → Some range ≡ found_or_none due
+range_ended m range steps i due le before = sym (ap found_or_none (before ∙ ap (range_from m range) (drop_past steps i le)))
+
 pub ranges_end : (m : List ImageBlock) (range : Kept) (steps : List Step) (i : ℕ) (found : List Kept) → length steps ≤ i → found ++ ranges_after m range (drop i steps) ≡ found
 ranges_end m range steps i found le = ap (λ ss. found ++ ranges_after m range ss) (drop_past steps i le) ∙ append-nil found
 

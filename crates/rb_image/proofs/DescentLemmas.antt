@@ -13,7 +13,7 @@ use Rattle.rb_image.specs.declared.kept.Place.{Place}
 use Rattle.rb_image.specs.Given.{IsGiven}
 use Rattle.rb_image.specs.Parts.{At, at_of, ats_of}
 use Rattle.rb_image.specs.Sound.{Looking, IsSound, sound, HasFault, own, inner}
-use Rattle.rb_image.specs.inner.Descending.{looks, AreSound, HaveFault, IsNoted, AreNoted, DescentStands, SoundnessIsFound}
+use Rattle.rb_image.specs.inner.Descending.{looks, AreSound, HaveFault, IsNoted, AreNoted, DescentStands, IsLookedAt, IsTurn, IsTurnFault, SoundnessIsFound, TurnEnds}
 use Rattle.rb_image.specs.inner.Knowing.{is_among, with_place}
 use Rattle.rb_image.proofs.KnownLemmas.{holds_among, holds_with}
 
@@ -31,11 +31,6 @@ all_get : (P : At → Type 0) (ps : List At) → AllByRecursion P ps → (k : �
 all_get P [] all k p e = absurd cc
 all_get P (q ∷ qs) all zero p e = subst P (same_Some q p e) all.0
 all_get P (q ∷ qs) all (suc k) p e = all_get P qs all.1 k p e
-
--- what is given is given as its items
-pub given_as : {B : Type 0} (view : B → List At) (b : B) (ps : List Place) (r : Result (List At) ImageFault) → IsGiven view r (Ok b) → view b ≡ ats_of ps → IsGiven ats_of r (Ok ps)
-given_as view b ps (Ok a) given same = sym same ∙ given
-given_as view b ps (Err e) given same = given
 
 module _ (look : Looking) where
   -- Steps in two halves ----------------------------------------------------------------------
@@ -183,6 +178,20 @@ module _ (look : Looking) where
           let h : HasFault look (at_of p) f = own (at_of p) f (at ∙ ap Err (sym given)) in
           inl (stood.fault f (fault_right rest (s ∷ []) f (subst (λ x. HaveFault look (x ∷ []) f) (sym is) (inr (tt, h)))))
 
+    -- a step is done
+    pub turned : (t : Step) → s ≡ t → (after : List At) (new : List Step) → IsTurn look t known rest after new → DescentStands look root after new
+    turned (Note p) is after new turn = subst (DescentStands look root after) (sym turn.1) (noted_turn p is after turn.0)
+    turned (Look p) is after new turn = subst (λ ks. DescentStands look root ks new) (sym turn.0) (elim turn.1 [
+      | inl x ↦ subst (DescentStands look root known) (sym x.1) (known_turn p is x.0)
+      | inr x ↦ look_turn p is (Ok (ats_of x.below)) x.found x.below refl new x.steps
+    ])
+
+    -- or it has a fault
+    pub turn_fault : (t : Step) → s ≡ t → (f : ImageFault) → IsTurnFault look t f → HasFault look root f ⊎ (f ≡ NoMemory)
+    turn_fault (Note p) is f memory = inr memory
+    turn_fault (Look p) is f (inl at) = look_fault p is ats_of (Err f) at f (inl refl)
+    turn_fault (Look p) is f (inr memory) = inr memory
+
   -- the first turn, and the last
   pub begins : (root : Place) (todo : List Step) → todo ≡ Look root ∷ [] → DescentStands look (at_of root) [] todo
   begins root todo is = subst (DescentStands look (at_of root) []) (sym is) (record { found = tt; sound = λ h. h.0; fault = from; noted = (tt, tt) })
@@ -198,3 +207,40 @@ module _ (look : Looking) where
   pub found_on : {A : Type 0} (p : At) (r : Result A ImageFault) (e : ImageFault) → IsErr r → IsErrAnd r (λ x. x ≡ e) → HasFault look p e ⊎ (e ≡ NoMemory) → SoundnessIsFound look p r
   found_on p (Ok b) e is same h = absurd (false≢true is)
   found_on p (Err x) e is same h = subst (λ y. HasFault look p y ⊎ (y ≡ NoMemory)) (sym same) h
+
+  -- One step ---------------------------------------------------------------------------------
+  -- a place is noted
+  pub turn_noted : (s : Step) (p : Place) (known after : List At) (todo : List Step) → s ≡ Note p → after ≡ with_place known (at_of p) → IsTurn look s known todo after todo
+  turn_noted s p known after todo is with_it = subst (λ t. IsTurn look t known todo after todo) (sym is) (with_it, refl)
+
+  -- or it is known
+  pub turn_known : (s : Step) (p : Place) (known : List At) (todo : List Step) → s ≡ Look p → is_among known (at_of p) ≡ true → IsTurn look s known todo known todo
+  turn_known s p known todo is among = subst (λ t. IsTurn look t known todo known todo) (sym is) (refl, inl (among, refl))
+
+  -- or it is looked at
+  pub turn_looked : (s : Step) (p : Place) (known : List At) (todo new : List Step) → s ≡ Look p → IsLookedAt look p todo new → IsTurn look s known todo known new
+  turn_looked s p known todo new is looked = subst (λ t. IsTurn look t known todo known new) (sym is) (refl, inr looked)
+
+  memory_fault : (s : Step) → IsTurnFault look s NoMemory
+  memory_fault (Note p) = refl
+  memory_fault (Look p) = inr refl
+
+  fault_told : {A : Type 0} (s : Step) (known after : List At) (todo new : List Step) (r : Result A ImageFault) (e : ImageFault) → IsErr r → IsErrAnd r (λ x. x ≡ e) → IsTurnFault look s e
+      → TurnEnds look s known todo after new r
+  fault_told s known after todo new (Ok a) e is same h = absurd (false≢true is)
+  fault_told s known after todo new (Err x) e is same h = subst (IsTurnFault look s) (sym same) h
+
+  -- want of memory that is handed on
+  pub turn_memory : {A : Type 0} (s : Step) (known after : List At) (todo new : List Step) (r : Result A ImageFault) → IsErr r → IsErrAnd r (λ x. x ≡ NoMemory) → TurnEnds look s known todo after new r
+  turn_memory s known after todo new r is same = fault_told s known after todo new r NoMemory is same (memory_fault s)
+
+  look_failed : (due : Result (List At) ImageFault) (e : ImageFault) → {B : Type 0} (view : B → List At) → IsGiven view due (Err e) → (due ≡ Err e) ⊎ (e ≡ NoMemory)
+  look_failed (Ok a) e {B} view given = inr given
+  look_failed (Err f) e {B} view (inl same) = inl (ap (λ x. Err x) (sym same))
+  look_failed (Err f) e {B} view (inr memory) = inr memory
+
+  -- and a fault of a look
+  pub turn_failed : {A B : Type 0} (view : B → List At) (s : Step) (p : Place) (known after : List At) (todo new : List Step) (r : Result A ImageFault) (e : ImageFault) → s ≡ Look p
+      → IsErr r → IsErrAnd r (λ x. x ≡ e) → IsGiven view (look (at_of p)) (Err e) → TurnEnds look s known todo after new r
+  turn_failed view s p known after todo new r e at is same given =
+      fault_told s known after todo new r e is same (subst (λ t. IsTurnFault look t e) (sym at) (look_failed (look (at_of p)) e view given))

@@ -1,5 +1,5 @@
 -- Descents that end: how many steps are left after a turn.
-use Rattle.std.proofs.Common.{◌≡◌, ℕ, zero, suc, ◌+◌, ◌<◌, ◌≤◌, List, [], ◌∷◌, ◌++◌, Result, Ok, Err, refl, sym, subst, ap, ◌∙◌, arith}
+use Rattle.std.proofs.Common.{◌≡◌, inl, inr, ℕ, zero, suc, ◌+◌, ◌<◌, ◌≤◌, List, [], ◌∷◌, ◌++◌, Result, Ok, Err, refl, sym, subst, ap, ◌∙◌, arith}
 use Rattle.std.specs.List.{AllByRecursion}
 use Rattle.rb_image_text.specs.declared.fault.ImageFault.{ImageFault}
 use Rattle.rb_image.specs.declared.descent.Step.{Step}
@@ -8,7 +8,7 @@ use Rattle.rb_image.specs.declared.kept.Place.{Place}
 use Rattle.rb_image.specs.Given.{IsGiven}
 use Rattle.rb_image.specs.Parts.{At, at_of, ats_of}
 use Rattle.rb_image.specs.Sound.{Looking}
-use Rattle.rb_image.specs.inner.Descending.{looks}
+use Rattle.rb_image.specs.inner.Descending.{IsTurn, looks}
 use Rattle.rb_image.specs.inner.Ending.{EndBelow, DescentEnds, total, steps_below, descent_steps, AllEnd, weight, weights}
 
 all_more : (P Q : At → Type 0) → ((p : At) → P p → Q p) → (ps : List At) → AllByRecursion P ps → AllByRecursion Q ps
@@ -117,3 +117,22 @@ module _ (look : Looking) where
           let a = ap (weights look n) is_new ∙ weights-append n rest (Note p ∷ looks ps) in
           let l = light.less in
           omega (arith, e, a, l)
+
+  -- a step is done
+  module _ (n : ℕ) (todo rest : List Step) (s : Step) (pops : todo ≡ rest ++ s ∷ []) (h : AllEnd look n todo) (known after : List At) (new : List Step) where
+    found_so : (p : Place) (ps : List Place) → look (at_of p) ≡ Ok (ats_of ps) → IsGiven ats_of (look (at_of p)) (Ok ps)
+    found_so p ps found = subst (λ r. IsGiven ats_of r (Ok ps)) (sym found) refl
+
+    pub turn_ends : (t : Step) → s ≡ t → IsTurn look t known rest after new → AllEnd look n new
+    turn_ends (Note p) is turn = subst (AllEnd look n) (sym turn.1) (rest_ends n todo rest s pops h)
+    turn_ends (Look p) is turn = elim turn.1 [
+      | inl x ↦ subst (AllEnd look n) (sym x.1) (rest_ends n todo rest s pops h)
+      | inr x ↦ look_ends n todo rest s pops p is h x.below (found_so p x.below x.found) new x.steps
+    ]
+
+    pub turn_less : (t : Step) → s ≡ t → IsTurn look t known rest after new → weights look n new < weights look n todo
+    turn_less (Note p) is turn = subst (λ ss. weights look n ss < weights look n todo) (sym turn.1) (note_less n todo rest s pops p is)
+    turn_less (Look p) is turn = elim turn.1 [
+      | inl x ↦ subst (λ ss. weights look n ss < weights look n todo) (sym x.1) (known_less n todo rest s pops p is h)
+      | inr x ↦ look_less n todo rest s pops p is h x.below (found_so p x.below x.found) new x.steps
+    ]

@@ -23,13 +23,13 @@ use Rattle.rb_image.specs.declared.kept.Kept.{Kept}
 use Rattle.rb_image.specs.declared.leaf_words.LeafWords.{LeafWords}
 use Rattle.rb_image.specs.declared.order.Spot.{Spot}
 use Rattle.rb_image.specs.Blocks.{size_at, size_in, word_in}
-use Rattle.rb_image.specs.LeafWords.{AreNumbers, HasNumbers, block_numbers, follow_kind, items_or_none, numbers_at, with_found}
+use Rattle.rb_image.specs.LeafWords.{AreNumbers, HasNumbers, block_numbers, follow, follow_kind, follow_part, items_or_none, numbers_at, with_found}
 use Rattle.rb_image.specs.Orders.{LocatedPart, order_of}
 use Rattle.rb_image.specs.Parts.{bits_at, pointer_lead, kept_at}
 use Rattle.rb_image.specs.Splits.{range_of}
 use Rattle.rb_image.specs.inner.Reaching.{IsLeafPart, unread_words, word_read}
 use Rattle.rb_image.specs.inner.Viewing.{spot_part, spots_of}
-use Rattle.rb_image.proofs.DropLemmas.{drop_item}
+use Rattle.rb_image.proofs.DropLemmas.{drop_item, drop_past}
 use Rattle.rb_image.proofs.ExaminedParts.{followed_is}
 use Rattle.rb_image.proofs.PlacedSpots.{order_spots, spot_of}
 use Rattle.rb_image.proofs.RootLemmas.{none_at_zero}
@@ -97,6 +97,19 @@ spot_is_part leaf items i s same is = (i, ap (λ ss. slice_get ss i) (sym same) 
     there [] k x e = absurd cc
     there (y ∷ ys) zero x e = ap (λ z. Some (spot_part z)) (same_Some y x e)
     there (y ∷ ys) (suc k) x e = there ys k x e
+
+-- Parts that are followed --------------------------------------------------------------------
+module _ (m : List ImageBlock) (leaf : Leaf) (ws : List Kept) (items : List Spot) (k : ℕ) (ats due : List ℕ) (before : due ≡ follow m leaf ws ats (spots_of (drop k items))) where
+  -- one part more
+  pub follow_more : (spot : Spot) → slice_get items k ≡ Some spot → (root : List Kept) → root ≡ ws → (new : List ℕ) → new ≡ follow_part m leaf root ats (spot_part spot)
+      → due ≡ follow m leaf ws new (spots_of (drop (k + 1) items))
+  follow_more spot is root same new is_new =
+      before ∙ ap (λ ss. follow m leaf ws ats (spots_of ss)) (drop_item items k spot is)
+      ∙ ap (λ xs. follow m leaf ws xs (spots_of (drop (k + 1) items))) (ap (λ r. follow_part m leaf r ats (spot_part spot)) (sym same) ∙ sym is_new)
+
+  -- behind the last part
+  pub all_followed : length items ≤ k → ats ≡ due
+  all_followed le = sym (before ∙ ap (λ ss. follow m leaf ws ats (spots_of ss)) (drop_past items k le))
 
 -- One block more -----------------------------------------------------------------------------
 items_same : (blocks : List (Vec ℕ Global)) (b : ℕ) (v : Vec ℕ Global) → b < length blocks → items_or_none (slice_get (set blocks b v) b) ≡ v.items

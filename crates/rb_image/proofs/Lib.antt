@@ -2,6 +2,7 @@ pub mod AscendingBlocks
 pub mod AscentLemmas
 pub mod AskedLemmas
 pub mod BelowLemmas
+pub mod Blanks
 pub mod BlockLemmas
 pub mod CheckLemmas
 pub mod DepthLemmas
@@ -11,6 +12,7 @@ pub mod DescentLemmas
 pub mod DropLemmas
 pub mod EndLemmas
 pub mod ExaminedParts
+pub mod ExaminedSpots
 pub mod FallLemmas
 pub mod FallingParts
 pub mod FallingSplits

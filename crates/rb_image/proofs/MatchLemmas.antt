@@ -19,6 +19,7 @@ use Rattle.rb_image.specs.Views.{LeafPosition, down}
 use Rattle.rb_image.specs.inner.Standing.{first_fault, or_before}
 use Rattle.rb_image.proofs.DropLemmas.{drop_item}
 use Rattle.rb_image.proofs.GivenLemmas.{first_err}
+use Rattle.rb_image.proofs.WayLemmas.{then_given}
 
 abbrev pub total : List ℕ → ℕ
 total [] = 0
@@ -71,6 +72,10 @@ module _ (types : List DataDecl) (layouts : List Layout) (m : List ImageBlock) w
       -- of the first it is not known whether it matches
       pub field_err : (fault : ImageFault) → IsGiven (λ (b : Bool). b) here (Err fault) → IsGiven (λ (b : Bool). b) due (Err fault)
       field_err fault given = first_err (λ (b : Bool). b) (λ (b : Bool). b) due here and_rest fault split given
+
+      -- the first matches
+      pub field_ok : (b : Bool) → IsGiven (λ (b : Bool). b) here (Ok b) → b ≡ true → due ≡ from (i + 1)
+      field_ok b given fits = split ∙ then_given (λ (b : Bool). b) (λ (b : Bool). b) here and_rest b given ∙ ap and_rest fits
 
   -- Leaves -----------------------------------------------------------------------------------
   module _ (leaves : List Leaf) (k : ℕ) (leaf : Leaf) (x : LeafPosition) (is : slice_get leaves k ≡ Some leaf) where

@@ -1,5 +1,5 @@
 -- What is given of the end of a walk: its words, or why it cannot be rebuilt.
-use Rattle.std.proofs.Common.{◌≡◌, ℕ, ◌≤◌, inl, inr, List, length, Result, Ok, Err, refl, sym, ap, ◌∙◌}
+use Rattle.std.proofs.Common.{◌≡◌, ℕ, ◌+◌, ◌≤◌, inl, inr, List, length, Result, Ok, Err, refl, sym, ap, ◌∙◌, arith}
 use Rattle.std.specs.Prelude.{◌⊎◌}
 use Rattle.rb_core.specs.declared.types.DataDecl.{DataDecl}
 use Rattle.rb_core.specs.declared.types.Ty.TheVariants.{Named}
@@ -10,11 +10,15 @@ use Rattle.rb_image_text.specs.declared.image.Image.{Image}
 use Rattle.rb_image_text.specs.Places.{AreInPlace}
 use Rattle.rb_image.specs.declared.peek.Peeked.{Peeked}
 use Rattle.rb_image.specs.Given.{IsGiven}
-use Rattle.rb_image.specs.Paths.{IsCome, IsFaultless}
+use Rattle.rb_image.specs.Paths.{IsCome, IsFaultless, IsPathFault}
 use Rattle.rb_image.specs.Peeking.{IsFaultOf, IsPartAt, end_words}
 use Rattle.rb_image.specs.Walks.{Where}
 use Rattle.rb_image.proofs.PeekFaults.{end_told}
 use Rattle.rb_image.proofs.WellLeaves.{AreWell}
+
+-- a walk that is within its span is within a greater one
+pub span_more : (n a s t : ℕ) → n ≤ a + s → s ≤ t → n ≤ a + t
+span_more n a s t le more = omega arith
 
 abbrev Rebuilt : Type 0
 Rebuilt = Result (List ℕ) ImageFault
@@ -24,6 +28,12 @@ module _ (types : List DataDecl) (layouts : List Layout) (image : Image) where
   given_words : (due : Rebuilt) (words : List ℕ) → IsGiven (λ ws. ws) due (Ok words) → ◌≡◌ {A = Rebuilt} due (Ok words)
   given_words (Ok ws) words given = ap (λ xs. Ok xs) (sym given)
   given_words (Err fault) words given = absurd given
+
+  -- the fault of a walk, or a step that names no field
+  pub path_fault : (t : ℕ) (path : List ℕ) (fault : ImageFault) → IsPathFault types layouts image t path fault → IsFaultOf types layouts image (Named t) path fault ⊎ (fault ≡ Memory)
+  path_fault t path fault (inl at) = inl (inl at)
+  path_fault t path fault (inr (inl none)) = inl (inr (inl none))
+  path_fault t path fault (inr (inr memory)) = inr memory
 
   -- the words of what stands at the end were found
   pub words_found : (t : ℕ) (path : List ℕ) (w : Where) → IsCome types layouts image t path path w → IsFaultless types layouts image t path → (part : Peeked) → part.ty ≡ w.here.ty

@@ -1,5 +1,5 @@
 -- Walks along a path, step by step.
-use Rattle.std.proofs.Common.{◌≡◌, ℕ, zero, suc, ◌<◌, ◌++◌, true, nat_lt, List, [], ◌∷◌, length, map, Option, Some, None, Result, Ok, Err, sym, subst, ap, ◌∙◌, arith}
+use Rattle.std.proofs.Common.{◌≡◌, ◌⊎◌, inl, inr, ℕ, zero, suc, ◌+◌, ◌<◌, ◌≤◌, ◌++◌, true, nat_lt, List, [], ◌∷◌, length, map, Option, Some, None, Result, Ok, Err, sym, subst, ap, ◌∙◌, arith}
 use Rattle.std.specs.Prelude.{slice_get}
 use Rattle.std.proofs.lemmas.Grind.{common_steps}
 use Rattle.std.proofs.lemmas.Option.{same_Some}
@@ -22,7 +22,7 @@ use Rattle.rb_rel.specs.Relation.{shape_length, word_count}
 use Rattle.rb_rel.proofs.Existence.{has_layout}
 use Rattle.rb_rel.proofs.Widths.{fields_typed}
 use Rattle.rb_image_text.specs.declared.fault.ImageFault.{ImageFault}
-use Rattle.rb_image_text.specs.declared.fault.ImageFault.TheVariants.{NoSuchPart}
+use Rattle.rb_image_text.specs.declared.fault.ImageFault.TheVariants.{Memory, NoSuchPart}
 use Rattle.rb_image_text.specs.declared.image.Image.{Image}
 use Rattle.rb_image_text.specs.declared.image.ImageBlock.{ImageBlock}
 use Rattle.rb_image.specs.declared.kept.Kept.{Kept}
@@ -35,13 +35,13 @@ use Rattle.rb_image.specs.LeafWords.{block_addresses}
 use Rattle.rb_image.specs.Orders.{order_of}
 use Rattle.rb_image.specs.Parts.{field_word, field_words}
 use Rattle.rb_image.specs.Sites.{kept_of}
-use Rattle.rb_image.specs.Splits.{and_then, or_fault}
+use Rattle.rb_image.specs.Splits.{and_then, leaf_at, or_fault}
 use Rattle.rb_image.specs.Values.{IsDeclared}
-use Rattle.rb_image.specs.Visits.{first_refused, own_span}
-use Rattle.rb_image.specs.Walks.{IsPassed, Where, where_at_root, data_of, layout_at, layout_or_none, where_after_step, open_data, open_in, see, seen_of, where_settled, span_at, step, unless, where_of, words_on}
+use Rattle.rb_image.specs.Visits.{IsTidy, IsVisited, first_refused, own_span}
+use Rattle.rb_image.specs.Walks.{IsPassed, Waypoint, Where, where_at_root, data_of, layout_at, layout_or_none, leaf_or_none, where_after_step, open_data, open_in, see, seen_of, where_settled, span_at, step, unless, where_of, words_on}
 use Rattle.rb_image.specs.Ways.{refused_below}
 use Rattle.rb_image.specs.inner.Ordering.{AreOrderly}
-use Rattle.rb_image.proofs.LookLemmas.{given_memory}
+use Rattle.rb_image.proofs.LookLemmas.{given_err, given_memory, given_ok}
 use Rattle.rb_image.proofs.VisitLemmas.{layouts_are_tidy}
 
 -- Programs -----------------------------------------------------------------------------------
@@ -79,6 +79,34 @@ module _ (layouts : List Layout) (t : ℕ) (layout : Layout) (is : layout_of lay
 
   pub count_is : word_count layouts (Named t) ≡ length layout.shape
   count_is = ap shape_length is
+
+  -- the sites are those of the root words of its leaves
+  pub tidy_at : IsTidy layout (length layout.shape) → (sites items : List Site) → sites ≡ items → length items ≡ word_count layouts (Named t) → IsTidy layout (length sites)
+  tidy_at tidy sites items same count = subst (IsTidy layout) (sym (ap length same ∙ count ∙ count_is)) tidy
+
+  pub span_fits : (n a : ℕ) → n ≤ a + own_span layout → n ≤ a + span_at layouts (Some t)
+  span_fits n a le = subst (λ k. n ≤ a + k) (sym span_is) le
+
+  module _ (m : List ImageBlock) (ws : List Kept) where
+    abbrev at_number : Layout → ℕ → Waypoint
+    at_number l n = record { ty = t; words = ws; leaf = leaf_or_none (slice_get l.leaves n); at = [] }
+
+    see_is : see layouts m t ws ≡ and_then (leaf_at layout.tree m ws) (λ n. Ok (at_number layout n))
+    see_is = ap (λ (l : Layout). and_then (leaf_at l.tree m ws) (λ n. Ok (at_number l n))) layout_is
+
+    -- a subvalue is seen
+    pub see_found : (x : Passed) → IsVisited m layout ws x.visited → x.ty ≡ t → x.at ≡ [] → IsGiven seen_of (see layouts m t ws) (Ok x)
+    see_found x v same none =
+        let leaf = x.visited.leaf.now in
+        given_ok seen_of (see layouts m t ws) (record { ty = t; words = ws; leaf = leaf; at = [] }) x
+        (see_is ∙ ap (λ (r : Result ℕ ImageFault). and_then r (λ n. Ok (at_number layout n))) v.leads ∙ ap (λ o. Ok (record { ty = t; words = ws; leaf = leaf_or_none o; at = [] })) v.is_leaf)
+        (ap (λ k. record { ty = k; words = x.visited.words.root.items; leaf = leaf; at = x.at }) same ∙ ap (λ ks. record { ty = t; words = ks; leaf = leaf; at = x.at }) v.root
+        ∙ ap (λ at. record { ty = t; words = ws; leaf = leaf; at = at }) none)
+
+    -- or its splits have a fault
+    pub see_failed : (fault : ImageFault) → (◌≡◌ {A = Result ℕ ImageFault} (leaf_at layout.tree m ws) (Err fault)) ⊎ (fault ≡ Memory) → IsGiven seen_of (see layouts m t ws) (Err fault)
+    see_failed fault (inl at) = given_err seen_of (see layouts m t ws) fault (see_is ∙ ap (λ (r : Result ℕ ImageFault). and_then r (λ n. Ok (at_number layout n))) at)
+    see_failed fault (inr memory) = subst (λ f. IsGiven seen_of (see layouts m t ws) (Err f)) (sym memory) (given_memory seen_of (see layouts m t ws))
 
 -- Steps --------------------------------------------------------------------------------------
 module _ (types : List DataDecl) (layouts : List Layout) (orderly : AreOrderly types layouts) where

@@ -7,7 +7,7 @@
 
 ghost use Rattle.std.specs.Prelude.{◌≡◌, ◌++◌, OnOk, length};
 ghost use Rattle.rb_image.specs.Parts.{at_of, look};
-ghost use Rattle.rb_image.specs.inner.Descending.{SoundnessIsFound, looks};
+ghost use Rattle.rb_image.specs.inner.Descending.{SoundnessIsFound, TurnEnds, looks};
 ghost use Rattle.rb_image.specs.inner.Ending.{DescentsEnd, DescentEnds, depth_bound};
 ghost use Rattle.rb_image_text.specs.Places.{AreInPlace};
 
@@ -49,6 +49,32 @@ pub(crate) fn descents_end(agreed: &Agreed)
     let _ = agreed.layouts();
 }
 
+// Does one thing: notes a place, or looks at one that was not found sound, so that then the places
+// below it are looked at, and it is noted. An error is that of the look, or want of memory.
+fn turn(
+    alloc: Global,
+    agreed: &Agreed,
+    memory: &[ImageBlock],
+    step: Step,
+    known: &mut Known,
+    todo: &mut Vec<Step>,
+) -> Result<(), ImageFault>
+    requires placed { AreInPlace memory.now }
+    ensures { TurnEnds (look agreed.now.covered.program.types agreed.now.layouts memory.now) step
+        known.old todo.old.items known.new todo.new.items result }
+{
+    match step {
+        Step::Note(place) => Ok(known.add(place)?),
+        Step::Look(place) => if known.has(&place) {
+            Ok(())
+        } else {
+            let below = look(alloc, agreed, memory, &place)?;
+            todo.push(Step::Note(place))?;
+            Ok(add_looks(below, todo)?)
+        },
+    }
+}
+
 /// Checks that a place is sound: looks at it and at all that one comes to from it, outer places
 /// before inner ones, from left to right. A place that was found sound is not looked at again. What
 /// is to do stands on a stack, so nothing recurs. An error is the first fault that a look finds, or
@@ -66,18 +92,11 @@ pub(crate) fn descend(
     ensures { SoundnessIsFound (look agreed.now.covered.program.types agreed.now.layouts memory.now)
         (at_of root) result }
 {
-    let mut known = Known::new(alloc);
     let mut todo = Vec::new(alloc);
     todo.push(Step::Look(root))?;
+    let mut known = Known::new(alloc);
     while let Some(step) = todo.pop() {
-        match step {
-            Step::Note(place) => known.add(place)?,
-            Step::Look(place) => if !known.has(&place) {
-                let below = look(alloc, agreed, memory, &place)?;
-                todo.push(Step::Note(place))?;
-                add_looks(below, &mut todo)?;
-            },
-        }
+        turn(alloc, agreed, memory, step, &mut known, &mut todo)?;
     }
     Ok(())
 }

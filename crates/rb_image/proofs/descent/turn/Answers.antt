@@ -1,0 +1,12 @@
+use Rattle.std.proofs.Common.{[], ◌∷◌, ◌++◌, sym, ap, ◌∙◌, append_assoc}
+use Rattle.rb_image.specs.Parts.{at_of, look}
+use Rattle.rb_image.specs.declared.descent.Step.TheVariants.{Note}
+use Rattle.rb_image.specs.inner.Descending.{looks}
+use Rattle.rb_image.proofs.DescentLemmas.{turn_failed, turn_known, turn_looked, turn_memory, turn_noted}
+use Rattle.rb_image.proofs.GivenLemmas.{due_is}
+use Rattle.rb_image.proofs.descent.turn.Goals as goal
+
+pub returns-then-has : goal.returns-then-has
+returns-then-has c =
+    turn_known (look c.args.agreed.now.covered.program.types c.args.agreed.now.layouts c.args.memory.now) c.args.step c.in-Look.place c.args.known.now c.args.todo.now.items
+    c.in-Look.is (sym c.has.ensures ∙ c.if-has.true)
