@@ -13,7 +13,7 @@ use Rattle.rb_image.specs.declared.kept.Place.{Place}
 use Rattle.rb_image.specs.Given.{IsGiven}
 use Rattle.rb_image.specs.Parts.{At, at_of, ats_of}
 use Rattle.rb_image.specs.Sound.{Looking, IsSound, sound, HasFault, own, inner}
-use Rattle.rb_image.specs.inner.Descending.{looks, AreSound, HaveFault, IsNoted, AreNoted, DescentStands, IsLookedAt, IsTurn, IsTurnFault, SoundnessIsFound, TurnEnds}
+use Rattle.rb_image.specs.inner.Descending.{looks, AreSound, HaveFault, IsNoted, AreNoted, DescentStands, IsTurn, IsTurnFault, SoundnessIsFound}
 use Rattle.rb_image.specs.inner.Knowing.{is_among, with_place}
 use Rattle.rb_image.proofs.KnownLemmas.{holds_among, holds_with}
 
@@ -209,38 +209,6 @@ module _ (look : Looking) where
   found_on p (Err x) e is same h = subst (λ y. HasFault look p y ⊎ (y ≡ NoMemory)) (sym same) h
 
   -- One step ---------------------------------------------------------------------------------
-  -- a place is noted
-  pub turn_noted : (s : Step) (p : Place) (known after : List At) (todo : List Step) → s ≡ Note p → after ≡ with_place known (at_of p) → IsTurn look s known todo after todo
-  turn_noted s p known after todo is with_it = subst (λ t. IsTurn look t known todo after todo) (sym is) (with_it, refl)
-
-  -- or it is known
+  -- a place that is known is not looked at
   pub turn_known : (s : Step) (p : Place) (known : List At) (todo : List Step) → s ≡ Look p → is_among known (at_of p) ≡ true → IsTurn look s known todo known todo
   turn_known s p known todo is among = subst (λ t. IsTurn look t known todo known todo) (sym is) (refl, inl (among, refl))
-
-  -- or it is looked at
-  pub turn_looked : (s : Step) (p : Place) (known : List At) (todo new : List Step) → s ≡ Look p → IsLookedAt look p todo new → IsTurn look s known todo known new
-  turn_looked s p known todo new is looked = subst (λ t. IsTurn look t known todo known new) (sym is) (refl, inr looked)
-
-  memory_fault : (s : Step) → IsTurnFault look s NoMemory
-  memory_fault (Note p) = refl
-  memory_fault (Look p) = inr refl
-
-  fault_told : {A : Type 0} (s : Step) (known after : List At) (todo new : List Step) (r : Result A ImageFault) (e : ImageFault) → IsErr r → IsErrAnd r (λ x. x ≡ e) → IsTurnFault look s e
-      → TurnEnds look s known todo after new r
-  fault_told s known after todo new (Ok a) e is same h = absurd (false≢true is)
-  fault_told s known after todo new (Err x) e is same h = subst (IsTurnFault look s) (sym same) h
-
-  -- want of memory that is handed on
-  pub turn_memory : {A : Type 0} (s : Step) (known after : List At) (todo new : List Step) (r : Result A ImageFault) → IsErr r → IsErrAnd r (λ x. x ≡ NoMemory) → TurnEnds look s known todo after new r
-  turn_memory s known after todo new r is same = fault_told s known after todo new r NoMemory is same (memory_fault s)
-
-  look_failed : (due : Result (List At) ImageFault) (e : ImageFault) → {B : Type 0} (view : B → List At) → IsGiven view due (Err e) → (due ≡ Err e) ⊎ (e ≡ NoMemory)
-  look_failed (Ok a) e {B} view given = inr given
-  look_failed (Err f) e {B} view (inl same) = inl (ap (λ x. Err x) (sym same))
-  look_failed (Err f) e {B} view (inr memory) = inr memory
-
-  -- and a fault of a look
-  pub turn_failed : {A B : Type 0} (view : B → List At) (s : Step) (p : Place) (known after : List At) (todo new : List Step) (r : Result A ImageFault) (e : ImageFault) → s ≡ Look p
-      → IsErr r → IsErrAnd r (λ x. x ≡ e) → IsGiven view (look (at_of p)) (Err e) → TurnEnds look s known todo after new r
-  turn_failed view s p known after todo new r e at is same given =
-      fault_told s known after todo new r e is same (subst (λ t. IsTurnFault look t e) (sym at) (look_failed (look (at_of p)) e view given))

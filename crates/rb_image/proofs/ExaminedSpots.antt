@@ -1,16 +1,15 @@
 -- The parts of a leaf, examined one after the other, as the code has them.
-use Rattle.std.proofs.Common.{◌≡◌, ℕ, ◌+◌, ◌≤◌, inl, List, length, drop, Some, Result, Ok, Err, refl, sym, subst, ap, ◌∙◌}
+use Rattle.std.proofs.Common.{◌≡◌, ℕ, ◌+◌, List, drop, Some, Result, Ok, Err, sym, ap, ◌∙◌}
 use Rattle.std.specs.Prelude.{slice_get}
 use Rattle.rb_layout.specs.declared.layout.Leaf.{Leaf}
 use Rattle.rb_image_text.specs.declared.fault.ImageFault.{ImageFault}
 use Rattle.rb_image_text.specs.declared.image.ImageBlock.{ImageBlock}
 use Rattle.rb_image.specs.declared.kept.Kept.{Kept}
 use Rattle.rb_image.specs.declared.order.Spot.{Spot}
-use Rattle.rb_image.specs.Given.{IsGiven}
 use Rattle.rb_image.specs.Parts.{examine, examine_part}
 use Rattle.rb_image.specs.Splits.{and_then}
 use Rattle.rb_image.specs.inner.Viewing.{EndsAsDue, spot_part, spots_of}
-use Rattle.rb_image.proofs.DropLemmas.{drop_item, drop_past}
+use Rattle.rb_image.proofs.DropLemmas.{drop_item}
 
 abbrev Examined : Type 0
 Examined = Result (List ℕ) ImageFault
@@ -18,10 +17,6 @@ Examined = Result (List ℕ) ImageFault
 done_is : {B : Type 0} (due : Examined) (new : List ℕ) (b : B) → EndsAsDue due new (Ok b) → ◌≡◌ {A = Examined} due (Ok new)
 done_is (Ok a) new b ends = ap (λ x. Ok x) (sym ends)
 done_is (Err fault) new b ends = absurd ends
-
-fault_is : (B : Type 0) (due : Examined) (new : List ℕ) (fault : ImageFault) → EndsAsDue {B = B} due new (Err fault) → ◌≡◌ {A = Examined} due (Err fault)
-fault_is B (Ok a) new fault ends = absurd ends
-fault_is B (Err f) new fault ends = ap (λ x. Err x) (sym ends)
 
 module _ (m : List ImageBlock) (leaf : Leaf) (ws : List Kept) (items : List Spot) where
   module _ (k : ℕ) (spot : Spot) (is : slice_get items k ≡ Some spot) (ats : List ℕ) (due : Examined) (before : due ≡ examine m leaf ws ats (spots_of (drop k items))) where
@@ -33,11 +28,3 @@ module _ (m : List ImageBlock) (leaf : Leaf) (ws : List Kept) (items : List Spot
 
     pub examined_more : {B : Type 0} (new : List ℕ) (b : B) → EndsAsDue (examine_part m leaf ws ats (spot_part spot)) new (Ok b) → due ≡ examine m leaf ws new (spots_of (drop (k + 1) items))
     examined_more new b ends = examined_on (Ok new) (done_is (examine_part m leaf ws ats (spot_part spot)) new b ends)
-
-    pub examined_fault : {C : Type 0} (B : Type 0) (view : C → List ℕ) (new : List ℕ) (fault : ImageFault) → EndsAsDue {B = B} (examine_part m leaf ws ats (spot_part spot)) new (Err fault) → IsGiven view due (Err fault)
-    examined_fault {C} B view new fault ends =
-        subst (λ (d : Examined). IsGiven view d (Err fault)) (sym (examined_on (Err fault) (fault_is B (examine_part m leaf ws ats (spot_part spot)) new fault ends))) (inl refl)
-
-  -- behind the last part
-  pub all_examined : (k : ℕ) → length items ≤ k → (ats : List ℕ) (due : Examined) → due ≡ examine m leaf ws ats (spots_of (drop k items)) → ◌≡◌ {A = Examined} due (Ok ats)
-  all_examined k le ats due before = before ∙ ap (λ ss. examine m leaf ws ats (spots_of ss)) (drop_past items k le)

@@ -1,9 +1,6 @@
-use Rattle.std.proofs.Common.{[], ◌∷◌, ◌++◌, sym, ap, ◌∙◌, append_assoc}
-use Rattle.rb_image.specs.Parts.{at_of, look}
-use Rattle.rb_image.specs.declared.descent.Step.TheVariants.{Note}
-use Rattle.rb_image.specs.inner.Descending.{looks}
-use Rattle.rb_image.proofs.DescentLemmas.{turn_failed, turn_known, turn_looked, turn_memory, turn_noted}
-use Rattle.rb_image.proofs.GivenLemmas.{due_is}
+use Rattle.std.proofs.Common.{sym, ◌∙◌}
+use Rattle.rb_image.specs.Parts.{look}
+use Rattle.rb_image.proofs.DescentLemmas.{turn_known}
 use Rattle.rb_image.proofs.descent.turn.Goals as goal
 
 pub returns-then-has : goal.returns-then-has

@@ -1,4 +1,4 @@
-use Rattle.std.proofs.Common.{map, sym, ap, ◌∙◌, arith}
+use Rattle.std.proofs.Common.{map, sym, arith}
 use Rattle.rb_image.specs.Sites.{kept_of}
 use Rattle.rb_image.specs.Splits.{range_at}
 use Rattle.rb_image.proofs.AskedLemmas.{range_more}

@@ -1,9 +1,7 @@
-use Rattle.std.proofs.Common.{length, refl, sym, ap, ◌∙◌, arith}
+use Rattle.std.proofs.Common.{length, refl}
 use Rattle.std.proofs.lemmas.Option.{slice_get_read}
-use Rattle.rb_image.specs.Orders.{order_of}
-use Rattle.rb_image.specs.Parts.{addresses_of, examine as examined}
-use Rattle.rb_image.specs.inner.Viewing.{spots_of}
-use Rattle.rb_image.proofs.ExaminedSpots.{all_examined, examined_fault, examined_more}
+use Rattle.rb_image.specs.Parts.{addresses_of}
+use Rattle.rb_image.proofs.ExaminedSpots.{examined_more}
 use Rattle.rb_image.proofs.parts.examine.Goals as goal
 
 pub loop-spot-preserved : goal.loop-spot-preserved

@@ -1,4 +1,4 @@
-use Rattle.std.proofs.Common.{sym, ap, ◌∙◌}
+use Rattle.std.proofs.Common.{sym}
 use Rattle.rb_image.specs.Splits.{range_at as the_range}
 use Rattle.rb_image.proofs.AskedLemmas.{range_more}
 use Rattle.rb_image.proofs.Blanks.{no_step}
