@@ -8,6 +8,7 @@ mod Edges
 mod FieldSources
 mod Following
 mod Landing
+mod Loops
 mod Groups
 mod LeafTests
 mod Mending

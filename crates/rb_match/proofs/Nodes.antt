@@ -3,6 +3,7 @@ use Rattle.std.proofs.Common.{◌≡◌, ℕ, zero, suc, ◌+◌, ◌<◌, ◌�
 use Rattle.std.specs.Prelude.{slice_get}
 use Rattle.std.proofs.lemmas.Option.{same_Some, slice_get_within}
 use Rattle.rb_core.specs.declared.types.Ty.{Ty}
+use Rattle.rb_core.specs.declared.types.Ty.TheVariants.{Int, Named}
 use Rattle.rb_core.specs.declared.pattern.Pat.{Pat}
 use Rattle.rb_decide.specs.declared.decision_graph.GraphArm.{GraphArm}
 use Rattle.rb_decide.specs.declared.decision_graph.GraphNode.{GraphNode}
@@ -33,21 +34,20 @@ use Rattle.rb_match.specs.declared.spots.Whole.{Whole}
 use Rattle.rb_fragment.proofs.Holds.{AllBelow-more}
 use Rattle.rb_match.specs.inner.Knowing.{IsEdge, IsCommonKnowledge}
 use Rattle.rb_match.specs.inner.Places.{FindsPlace, IsLookedAt}
-use Rattle.rb_match.specs.inner.Asking.{AreSpots, holes_of, AreOpen, StandOpen, AskedAt, AskedThere, edge_at}
+use Rattle.rb_match.specs.inner.Asking.{AreSpots, holes_of, AreOpen, StandOpen, AskedAt, AskedThere, AsksLeaf, AsksNumber, edge_at}
 use Rattle.rb_match.specs.inner.Flowing.{landing_of, others_of, job_of, Flows, JobStands, StepsNode, RootStands, IsFineJob, IsClauseHole, AreClauseHoles, TakesGraph}
 use Rattle.rb_match.proofs.Edges.{edge_append, edge_open, other_from, holes_from, patchable_from}
 use Rattle.rb_match.proofs.Landing.{landing_hole, landing_target, land_flows}
 use Rattle.rb_match.proofs.Passing.{begins_on, ends_on}
 use Rattle.rb_match.specs.inner.Threading.{LeadsOn, Threads}
-use Rattle.rb_match.specs.inner.Opening.{Asks, IsOnward}
+use Rattle.rb_match.specs.inner.Opening.{Asks, AsksOnward, AsksPart, IsOnward}
 use Rattle.rb_match.proofs.Testing.{test_flows, test_job, root_flows}
 use Rattle.rb_match.proofs.Threads.{leads_refl, thread_append, thread_flows, thread_refl}
 
 -- from reads of the part to reads of the whole value
 pub asks_of : (agreed : LaidOut) (graph : Whole) (words : List Read) (spots : List Spot) (known : List Known) (position : List ℕ) (arms : List GraphArm) (other : Option ℕ) (old new : Sheet) (edges : List Edge) (place : Place)
     → FindsPlace agreed graph.ty words spots known position place → IsLookedAt agreed.covered.program.types graph.ty graph.pats.now position place.ty
-    → ((plan : Plan) (n : ℕ) → IsPlanOf agreed plan → AreSpots plan n old.slots spots → AllFit old.slots place.reads → length place.reads ≡ words_needed plan place.ty → AskedThere (IsOnward agreed graph) plan place.ty n spots place.reads known position arms other old new edges)
-    → Asks agreed graph words spots known position arms other old new edges
+    → AsksPart agreed graph place.ty spots place.reads known position arms other old new edges → Asks agreed graph words spots known position arms other old new edges
 asks_of agreed graph words spots known position arms other old new edges place finds looked asks = λ plan n of are fit count.
     let p = finds plan of count are.count in
     let a = asks plan n of are (p.fit old.slots fit are.below) p.count in
@@ -87,6 +87,17 @@ asked_on agreed graph plan ty n spots reads known position arms other old new ed
         );
       };
 }
+
+-- tests of an integer and of a leaf alone
+pub number_part : (agreed : LaidOut) (graph : Whole) (bits : ℕ) (spots : List Spot) (reads : List Read) (known : List Known) (position : List ℕ) (arms : List GraphArm) (other : Option ℕ) (old new : Sheet) (edges : List Edge)
+    → AsksNumber reads known arms other old new edges → AsksPart agreed graph (Int bits) spots reads known position arms other old new edges
+number_part agreed graph bits spots reads known position arms other old new edges asks = λ plan n of are fit count.
+    asked_on agreed graph plan (Int bits) n spots reads known position arms other old new edges (asks plan n bits position spots are.low are.below fit)
+
+pub leaf_part : (agreed : LaidOut) (graph : Whole) (t : ℕ) (spots : List Spot) (reads : List Read) (known : List Known) (position : List ℕ) (arms : List GraphArm) (other : Option ℕ) (old new : Sheet) (edges : List Edge)
+    → AsksLeaf agreed t reads known position arms other old new edges → AsksPart agreed graph (Named t) spots reads known position arms other old new edges
+leaf_part agreed graph t spots reads known position arms other old new edges asks = λ plan n of are fit count.
+    asked_on agreed graph plan (Named t) n spots reads known position arms other old new edges (asks plan n spots of are fit count)
 
 -- spots of code with more slots
 pub spots-more : (plan : Plan) (n m m1 : ℕ) (spots : List Spot) → m ≤ m1 → AreSpots plan n m spots → AreSpots plan n m1 spots
@@ -173,7 +184,7 @@ module _ (agreed : LaidOut) (graph : Whole) (words : List Read) (spots : List Sp
             both e f (inr i) (inl j) p s = absurd (let a = below f j in let c = stand.are_open e i in omega (arith, a, c.0, p))
             both e f (inr i) (inr j) p s = stand.one e f i j p s
 
-      pub steps_node : StepsNode agreed ty words pats spots nodes node n old edges new (rest ++ onward)
+      steps_node : StepsNode agreed ty words pats spots nodes node n old edges new (rest ++ onward)
       steps_node = record {
         stands = λ first st. all_stand first st;
         flows = λ plan base root first fine at st f.
@@ -185,8 +196,15 @@ module _ (agreed : LaidOut) (graph : Whole) (words : List Read) (spots : List Sp
             thread_flows agreed ty pats nodes plan base spots words root first new (rest ++ asked) (rest ++ onward) fine.of fine.lower (thread_append agreed ty pats nodes rest rest asked onward (thread_refl agreed ty pats nodes rest) threads.threaded) f1;
       }
 
+-- a node that tests
+pub steps_onward : (agreed : LaidOut) (graph : Whole) (words : List Read) (spots : List Spot) (position : List ℕ) (arms : List GraphArm) (other : Option ℕ) (n : ℕ) (old : Sheet) (edges : List Edge) (known : List Known) (new : Sheet) (onward : List Edge)
+    → IsCommonKnowledge edges n (Some known) → AsksOnward agreed graph words spots known position arms other (with_targets old (landing_of n edges) (length old.code ∷ [])) new onward
+    → StepsNode agreed graph.ty words graph.pats.now spots graph.nodes.now (Test position arms other) n old edges new (others_of n edges ++ onward)
+steps_onward agreed graph words spots position arms other n old edges known new onward common a =
+    steps_node agreed graph words spots position arms other n old edges known common new a.asked onward a.asks a.stand a.threads a.grows
+
 -- the root
-pub begins_test : (agreed : LaidOut) (graph : Whole) (words : List Read) (spots : List Spot) (root : ℕ) (position : List ℕ) (arms : List GraphArm) (other : Option ℕ) (old new : Sheet) (edges onward : List Edge)
+begins_test : (agreed : LaidOut) (graph : Whole) (words : List Read) (spots : List Spot) (root : ℕ) (position : List ℕ) (arms : List GraphArm) (other : Option ℕ) (old new : Sheet) (edges onward : List Edge)
     → slice_get graph.nodes.now root ≡ Some (Test position arms other) → Asks agreed graph words spots [] position arms other old new edges → StandOpen old new edges → Threads agreed graph.ty graph.pats.now graph.nodes.now edges onward → Grows old.code new.code
     → RootStands agreed graph.ty words graph.pats.now spots graph.nodes.now root old new onward
 begins_test agreed graph words spots root position arms other old new edges onward at asks stand threads grows = record {
@@ -197,6 +215,10 @@ begins_test agreed graph words spots root position arms other old new edges onwa
       let f = test_flows agreed graph plan base spots words root old old new [] edges [] root position arms other fine.of fine.lower (fine.fit base (omega arith)) at (root_flows job) (λ e i. absurd (let z = i.1 in cc)) (asks plan base fine.of fine.spots (fine.fit old.slots low) fine.count) stand in
       thread_flows agreed graph.ty graph.pats.now graph.nodes.now plan base spots words root old new edges onward fine.of fine.lower threads.threaded f;
 }
+
+pub begins_onward : (agreed : LaidOut) (graph : Whole) (words : List Read) (spots : List Spot) (root : ℕ) (position : List ℕ) (arms : List GraphArm) (other : Option ℕ) (old new : Sheet) (onward : List Edge)
+    → slice_get graph.nodes.now root ≡ Some (Test position arms other) → AsksOnward agreed graph words spots [] position arms other old new onward → RootStands agreed graph.ty words graph.pats.now spots graph.nodes.now root old new onward
+begins_onward agreed graph words spots root position arms other old new onward at a = begins_test agreed graph words spots root position arms other old new a.asked onward at a.asks a.stand a.threads a.grows
 
 pub begins_jump : (agreed : LaidOut) (ty : Ty) (words : List Read) (pats : List Pat) (spots : List Spot) (nodes : List GraphNode) (root : ℕ) (old : Sheet) → RootStands agreed ty words pats spots nodes root old (with_more old (Jump (length old.code + 1))) (edge_at (length old.code) None root [] ∷ [])
 begins_jump agreed ty words pats spots nodes root old =

@@ -18,10 +18,10 @@ ghost use Rattle.rb_target.specs.Growth.{Grows};
 ghost use Rattle.rb_target.specs.Sheet.{with_more};
 ghost use Rattle.rb_fetch.specs.Finding.{leaf_count};
 ghost use Rattle.rb_match.specs.inner.Asking.{number_arm, number_arms, is_number, are_numbers, is_test, known_at_node, edge_at, edge_in, arm_edges, else_edges, leaf_con, link_at, take_link, node_for, facts_for, IsGrouped, AreGroups, edge_for, leaf_edges_of, StandOpen, AsksNumber, AsksLeaf};
-ghost use Rattle.rb_match.specs.inner.Opening.{Asks};
+ghost use Rattle.rb_match.specs.inner.Opening.{Asks, AsksPart};
 
 use crate::deep::ask_deep;
-use crate::knowledge::{Edge, Known, Subject, Test, copy_known, with_known};
+use crate::knowledge::{Edge, Known, Spot, Subject, Test, copy_known, with_known};
 use crate::place::{is_looked_at, place_of_part};
 use crate::spots::{Whole, has_spot_below, is_within};
 use rb_core::pattern::Pat;
@@ -507,6 +507,41 @@ fn ask_leaf<'a>(
 
 // Tests -----------------------------------------------------------------------------------------
 
+// Code of a test of the part at the test's position, over reads of its words: of its number, or of its leaf. What later
+// tests need of it is saved where it has spots.
+fn ask_part<'a>(
+    alloc: Global,
+    body: &mut Body,
+    agreed: &Agreed,
+    graph: &Whole<'a>,
+    spots: &[Spot],
+    ty: Ty,
+    reads: &[Read],
+    test: &Test<'_, 'a>,
+) -> Result<Seq<Edge<'a>>, AllocError>
+    ensures asks { IfOk result (λ edges. AsksPart agreed.now graph.now ty spots.now reads.now test.now.known.now
+        test.now.position.now test.now.arms.now test.now.other body.old body.new edges) }
+    ensures stand { IfOk result (λ edges. StandOpen body.old body.new edges) }
+    ensures grows { OnOk result (Grows body.old.code body.new.code) }
+{
+    match ty {
+        Ty::Int(_) => {
+            let (known, arms, other) = (test.known, test.arms, test.other);
+            let edges = ask_number(alloc, body, graph.nodes, reads, known, arms, other)?;
+            Ok(edges)
+        }
+        Ty::Named(t) => {
+            if has_spot_below(spots, test.position) {
+                let edges = ask_deep(alloc, body, agreed, graph, t, reads, spots, test)?;
+                Ok(edges)
+            } else {
+                let edges = ask_leaf(alloc, body, agreed, graph.nodes, t, reads, test)?;
+                Ok(edges)
+            }
+        }
+    }
+}
+
 /// Code of a test at a position of a value of a type: it leaves by an edge to the node of the arm that is
 /// taken, or to one to which what is known leads on from there, which carries what is known there. What later tests
 /// need of the part there is saved where it has spots, slots for its fields. A position that no
@@ -538,20 +573,6 @@ pub fn ask<'a>(
         return Err(AllocError);
     }
     let reads = place.reads.as_slice();
-    match place.ty {
-        Ty::Int(_) => {
-            let (arms, other) = (test.arms, test.other);
-            let edges = ask_number(alloc, body, graph.nodes, reads, known, arms, other)?;
-            Ok(edges)
-        }
-        Ty::Named(t) => {
-            if has_spot_below(spots, position) {
-                let edges = ask_deep(alloc, body, agreed, graph, t, reads, spots, test)?;
-                Ok(edges)
-            } else {
-                let edges = ask_leaf(alloc, body, agreed, graph.nodes, t, reads, test)?;
-                Ok(edges)
-            }
-        }
-    }
+    let edges = ask_part(alloc, body, agreed, graph, spots, place.ty, reads, test)?;
+    Ok(edges)
 }

@@ -14,7 +14,7 @@ ghost use Rattle.rb_core.specs.Typing.{field_types};
 ghost use Rattle.rb_target.specs.Growth.{Grows};
 ghost use Rattle.rb_fetch.specs.Finding.{leaf_count};
 ghost use Rattle.rb_match.specs.Choosing.{BindsPattern};
-ghost use Rattle.rb_match.specs.inner.Binding.{IsLeftOut, IsOnly, IsOnlyLeaf, BindsFieldFrom, BindsFieldsFrom, FieldStands, GivesFields, SavesTogether, StandsInSpot};
+ghost use Rattle.rb_match.specs.inner.Binding.{BindsBare, IsLeftOut, IsOnly, IsOnlyLeaf, BindsFieldFrom, BindsFieldsFrom, FieldStands, GivesFields, SavesTogether, StandsInSpot};
 ghost use Rattle.rb_match.specs.Bounding.{takes_none_apart};
 
 use crate::asking::count_leaves;
@@ -110,9 +110,25 @@ fn fields_of_con(agreed: &Agreed, con: ConRef) -> &[Ty]
     types_of_fields(types, con)
 }
 
+// What a pattern without subpatterns binds at a value of this type, whose words stand in some slots:
+// a variable has these very slots. There is no code for it. A constructor is an error.
+fn bind_bare(alloc: Global, ty: Ty, words: &[usize], pat: &Pat) -> Result<Seq<Local>, AllocError>
+    ensures { IfOk result (λ bound. BindsBare ty pat.now words.now bound) }
+{
+    match pat {
+        Pat::Wild(_) => Ok(Seq::new(alloc)),
+        Pat::Num(_, _) => Ok(Seq::new(alloc)),
+        Pat::Var(_, var) => {
+            let bound = bound_variable(alloc, ty, words, *var)?;
+            Ok(bound)
+        }
+        Pat::Con(_, _, _) => Err(AllocError),
+    }
+}
+
 // Code that binds what a pattern binds at a value of this type, whose words stand in some slots:
-// the variables with their slots. A variable that is the whole pattern has these very slots. There
-// is no code for a pattern without variables.
+// the variables with their slots. A variable that is the whole pattern has these very slots. A constructor's pattern
+// is one that has a variable.
 #[cycle(binding)]
 fn bind_at(
     alloc: Global,
@@ -126,16 +142,11 @@ fn bind_at(
     ensures grows { OnOk result (Grows body.old.code body.new.code) }
 {
     match pat {
-        Pat::Wild(_) => Ok(Seq::new(alloc)),
-        Pat::Num(_, _) => Ok(Seq::new(alloc)),
-        Pat::Var(_, var) => {
-            let bound = bound_variable(alloc, ty, words, *var)?;
+        Pat::Wild(_) | Pat::Var(_, _) | Pat::Num(_, _) => {
+            let bound = bind_bare(alloc, ty, words, pat)?;
             Ok(bound)
         }
         Pat::Con(_, con, subs) => {
-            if binds_nothing(pat) {
-                return Ok(Seq::new(alloc));
-            }
             let fields = fields_of_con(agreed, *con);
             let subs = subs.as_slice();
             let source = field_source(alloc, body, agreed, ty, *con, words, pat, subs, fields)?;
@@ -411,6 +422,9 @@ pub fn bind(
     ensures binds { IfOk result (λ bound. BindsPattern agreed.now ty pat.now words.now body.old body.new bound) }
     ensures grows { OnOk result (Grows body.old.code body.new.code) }
 {
+    if binds_nothing(pat) {
+        return Ok(Seq::new(alloc));
+    }
     let bound = bind_at(alloc, body, agreed, ty, words, pat)?;
     Ok(bound)
 }

@@ -18,6 +18,7 @@ ghost use Rattle.rb_target.specs.Growth.{Grows};
 ghost use Rattle.rb_fragment.specs.Arms.{AreHoles, AreOfOneWay, with_targets};
 ghost use Rattle.rb_match.specs.inner.Asking.{AreOpen};
 ghost use Rattle.rb_match.specs.inner.Flowing.{landing_of, others_of, StepsNode, RootStands, IsClauseHole, AreClauseHoles, TakesGraph};
+ghost use Rattle.rb_match.specs.inner.Opening.{AsksOnward};
 
 use crate::asking::{ask, open_jump};
 use crate::knowledge::{Edge, Subject, Test, node_known};
@@ -83,6 +84,23 @@ pub fn land<'a>(
     Ok(others(edges, node))
 }
 
+// The code of a test of a graph. It leaves by edges, each to the node to which what it knows leads on.
+fn ask_onward<'a>(
+    alloc: Global,
+    body: &mut Body,
+    agreed: &Agreed,
+    graph: &Whole<'a>,
+    subject: &Subject,
+    test: &Test<'_, 'a>,
+) -> Result<Seq<Edge<'a>>, AllocError>
+    ensures { IfOk result (λ onward. AsksOnward agreed.now graph.now subject.now.words.now subject.now.spots.now
+        test.now.known.now test.now.position.now test.now.arms.now test.now.other body.old body.new onward) }
+{
+    let asked = ask(alloc, body, agreed, graph, subject, test)?;
+    let onward = thread(alloc, agreed, graph.ty, graph.pats, graph.nodes, asked)?;
+    Ok(onward)
+}
+
 // The code of a node, to which some of the open edges lead: it begins at the end of the code, and
 // the answer is the edges that are open behind it. A clause has no code, and keeps its edges; a
 // test to which no edge leads has none either. `number` is the node's.
@@ -116,8 +134,7 @@ fn emit_node<'a>(
                 other: *other,
             };
             let mut rest = land(alloc, body, edges, number)?;
-            let asked = ask(alloc, body, agreed, graph, subject, &test)?;
-            let onward = thread(alloc, agreed, graph.ty, graph.pats, graph.nodes, asked)?;
+            let onward = ask_onward(alloc, body, agreed, graph, subject, &test)?;
             match rest.append(onward) {
                 None => Ok(rest),
                 Some(_) => Err(AllocError),
@@ -153,13 +170,13 @@ fn begin<'a>(
                 arms,
                 other: *other,
             };
-            let edges = ask(alloc, body, agreed, graph, subject, &test)?;
-            let onward = thread(alloc, agreed, graph.ty, graph.pats, graph.nodes, edges)?;
+            let onward = ask_onward(alloc, body, agreed, graph, subject, &test)?;
             Ok(onward)
         }
         GraphNode::Clause(_) => {
+            let edge = open_jump(alloc, body, root, &[])?;
             let mut edges = Seq::new(alloc);
-            edges.push(open_jump(alloc, body, root, &[])?)?;
+            edges.push(edge)?;
             Ok(edges)
         }
     }
@@ -204,6 +221,29 @@ fn clause_holes(
     Ok(holes)
 }
 
+// The code of all nodes of a graph, from its root down, each once. The answer is the edges that are open then.
+fn emit_nodes<'a>(
+    alloc: Global,
+    body: &mut Body,
+    agreed: &Agreed,
+    graph: &Whole<'a>,
+    subject: &Subject,
+    root: u32,
+) -> Result<Seq<Edge<'a>>, AllocError>
+    ensures { IfOk result (λ edges. RootStands agreed.now graph.now.ty subject.now.words.now graph.now.pats.now
+        subject.now.spots.now graph.now.nodes.now root body.old body.new edges) }
+{
+    let mut edges = begin(alloc, body, agreed, graph, subject, root)?;
+    let nodes = graph.nodes;
+    let count = nodes.len();
+    for i in 0..count {
+        let number = count - 1 - i;
+        let node = &nodes[number];
+        edges = emit_node(alloc, body, agreed, graph, subject, node, number, edges)?;
+    }
+    Ok(edges)
+}
+
 /// Code that leaves by a hole of the clause that a graph, from its root on, takes of the subject's
 /// value. The answer is the holes, each with the number of its clause.
 ///
@@ -225,14 +265,7 @@ pub fn emit_graph(
         subject.now.spots.now graph.now.nodes.now root body.old body.new holes) }
     ensures grows { OnOk result (Grows body.old.code body.new.code) }
 {
-    let mut edges = begin(alloc, body, agreed, graph, subject, root)?;
-    let nodes = graph.nodes;
-    let count = nodes.len();
-    for i in 0..count {
-        let number = count - 1 - i;
-        let node = &nodes[number];
-        edges = emit_node(alloc, body, agreed, graph, subject, node, number, edges)?;
-    }
-    let holes = clause_holes(alloc, nodes, edges.as_slice(), graph.pats.len())?;
+    let edges = emit_nodes(alloc, body, agreed, graph, subject, root)?;
+    let holes = clause_holes(alloc, graph.nodes, edges.as_slice(), graph.pats.len())?;
     Ok(holes)
 }

@@ -6,7 +6,7 @@
 //! known of the whole value: which leaves parts have, and which spots hold theirs. `agreed` is the
 //! program with its layouts, and `body` the code so far, at whose end new code is appended.
 
-ghost use Rattle.std.specs.Prelude.{◌≡◌, ◌++◌, IfOk, IfSome, OnOk, true, false};
+ghost use Rattle.std.specs.Prelude.{◌≡◌, ◌∷◌, ◌++◌, [], IfOk, IfSome, OnOk, true, false};
 ghost use Rattle.rb_target.specs.Growth.{Grows};
 ghost use Rattle.rb_fragment.specs.Slots.{SlotsAreApart, IsOneOf};
 ghost use Rattle.rb_match.specs.inner.Saving.{FetchesPart, HasBelow, IsPositionOf, IsSpotAt, SavesAt, SavesBelow, SavesFields, SavesPart};
@@ -180,8 +180,8 @@ pub struct Source<'b, 'a> {
     pub needs: &'b Needs<'a>,
 }
 
-// Saves what stands at a path of a part whole, where there is a spot for its position, `below`, and
-// its type. The answer is what was known and, where it is saved, that it is.
+// Saves what stands at a path of a part whole, where it is needed and there is a spot for its
+// position, `below`, and its type. The answer is what was known and, where it is saved, that it is.
 fn save_whole<'a>(
     alloc: Global,
     body: &mut Body,
@@ -196,6 +196,9 @@ fn save_whole<'a>(
         → SavesAt agreed.now source.now path.now known.entry more body.old body.new) }
     ensures grows { OnOk result (Grows body.old.code body.new.code) }
 {
+    if !is_needed(source.needs, below) {
+        return Ok(known);
+    }
     let spots = source.spots;
     match spot_at(spots, below, at) {
         None => Ok(known),
@@ -210,6 +213,21 @@ fn save_whole<'a>(
             Ok(known)
         }
     }
+}
+
+// The path to a field of what stands at a path. More fields than have numbers are an error.
+fn field_path(alloc: Global, path: &[u32], field: usize) -> Result<Seq<u32>, AllocError>
+    ensures { IfOk result (λ below. below ≡ path.now ++ field ∷ []) }
+{
+    let number = number_of(field)?;
+    let below = path_below(alloc, path, number as usize)?;
+    Ok(below)
+}
+
+// Whether the part at a position, the subpattern `sub` of the source's provenance, is opened: later tests need what is
+// below it, and none looks at it itself. No clause says when: code may save a part either way.
+fn opens_at(agreed: &Agreed, needs: &Needs, sub: &Pat, below: &[u32]) -> bool {
+    is_needed(needs, below) && is_opened(agreed, sub) && !is_tested(needs, below)
 }
 
 // Saves what is needed of what stands at a path of a part, the subpattern `sub` of its provenance
@@ -232,10 +250,7 @@ fn save_at<'a>(
 {
     let below = position_at(alloc, source.position, path)?;
     let below = below.as_slice();
-    if !is_needed(source.needs, below) {
-        return Ok(known);
-    }
-    if is_opened(agreed, sub) && !is_tested(source.needs, below) {
+    if opens_at(agreed, source.needs, sub, below) {
         let parts = save_below(alloc, body, agreed, source, path, sub, known)?;
         return Ok(parts);
     }
@@ -271,8 +286,7 @@ fn save_below<'a>(
                 let Some(at) = fields.get(j) else {
                     return Err(AllocError);
                 };
-                let number = number_of(j)?;
-                let below = path_below(alloc, path, number as usize)?;
+                let below = field_path(alloc, path, j)?;
                 let below = below.as_slice();
                 known = save_at(alloc, body, agreed, source, below, sub, *at, known)?;
             }

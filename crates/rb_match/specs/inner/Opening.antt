@@ -14,6 +14,7 @@ use denote.Ref.{Bor}
 use Rattle.std.specs.Prelude.{◌≡◌, ℕ, ◌+◌, ◌-◌, ◌<◌, ◌≤◌, nat_le, List, [], ◌∷◌, ◌++◌, map, length, Bool, true, Option, Some, None, slice_get, if◌then◌else◌}
 use Rattle.rb_core.specs.declared.value.Value.{Value, out-Value}
 use Rattle.rb_core.specs.declared.value.Value.TheOpen as V
+use Rattle.rb_core.specs.declared.types.Ty.{Ty}
 use Rattle.rb_core.specs.declared.types.Ty.TheVariants.{Named}
 use Rattle.rb_core.specs.Values.{part_at}
 use Rattle.rb_decide.specs.declared.decision_graph.GraphArm.{GraphArm}
@@ -46,9 +47,9 @@ use Rattle.rb_match.specs.declared.knowledge.Edge.{Edge}
 use Rattle.rb_match.specs.declared.spots.Whole.{Whole}
 use Rattle.rb_match.specs.Bounding.{choosing_look}
 use Rattle.rb_match.specs.inner.Knowing.{AreKnown, View, view_of}
-use Rattle.rb_match.specs.inner.Asking.{AreGroups, AreOpen, AreSpots, Asked, AskedThere, LeadOneWay, LeavesWhere, edge_in, group_for, holes_of, leaf_con, take_link}
+use Rattle.rb_match.specs.inner.Asking.{AreGroups, AreOpen, AreSpots, Asked, AskedThere, LeadOneWay, LeavesWhere, StandOpen, edge_in, group_for, holes_of, leaf_con, take_link}
 use Rattle.rb_match.specs.inner.Saving.{IsThereWith}
-use Rattle.rb_match.specs.inner.Threading.{AllFollow, LeadsOn}
+use Rattle.rb_match.specs.inner.Threading.{AllFollow, LeadsOn, Threads}
 
 -- those of the holes, in their order, whose `leaf`, the number of a group of leaves, is i or higher: no way is made
 -- for them yet
@@ -225,14 +226,19 @@ LeadsWays agreed t words spots known position onward old new edges =
 
 -- Tests -----------------------------------------------------------------------------------------
 
--- the code tests a part of data type t over reads of its words, and may save parts of it in spots: each run leaves by
--- an edge to a node to which what is known leads on from the one to which the test leads the part
+-- the code tests a part of a type over reads of its words, and may save parts of it in spots: each run leaves by an
+-- edge to a node to which what is known leads on from the one to which the test leads the part
+abbrev pub AsksPart : LaidOut → Whole → Ty → List Spot → List Read → List Known → List ℕ → List GraphArm → Option ℕ
+    → Sheet → Sheet → List Edge → Type 0
+AsksPart agreed graph ty spots reads known position arms other old new edges =
+    (plan : Plan) (n : ℕ) → IsPlanOf agreed plan → AreSpots plan n old.slots spots → AllFit old.slots reads
+    → length reads ≡ words_needed plan ty
+    → AskedThere (IsOnward agreed graph) plan ty n spots reads known position arms other old new edges
+
+-- the code so tests a part of data type t
 abbrev pub AsksDeep : LaidOut → Whole → ℕ → List Spot → List Read → List Known → List ℕ → List GraphArm → Option ℕ
     → Sheet → Sheet → List Edge → Type 0
-AsksDeep agreed graph t spots reads known position arms other old new edges =
-    (plan : Plan) (n : ℕ) → IsPlanOf agreed plan → AreSpots plan n old.slots spots → AllFit old.slots reads
-    → length reads ≡ words_needed plan (Named t)
-    → AskedThere (IsOnward agreed graph) plan (Named t) n spots reads known position arms other old new edges
+AsksDeep agreed graph t = AsksPart agreed graph (Named t)
 
 -- the code tests the part at a position over reads of the whole value that a graph is about: each run leaves by an
 -- edge to a node to which what is known leads on from the one to which the test leads the part
@@ -242,3 +248,13 @@ Asks agreed graph words spots known position arms other old new edges =
     (plan : Plan) (n : ℕ) → IsPlanOf agreed plan → AreSpots plan n old.slots spots → AllFit old.slots words
     → length words ≡ words_needed plan graph.ty
     → Asked (IsOnward agreed graph) plan graph.ty n words graph.pats.now spots known position arms other old new edges
+
+-- the code makes such a test, and each of its edges leads on over tests that what is known decides
+pub record AsksOnward (agreed : LaidOut) (graph : Whole) (words : List Read) (spots : List Spot) (known : List Known)
+    (position : List ℕ) (arms : List GraphArm) (other : Option ℕ) (old new : Sheet) (onward : List Edge)
+    : Type 0 where
+  pub asked : List Edge
+  pub asks : Asks agreed graph words spots known position arms other old new asked
+  pub stand : StandOpen old new asked
+  pub threads : Threads agreed graph.ty graph.pats.now graph.nodes.now asked onward
+  pub grows : Grows old.code new.code

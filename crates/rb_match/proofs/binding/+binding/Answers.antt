@@ -2,25 +2,18 @@ use Rattle.std.proofs.Common.{◌≡◌, get_or, arith, ap, sym, ◌∙◌, map,
 use Rattle.rb_core.specs.declared.types.Ty.TheVariants.{Int}
 use Rattle.rb_core.specs.declared.pattern.Pat.{Con}
 use Rattle.rb_core.proofs.PatternLaws.{fold-Con}
-use Rattle.rb_target.proofs.Growing.{Grows-trans}
+use Rattle.rb_target.proofs.Growing.{Grows-refl, Grows-trans}
 use Rattle.rb_decide.proofs.Building.{split-rest, get-same}
 use Rattle.rb_match.specs.inner.Binding.{weight, weights, weight_step}
-use Rattle.rb_match.proofs.Bindings.{wild_binds, num_binds, var_binds, unbound_binds_at}
 use Rattle.rb_match.proofs.FieldSources.{source_field, source_fields, source_none, source_unbound}
 use Rattle.rb_match.proofs.Following.{no-item}
 use Rattle.rb_match.proofs.binding.+binding.Goals as goal
 
-pub bind_at-returns-in-Wild-clause-binds : goal.bind_at-returns-in-Wild-clause-binds
-bind_at-returns-in-Wild-clause-binds t c = rw (c.in-Wild.is, c.new.ensures) (wild_binds c.args.agreed.now c.args.ty c.in-Wild.field-0 c.args.words.now c.args.body.now)
+pub bind_at-returns-in_ok-bound-in-Wild-clause-binds : goal.bind_at-returns-in_ok-bound-in-Wild-clause-binds
+bind_at-returns-in_ok-bound-in-Wild-clause-binds t c = c.in_ok-bound-in-Wild.ensures c.args.agreed.now c.args.body.now
 
-pub bind_at-returns-in-Num-clause-binds : goal.bind_at-returns-in-Num-clause-binds
-bind_at-returns-in-Num-clause-binds t c = rw (c.in-Num.is, c.new-in-Num.ensures) (num_binds c.args.agreed.now c.args.ty c.in-Num.field-0 c.in-Num.field-1 c.args.words.now c.args.body.now)
-
-pub bind_at-returns-in_ok-bound-in-Var-clause-binds : goal.bind_at-returns-in_ok-bound-in-Var-clause-binds
-bind_at-returns-in_ok-bound-in-Var-clause-binds t c = rw (c.in-Var.is, c.in_ok-bound-in-Var.ensures) (var_binds c.args.agreed.now c.args.ty c.in-Var.field-0 c.in-Var.var c.args.words.now c.args.body.now)
-
-pub bind_at-returns-then-binds_nothing-clause-binds : goal.bind_at-returns-then-binds_nothing-clause-binds
-bind_at-returns-then-binds_nothing-clause-binds t c = rw c.new-then-binds_nothing.ensures (unbound_binds_at c.args.agreed.now c.args.ty c.args.pat.now c.args.words.now c.args.body.now (sym c.binds_nothing.ensures ∙ c.if-binds_nothing.true))
+pub bind_at-returns-in_ok-bound-in-Wild-clause-grows : goal.bind_at-returns-in_ok-bound-in-Wild-clause-grows
+bind_at-returns-in_ok-bound-in-Wild-clause-grows t c = Grows-refl c.args.body.now.code
 
 pub bind_at-returns-in_ok-bound-in-Con-clause-binds : goal.bind_at-returns-in_ok-bound-in-Con-clause-binds
 bind_at-returns-in_ok-bound-in-Con-clause-binds t c =
@@ -74,3 +67,15 @@ bind_fields-returns-clause-binds t c =
     let fields = split-rest c.args.fields.now field c.in-len1-up-fields.len_at_least (get-same c.args.fields.now 0 (Int 0) field c.in-len1-up-fields.len_at_least) in
     rw (whole, fields, c.in_ok-all.ensures) (source_fields c.args.agreed.now c.args.source.now first _ field _ c.args.i c.args.body.now c.bind_field.new.body c.bind_fields.new.body c.in_ok-bound.bound c.in_ok-more.more (rw c.in_ok-number.ensures at c.in_ok-bound.ensures.binds)
     c.in_ok-more.ensures.binds)
+
+pub bind_field-returns-then-binds_nothing-clause-grows : goal.bind_field-returns-then-binds_nothing-clause-grows
+bind_field-returns-then-binds_nothing-clause-grows t c = Grows-refl c.args.body.now.code
+
+pub bind_field-returns-clause-grows : goal.bind_field-returns-clause-grows
+bind_field-returns-clause-grows t c = Grows-trans _ _ _ c.in_ok-slots.ensures.grows c.in_ok-bound.ensures.grows
+
+pub bind_fields-returns-in_default-clause-grows : goal.bind_fields-returns-in_default-clause-grows
+bind_fields-returns-in_default-clause-grows t c = Grows-refl c.args.body.now.code
+
+pub bind_fields-returns-clause-grows : goal.bind_fields-returns-clause-grows
+bind_fields-returns-clause-grows t c = Grows-trans _ _ _ c.in_ok-bound.ensures.grows c.in_ok-more.ensures.grows

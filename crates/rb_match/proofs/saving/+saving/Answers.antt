@@ -1,21 +1,22 @@
 use Rattle.std.proofs.Common.{◌≡◌, ◌+◌, ◌++◌, ◌∷◌, [], suc, subst, arith}
-use Rattle.rb_target.proofs.Growing.{Grows-trans}
+use Rattle.rb_target.proofs.Growing.{Grows-refl, Grows-trans}
 use Rattle.rb_match.specs.inner.Saving.{SavesSome, mend_at, mend_below, mends_at}
 use Rattle.rb_match.proofs.Mending.{below_at, mends_below}
 use Rattle.rb_match.proofs.SavedParts.{learns-less, learns-more, learns-none}
 use Rattle.rb_match.proofs.saving.+saving.Goals as goal
 
-pub save_at-returns-then-not-is_needed-clause-saves : goal.save_at-returns-then-not-is_needed-clause-saves
-save_at-returns-then-not-is_needed-clause-saves t c =
-    let s = c.args.source.now in
-    learns-none c.args.agreed.now (λ plan. mend_at plan.layouts s.ty s.leaf c.args.path.now) s.ty s.leaf s.words.now s.spots.now s.position.now c.args.known c.args.body.now
-
-pub save_at-returns-then-not-is_tested-clause-saves : goal.save_at-returns-then-not-is_tested-clause-saves
-save_at-returns-then-not-is_tested-clause-saves t c =
+pub save_at-returns-then-opens_at-clause-saves : goal.save_at-returns-then-opens_at-clause-saves
+save_at-returns-then-opens_at-clause-saves t c =
     let s = c.args.source.now in
     let path = c.args.path.now in
     learns-less c.args.agreed.now (λ plan. mend_below plan.layouts s.ty s.leaf path) (λ plan. mend_at plan.layouts s.ty s.leaf path) s.ty s.leaf s.words.now s.spots.now s.position.now c.args.known
     c.in_ok-parts.parts c.args.body.now c.save_below.new.body (λ plan of. below_at plan.layouts s.ty s.leaf path) c.in_ok-parts.ensures.saves
+
+pub save_at-returns-then-opens_at-clause-grows : goal.save_at-returns-then-opens_at-clause-grows
+save_at-returns-then-opens_at-clause-grows t c = c.in_ok-parts.ensures.grows
+
+pub save_at-returns-clause-grows : goal.save_at-returns-clause-grows
+save_at-returns-clause-grows t c = c.in_ok-whole.ensures.grows
 
 pub save_at-returns-clause-saves : goal.save_at-returns-clause-saves
 save_at-returns-clause-saves t c = c.in_ok-whole.ensures.saves (rw c.as_slice-below.ensures c.in_ok-below.ensures)
@@ -24,6 +25,17 @@ pub save_below-returns-in-Wild-clause-saves : goal.save_below-returns-in-Wild-cl
 save_below-returns-in-Wild-clause-saves t c =
     let s = c.args.source.now in
     learns-none c.args.agreed.now (λ plan. mend_below plan.layouts s.ty s.leaf c.args.path.now) s.ty s.leaf s.words.now s.spots.now s.position.now c.args.known c.args.body.now
+
+pub save_below-returns-in-Wild-clause-grows : goal.save_below-returns-in-Wild-clause-grows
+save_below-returns-in-Wild-clause-grows t c = Grows-refl c.args.body.now.code
+
+pub save_below-loop-j-init : goal.save_below-loop-j-init
+save_below-loop-j-init t c =
+    let s = c.args.source.now in
+    record {
+      saves = learns-none c.args.agreed.now (λ plan. mends_at plan.layouts s.ty s.leaf c.args.path.now 0) s.ty s.leaf s.words.now s.spots.now s.position.now c.args.known c.args.body.now;
+      grows = Grows-refl c.args.body.now.code;
+    }
 
 pub save_below-loop-j-preserved : goal.save_below-loop-j-preserved
 save_below-loop-j-preserved t c =
@@ -36,7 +48,7 @@ save_below-loop-j-preserved t c =
     record {
       saves = subst (λ i. SavesSome c.args.agreed.now s path i c.args.known c.in_ok-known-in-Con.known c.args.body.now c.save_at.new.body) up
           (learns-more c.args.agreed.now (λ plan. mends_at plan.layouts s.ty s.leaf path j) (λ plan. mend_at plan.layouts s.ty s.leaf (path ++ j ∷ [])) s.ty s.leaf s.words.now s.spots.now s.position.now c.args.known c.loop-j.known
-          c.in_ok-known-in-Con.known c.args.body.now c.loop-j.body c.save_at.new.body inv.saves (rw (c.as_slice-below.ensures, c.in_ok-below-in-Con.ensures, c.in_ok-number-in-Con.ensures) at step.saves));
+          c.in_ok-known-in-Con.known c.args.body.now c.loop-j.body c.save_at.new.body inv.saves (rw (c.as_slice-below.ensures, c.in_ok-below-in-Con.ensures) at step.saves));
       grows = Grows-trans _ _ _ inv.grows step.grows;
     }
 
@@ -47,3 +59,6 @@ save_below-returns-after-loop-j-clause-saves t c =
     let j = c.loop-j.j in
     learns-less c.args.agreed.now (λ plan. mends_at plan.layouts s.ty s.leaf path j) (λ plan. mend_below plan.layouts s.ty s.leaf path) s.ty s.leaf s.words.now s.spots.now s.position.now c.args.known
     c.loop-j.known c.args.body.now c.loop-j.body (λ plan of. mends_below plan.layouts s.ty s.leaf path j) c.loop-j.invariant.saves
+
+pub save_below-returns-after-loop-j-clause-grows : goal.save_below-returns-after-loop-j-clause-grows
+save_below-returns-after-loop-j-clause-grows t c = c.loop-j.invariant.grows
