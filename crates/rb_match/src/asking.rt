@@ -573,6 +573,5 @@ pub fn ask<'a>(
         return Err(AllocError);
     }
     let reads = place.reads.as_slice();
-    let edges = ask_part(alloc, body, agreed, graph, spots, place.ty, reads, test)?;
-    Ok(edges)
+    ask_part(alloc, body, agreed, graph, spots, place.ty, reads, test)
 }

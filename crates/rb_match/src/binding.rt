@@ -142,16 +142,12 @@ fn bind_at(
     ensures grows { OnOk result (Grows body.old.code body.new.code) }
 {
     match pat {
-        Pat::Wild(_) | Pat::Var(_, _) | Pat::Num(_, _) => {
-            let bound = bind_bare(alloc, ty, words, pat)?;
-            Ok(bound)
-        }
+        Pat::Wild(_) | Pat::Var(_, _) | Pat::Num(_, _) => { bind_bare(alloc, ty, words, pat) }
         Pat::Con(_, con, subs) => {
             let fields = fields_of_con(agreed, *con);
             let subs = subs.as_slice();
             let source = field_source(alloc, body, agreed, ty, *con, words, pat, subs, fields)?;
-            let bound = bind_fields(alloc, body, agreed, &source, subs, fields, 0)?;
-            Ok(bound)
+            bind_fields(alloc, body, agreed, &source, subs, fields, 0)
         }
     }
 }
@@ -361,8 +357,7 @@ fn bind_field(
         return Ok(Seq::new(alloc));
     }
     let slots = field_slots(alloc, body, agreed, source, field, i)?;
-    let bound = bind_at(alloc, body, agreed, field, slots.as_slice(), sub)?;
-    Ok(bound)
+    bind_at(alloc, body, agreed, field, slots.as_slice(), sub)
 }
 
 // Code that binds what the patterns of fields bind, the first of which is field i. Fewer types than
@@ -425,6 +420,5 @@ pub fn bind(
     if binds_nothing(pat) {
         return Ok(Seq::new(alloc));
     }
-    let bound = bind_at(alloc, body, agreed, ty, words, pat)?;
-    Ok(bound)
+    bind_at(alloc, body, agreed, ty, words, pat)
 }

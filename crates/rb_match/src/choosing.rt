@@ -79,8 +79,7 @@ fn emit_tree(
     ensures grows { OnOk result (Grows body.old.code body.new.code) }
 {
     let graph = share(alloc, tree)?;
-    let holes = emit_shared(alloc, body, agreed, ty, words, pats, &graph)?;
-    Ok(holes)
+    emit_shared(alloc, body, agreed, ty, words, pats, &graph)
 }
 
 /// Code that goes out by a hole of the clause that is chosen for the value whose words stand in some

@@ -243,8 +243,7 @@ fn save_onward<'a>(
         spots: part.spots,
         needs: &needs,
     };
-    let known = save_fields(alloc, body, agreed, &source, facts)?;
-    Ok(known)
+    save_fields(alloc, body, agreed, &source, facts)
 }
 
 // The code of the way of a leaf that is a group by itself: what other tests need of its fields is

@@ -232,8 +232,7 @@ pub fn place_of_part(
             return Ok(place);
         }
     }
-    let place = place_by_fields(alloc, agreed, ty, words, spots, known, position)?;
-    Ok(place)
+    place_by_fields(alloc, agreed, ty, words, spots, known, position)
 }
 
 // Whether a pattern, taken at type `ty`, has a number or a constructor at a position, where type

@@ -220,8 +220,7 @@ fn field_path(alloc: Global, path: &[u32], field: usize) -> Result<Seq<u32>, All
     ensures { IfOk result (λ below. below ≡ path.now ++ field ∷ []) }
 {
     let number = number_of(field)?;
-    let below = path_below(alloc, path, number as usize)?;
-    Ok(below)
+    path_below(alloc, path, number as usize)
 }
 
 // Whether the part at a position, the subpattern `sub` of the source's provenance, is opened: later tests need what is
@@ -251,11 +250,9 @@ fn save_at<'a>(
     let below = position_at(alloc, source.position, path)?;
     let below = below.as_slice();
     if opens_at(agreed, source.needs, sub, below) {
-        let parts = save_below(alloc, body, agreed, source, path, sub, known)?;
-        return Ok(parts);
+        return save_below(alloc, body, agreed, source, path, sub, known);
     }
-    let whole = save_whole(alloc, body, agreed, source, path, below, at, known)?;
-    Ok(whole)
+    save_whole(alloc, body, agreed, source, path, below, at, known)
 }
 
 // Saves what is needed of each field of what stands at a path of a part, which is `pat` of its

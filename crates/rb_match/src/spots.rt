@@ -340,6 +340,5 @@ pub fn give_spots_for(
     ensures grows { OnOk result (Grows body.old.code body.new.code) }
 {
     let parts = parts_to_save(alloc, agreed, pats)?;
-    let spots = give_spots(alloc, body, agreed, parts.as_slice())?;
-    Ok(spots)
+    give_spots(alloc, body, agreed, parts.as_slice())
 }

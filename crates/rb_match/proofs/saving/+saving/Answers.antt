@@ -1,6 +1,7 @@
 use Rattle.std.proofs.Common.{◌≡◌, ◌+◌, ◌++◌, ◌∷◌, [], suc, subst, arith}
+use Rattle.std.proofs.lemmas.Result.{IfOk-weaker}
 use Rattle.rb_target.proofs.Growing.{Grows-refl, Grows-trans}
-use Rattle.rb_match.specs.inner.Saving.{SavesSome, mend_at, mend_below, mends_at}
+use Rattle.rb_match.specs.inner.Saving.{SavesAt, SavesBelow, SavesSome, mend_at, mend_below, mends_at}
 use Rattle.rb_match.proofs.Mending.{below_at, mends_below}
 use Rattle.rb_match.proofs.SavedParts.{learns-less, learns-more, learns-none}
 use Rattle.rb_match.proofs.saving.+saving.Goals as goal
@@ -9,17 +10,24 @@ pub save_at-returns-then-opens_at-clause-saves : goal.save_at-returns-then-opens
 save_at-returns-then-opens_at-clause-saves t c =
     let s = c.args.source.now in
     let path = c.args.path.now in
-    learns-less c.args.agreed.now (λ plan. mend_below plan.layouts s.ty s.leaf path) (λ plan. mend_at plan.layouts s.ty s.leaf path) s.ty s.leaf s.words.now s.spots.now s.position.now c.args.known
-    c.in_ok-parts.parts c.args.body.now c.save_below.new.body (λ plan of. below_at plan.layouts s.ty s.leaf path) c.in_ok-parts.ensures.saves
+    let new = c.save_below.new.body in
+    IfOk-weaker c.save_below.result (λ parts. SavesBelow c.args.agreed.now s path c.args.known parts c.args.body.now new) (λ parts. SavesAt c.args.agreed.now s path c.args.known parts c.args.body.now new)
+    (λ parts saves. learns-less c.args.agreed.now (λ plan. mend_below plan.layouts s.ty s.leaf path) (λ plan. mend_at plan.layouts s.ty s.leaf path) s.ty s.leaf s.words.now s.spots.now s.position.now c.args.known
+    parts c.args.body.now new (λ plan of. below_at plan.layouts s.ty s.leaf path) saves) c.save_below.ensures.saves
 
 pub save_at-returns-then-opens_at-clause-grows : goal.save_at-returns-then-opens_at-clause-grows
-save_at-returns-then-opens_at-clause-grows t c = c.in_ok-parts.ensures.grows
-
-pub save_at-returns-clause-grows : goal.save_at-returns-clause-grows
-save_at-returns-clause-grows t c = c.in_ok-whole.ensures.grows
+save_at-returns-then-opens_at-clause-grows t c = c.save_below.ensures.grows
 
 pub save_at-returns-clause-saves : goal.save_at-returns-clause-saves
-save_at-returns-clause-saves t c = c.in_ok-whole.ensures.saves (rw c.as_slice-below.ensures c.in_ok-below.ensures)
+save_at-returns-clause-saves t c =
+    let s = c.args.source.now in
+    let path = c.args.path.now in
+    let new = c.save_whole.new.body in
+    IfOk-weaker c.save_whole.result (λ more. c.as_slice-below.result.now ≡ s.position.now ++ path → SavesAt c.args.agreed.now s path c.args.known more c.args.body.now new) (λ more. SavesAt c.args.agreed.now s path c.args.known more c.args.body.now new)
+    (λ more saves. saves (rw c.as_slice-below.ensures c.in_ok-below.ensures)) c.save_whole.ensures.saves
+
+pub save_at-returns-clause-grows : goal.save_at-returns-clause-grows
+save_at-returns-clause-grows t c = c.save_whole.ensures.grows
 
 pub save_below-returns-in-Wild-clause-saves : goal.save_below-returns-in-Wild-clause-saves
 save_below-returns-in-Wild-clause-saves t c =
