@@ -118,10 +118,7 @@ fn bind_bare(alloc: Global, ty: Ty, words: &[usize], pat: &Pat) -> Result<Seq<Lo
     match pat {
         Pat::Wild(_) => Ok(Seq::new(alloc)),
         Pat::Num(_, _) => Ok(Seq::new(alloc)),
-        Pat::Var(_, var) => {
-            let bound = bound_variable(alloc, ty, words, *var)?;
-            Ok(bound)
-        }
+        Pat::Var(_, var) => bound_variable(alloc, ty, words, *var),
         Pat::Con(_, _, _) => Err(AllocError),
     }
 }

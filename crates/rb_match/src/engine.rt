@@ -97,8 +97,7 @@ fn ask_onward<'a>(
         test.now.known.now test.now.position.now test.now.arms.now test.now.other body.old body.new onward) }
 {
     let asked = ask(alloc, body, agreed, graph, subject, test)?;
-    let onward = thread(alloc, agreed, graph.ty, graph.pats, graph.nodes, asked)?;
-    Ok(onward)
+    thread(alloc, agreed, graph.ty, graph.pats, graph.nodes, asked)
 }
 
 // The code of a node, to which some of the open edges lead: it begins at the end of the code, and
@@ -170,8 +169,7 @@ fn begin<'a>(
                 arms,
                 other: *other,
             };
-            let onward = ask_onward(alloc, body, agreed, graph, subject, &test)?;
-            Ok(onward)
+            ask_onward(alloc, body, agreed, graph, subject, &test)
         }
         GraphNode::Clause(_) => {
             let edge = open_jump(alloc, body, root, &[])?;

@@ -314,6 +314,5 @@ pub fn save_fields<'a>(
     let Some(prov) = prov_of(agreed, source.ty, source.leaf) else {
         return Err(AllocError);
     };
-    let known = save_below(alloc, body, agreed, source, &[], prov, known)?;
-    Ok(known)
+    save_below(alloc, body, agreed, source, &[], prov, known)
 }

@@ -1,4 +1,4 @@
-use Rattle.std.proofs.Common.{◌≡◌, get_or, arith, ap, sym, ◌∙◌, map, ℕ}
+use Rattle.std.proofs.Common.{get_or, arith, ap, sym, ◌∙◌, map, ℕ}
 use Rattle.std.proofs.lemmas.Result.{IfOk-weaker}
 use Rattle.rb_core.specs.declared.types.Ty.TheVariants.{Int}
 use Rattle.rb_core.specs.declared.pattern.Pat.{Con}

@@ -1,7 +1,8 @@
 use Rattle.std.proofs.Common.{[]}
+use Rattle.std.proofs.lemmas.Result.{IfOk-weaker}
 use Rattle.rb_core.specs.declared.types.Ty.TheVariants.{Named}
 use Rattle.rb_match.specs.Bounding.{rebuilding_bound}
-use Rattle.rb_match.specs.inner.Saving.{mend_below}
+use Rattle.rb_match.specs.inner.Saving.{SavesBelow, SavesFields, mend_below}
 use Rattle.rb_match.proofs.Bindings.{mends_in}
 use Rattle.rb_match.proofs.Mending.{mend_within}
 use Rattle.rb_match.proofs.SavedParts.{learns-less}
@@ -11,5 +12,11 @@ pub returns-clause-saves : goal.returns-clause-saves
 returns-clause-saves c =
     let mends = mends_in c.args.agreed.now c.covered.ensures.agree c.layouts-flat.ensures.flat in
     let s = c.args.source.now in
-    learns-less c.args.agreed.now (λ plan. mend_below plan.layouts s.ty s.leaf []) (λ plan. rebuilding_bound plan.layouts (Named s.ty)) s.ty s.leaf s.words.now s.spots.now s.position.now c.args.known c.in_ok-known.known c.args.body.now c.save_below.new.body
-    (λ plan of. mend_within plan.layouts s.ty (mends plan of s.ty) s.leaf) c.in_ok-known.ensures.saves
+    let old = c.args.body.now in
+    let new = c.save_below.new.body in
+    IfOk-weaker c.save_below.result (λ more. SavesBelow c.args.agreed.now s [] c.args.known more old new) (λ more. SavesFields c.args.agreed.now s.ty s.leaf s.words.now s.spots.now s.position.now c.args.known more old new)
+    (λ more saves. learns-less c.args.agreed.now (λ plan. mend_below plan.layouts s.ty s.leaf []) (λ plan. rebuilding_bound plan.layouts (Named s.ty)) s.ty s.leaf s.words.now s.spots.now s.position.now c.args.known more old new
+    (λ plan of. mend_within plan.layouts s.ty (mends plan of s.ty) s.leaf) saves) c.save_below.ensures.saves
+
+pub returns-clause-grows : goal.returns-clause-grows
+returns-clause-grows c = c.save_below.ensures.grows
