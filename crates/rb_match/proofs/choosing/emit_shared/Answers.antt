@@ -1,3 +1,4 @@
+use Rattle.rb_target.proofs.Growing.{Grows-trans}
 use Rattle.rb_match.proofs.Chosen.{tree_takes}
 use Rattle.rb_match.proofs.Edges.{holes-low}
 use Rattle.rb_match.proofs.choosing.emit_shared.Goals as goal
@@ -9,3 +10,9 @@ returns-clause-takes c = λ tree unfolds lower.
 
 pub returns-clause-holes : goal.returns-clause-holes
 returns-clause-holes c = holes-low _ _ _ _ _ (c.in_ok-spots.ensures.grows.longer) c.in_ok-holes.ensures.holes
+
+pub returns-clause-ways : goal.returns-clause-ways
+returns-clause-ways c = c.in_ok-holes.ensures.ways
+
+pub returns-clause-grows : goal.returns-clause-grows
+returns-clause-grows c = Grows-trans _ _ _ c.in_ok-spots.ensures.grows c.in_ok-holes.ensures.grows

@@ -9,3 +9,9 @@ returns-clause-takes c =
     rw (c.as_slice-pats.ensures, c.in_ok-pats.ensures) at
     c.in_ok-holes.ensures.takes (match_tree c.args.agreed.now.covered.program.types c.args.ty pair)
     (rw (c.as_slice-types.ensures, c.program.ensures.same, c.covered.ensures.same) at c.in_ok-graph.ensures.unfolds) c.in_ok-graph.ensures.lower
+
+pub returns-clause-ways : goal.returns-clause-ways
+returns-clause-ways c = c.in_ok-holes.ensures.ways
+
+pub returns-clause-grows : goal.returns-clause-grows
+returns-clause-grows c = c.in_ok-holes.ensures.grows
