@@ -8,7 +8,6 @@ mod Edges
 mod FieldSources
 mod Following
 mod Landing
-mod Loops
 mod Groups
 mod LeafTests
 mod Mending
