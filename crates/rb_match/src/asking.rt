@@ -508,7 +508,7 @@ fn ask_leaf<'a>(
 // Tests -----------------------------------------------------------------------------------------
 
 // Code of a test of the part at the test's position, over reads of its words: of its number, or of its leaf. What later
-// tests need of it is saved where it has spots.
+// tests need of it may be saved, where there are spots for its fields.
 fn ask_part<'a>(
     alloc: Global,
     body: &mut Body,

@@ -110,8 +110,8 @@ fn fields_of_con(agreed: &Agreed, con: ConRef) -> &[Ty]
     types_of_fields(types, con)
 }
 
-// What a pattern without subpatterns binds at a value of this type, whose words stand in some slots:
-// a variable has these very slots. There is no code for it. A constructor is an error.
+// What a pattern that is no constructor binds at a value of this type, whose words stand in some slots: a variable has
+// these very slots. There is no code for it. A constructor is an error.
 fn bind_bare(alloc: Global, ty: Ty, words: &[usize], pat: &Pat) -> Result<Seq<Local>, AllocError>
     ensures { IfOk result (λ bound. BindsBare ty pat.now words.now bound) }
 {
@@ -124,8 +124,8 @@ fn bind_bare(alloc: Global, ty: Ty, words: &[usize], pat: &Pat) -> Result<Seq<Lo
 }
 
 // Code that binds what a pattern binds at a value of this type, whose words stand in some slots:
-// the variables with their slots. A variable that is the whole pattern has these very slots. A constructor's pattern
-// is one that has a variable.
+// the variables with their slots. A variable that is the whole pattern has these very slots. A constructor's pattern is
+// given only where it has a variable.
 #[cycle(binding)]
 fn bind_at(
     alloc: Global,

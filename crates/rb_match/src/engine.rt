@@ -219,7 +219,9 @@ fn clause_holes(
     Ok(holes)
 }
 
-// The code of all nodes of a graph, from its root down, each once. The answer is the edges that are open then.
+// The code of a graph, from its root down: each test to which an edge leads when its turn comes has code, once. The
+// answer is the edges that are open then. Where links go to lower nodes all of these lead to clauses. No clause says
+// so: an edge to a test is an error where the holes are made.
 fn emit_nodes<'a>(
     alloc: Global,
     body: &mut Body,

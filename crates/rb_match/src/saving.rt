@@ -223,8 +223,9 @@ fn field_path(alloc: Global, path: &[u32], field: usize) -> Result<Seq<u32>, All
     path_below(alloc, path, number as usize)
 }
 
-// Whether the part at a position, the subpattern `sub` of the source's provenance, is opened: later tests need what is
-// below it, and none looks at it itself. No clause says when: code may save a part either way.
+// Whether the part at a position, the subpattern `sub` of the source's provenance, is opened: an exit opens such a part
+// (`is_opened`), later tests need what is at or below it, and none looks at it itself. No clause says when: code may
+// save a part either way.
 fn opens_at(agreed: &Agreed, needs: &Needs, sub: &Pat, below: &[u32]) -> bool {
     is_needed(needs, below) && is_opened(agreed, sub) && !is_tested(needs, below)
 }

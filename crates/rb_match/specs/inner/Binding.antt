@@ -124,7 +124,7 @@ BindsField agreed t leaf words sub field i old new bound =
     → BindsParts plan (mend_at plan.layouts t leaf (i ∷ []) + binding_bound plan.program.types plan.layouts field sub)
     t leaf words (binders plan.program.types sub field) old new bound (FieldMatches sub i)
 
--- no code binds what the pattern binds at a value of type t, whose words stand in these slots
+-- what the pattern binds at a value of type t, whose words stand in these slots, is bound without any code
 abbrev pub BindsBare : Ty → Pat → List ℕ → List Local → Type 0
 BindsBare t p words bound = (agreed : LaidOut) (old : Sheet) → BindsPattern agreed t p words old old bound
 

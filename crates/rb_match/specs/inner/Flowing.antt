@@ -207,7 +207,7 @@ pub record StepsNode (agreed : LaidOut) (ty : Ty) (words : List Read) (pats : Li
       IsFineJob agreed job → slice_get nodes n ≡ Some node → JobStands first old edges → Flows job old edges
       → Flows job new more
 
--- the code of the root's node stands: it leads each value that is given to a fine job out by an edge
+-- the code so far stands, from the root's node on: it leads each value that is given to a fine job out by an edge
 pub record RootStands (agreed : LaidOut) (ty : Ty) (words : List Read) (pats : List Pat) (spots : List Spot)
     (nodes : List GraphNode) (root : ℕ) (old new : Sheet) (edges : List Edge) : Type 0 where
   pub stands : JobStands old new edges

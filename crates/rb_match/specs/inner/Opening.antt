@@ -226,7 +226,7 @@ LeadsWays agreed t words spots known position onward old new edges =
 
 -- Tests -----------------------------------------------------------------------------------------
 
--- the code tests a part of a type over reads of its words, and may save parts of it in spots: each run leaves by an
+-- the code tests a part, of type ty, over reads of its words, and may save parts of it in spots: each run leaves by an
 -- edge to a node to which what is known leads on from the one to which the test leads the part
 abbrev pub AsksPart : LaidOut → Whole → Ty → List Spot → List Read → List Known → List ℕ → List GraphArm → Option ℕ
     → Sheet → Sheet → List Edge → Type 0
@@ -249,12 +249,11 @@ Asks agreed graph words spots known position arms other old new edges =
     → length words ≡ words_needed plan graph.ty
     → Asked (IsOnward agreed graph) plan graph.ty n words graph.pats.now spots known position arms other old new edges
 
--- the code makes such a test, and each of its edges leads on over tests that what is known decides
+-- the code makes such a test, and each of its edges is led on over tests that what is known decides, or left as it is
 pub record AsksOnward (agreed : LaidOut) (graph : Whole) (words : List Read) (spots : List Spot) (known : List Known)
-    (position : List ℕ) (arms : List GraphArm) (other : Option ℕ) (old new : Sheet) (onward : List Edge)
-    : Type 0 where
+    (position : List ℕ) (arms : List GraphArm) (other : Option ℕ) (old new : Sheet) (more : List Edge) : Type 0 where
   pub asked : List Edge
   pub asks : Asks agreed graph words spots known position arms other old new asked
   pub stand : StandOpen old new asked
-  pub threads : Threads agreed graph.ty graph.pats.now graph.nodes.now asked onward
+  pub threads : Threads agreed graph.ty graph.pats.now graph.nodes.now asked more
   pub grows : Grows old.code new.code
