@@ -14,7 +14,8 @@ use Rattle.rb_core.specs.Inference.{binders}
 use Rattle.rb_core.specs.Meaning.{value_or}
 use Rattle.rb_core.proofs.PatternLaws.{Each, fold-Con, fold-Wild, induction}
 use Rattle.rb_layout.specs.declared.layout.Layout.{Layout}
-use Rattle.rb_match.specs.Bounding.{TypedPosition, binding_look, looks_with, place_below, places_below, places_in, places_step}
+use Rattle.rb_facts.specs.Looks.{TypedPosition, looks_with, place_below, places_below, places_in, places_step}
+use Rattle.rb_match.specs.Bounding.{binding_look}
 use Rattle.rb_compile.specs.inner.Used.{IsPrunedFor, Serves, pruned_pattern}
 use Rattle.rb_compile.proofs.Agreeing.{bound-append, value-append}
 use Rattle.rb_compile.proofs.Pruning.{cut-Con, cut-Num, cut-Var, cut-Wild, cut_matches, cut_types, cut_values}

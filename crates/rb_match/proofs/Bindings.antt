@@ -1,11 +1,10 @@
 -- Code that binds: nothing, a variable, a field, several fields, a constructor.
-use Rattle.std.proofs.Common.{◌≡◌, ℕ, suc, ◌+◌, ◌==◌, inl, inr, Bool, true, false, List, [], ◌∷◌, ◌++◌, map, length, Some, refl, sym, subst, ap, ◌∙◌, arith}
-use Rattle.std.specs.Prelude.{slice_get}
+use Rattle.std.proofs.Common.{◌≡◌, ℕ, suc, ◌+◌, inl, inr, Bool, true, false, List, [], ◌∷◌, ◌++◌, map, length, Some, refl, sym, subst, ap, ◌∙◌, arith, ◌≤◌}
+use Rattle.std.specs.Prelude.{slice_get, if◌then◌else◌}
 use Rattle.std.proofs.lemmas.Bool.{false≢true, and_parts}
 use Rattle.std.proofs.lemmas.Option.{slice_get_within}
 use Rattle.rb_core.specs.declared.value.Value.{Value, out-Value}
 use Rattle.rb_core.specs.declared.value.Value.TheOpen as V
-use Rattle.rb_core.specs.declared.value.Value.TheOpen.{Value-F}
 use Rattle.rb_core.specs.declared.types.Ty.{Ty}
 use Rattle.rb_core.specs.declared.types.Ty.TheVariants.{Named}
 use Rattle.rb_core.specs.declared.types.ConRef.{ConRef}
@@ -14,33 +13,28 @@ use Rattle.rb_core.specs.declared.typing.Binder.{Binder}
 use Rattle.rb_core.specs.declared.binding.Binding.{Binding}
 use Rattle.rb_core.specs.declared.pattern.Pat.{Pat, Wild, Var, Num, Con}
 use Rattle.rb_core.specs.Inference.{binders, binders_step, all_binders}
-use Rattle.rb_core.specs.Matching.{all_bindings, all_pass, bindings, layer_bindings, is_con, matches_of}
+use Rattle.rb_core.specs.Matching.{all_bindings, all_pass, bindings, layer_bindings, matches_of}
 use Rattle.rb_core.specs.Typing.{field_types}
 use Rattle.rb_core.specs.Values.{part_at, subs_in}
 use Rattle.rb_core.proofs.MatchingForms.{matches-Con, bindings-Wild, bindings-Var, bindings-Num, bindings-Con}
 use Rattle.rb_core.proofs.PatternLaws.{fold-Wild, fold-Var, fold-Num, fold-Con}
 use Rattle.rb_bytes.specs.Memory.{Memory, IsGood}
-use Rattle.rb_target.specs.Growth.{Keeps}
+use Rattle.rb_target.specs.Growth.{Keeps, Nowhere}
 use Rattle.rb_target.specs.Meaning.{slots_at}
 use Rattle.rb_target.specs.Sheet.{Sheet}
 use Rattle.rb_layout.specs.declared.agreed.LaidOut.{LaidOut}
 use Rattle.rb_layout.specs.declared.layout.Layout.{Layout}
-use Rattle.rb_layout.specs.Positions.{layout_of, leaves_of_layout, leaf_of}
+use Rattle.rb_layout.specs.Positions.{layout_of, leaf_of}
 use Rattle.rb_rel.proofs.Leaves.{leaf_matches}
 use Rattle.rb_rel.proofs.Represented.{opened}
 use Rattle.rb_fragment.specs.declared.held.Local.{Local}
 use Rattle.rb_fragment.specs.Holding.{AreGiven, Holds, binder_in, scope_of}
-use Rattle.std.specs.Prelude.{if◌then◌else◌}
-use Rattle.std.proofs.Common.{◌≤◌}
-use Rattle.rb_target.specs.Growth.{Nowhere}
-use Rattle.rb_layout.specs.Agreement.{Agrees}
-use Rattle.rb_layout.specs.Flattening.{flat_layouts}
-use Rattle.rb_rel.specs.Switches.{choose_of, depth_of, greatest, mend_leaf, mend_of}
-use Rattle.rb_rel.proofs.Mending.{mending_recurs}
-use Rattle.rb_match.specs.Bounding.{TypedPosition, binding_bound, binding_look, takes_none_apart, looks_with, place_below, places_below, places_in, places_step, rebuilding_bound}
-use Rattle.rb_match.specs.inner.Saving.{FetchesPart, mend_at, mends_at, mends_from}
-use Rattle.rb_match.proofs.Composing.{pieces, piece_framed, piece_less}
-use Rattle.rb_match.proofs.Mending.{mends_within}
+use Rattle.rb_rel.specs.Switches.{depth_of, mend_of}
+use Rattle.rb_facts.specs.Looks.{TypedPosition, takes_none_apart, looks_with, place_below, places_below, places_in, places_step, rebuilding_bound}
+use Rattle.rb_match.specs.Bounding.{binding_bound, binding_look}
+use Rattle.rb_facts.specs.Saving.{FetchesPart, mend_at, mends_at, mends_from}
+use Rattle.rb_facts.proofs.Composing.{pieces, piece_framed, piece_less}
+use Rattle.rb_facts.proofs.Mending.{mends_within, MendsIn}
 use Rattle.rb_fragment.specs.Pieces.{AtEnd, CodePiece}
 use Rattle.rb_fragment.specs.Plan.{Plan, Rep, words_needed}
 use Rattle.rb_fragment.specs.Slots.{AllBelow}
@@ -51,7 +45,7 @@ use Rattle.rb_fetch.specs.Finding.{IsPlanOf, leaf_count, leaf_within, layout_lea
 use Rattle.rb_match.specs.Choosing.{Binds, BindsPattern}
 use Rattle.rb_match.specs.inner.Binding.{is_unbound, IsOnlyLeaf, BindsParts, FieldsMatch, BindsFields, FieldMatches, BindsField, fields_bound}
 use Rattle.rb_match.proofs.Unbound.{unbound_binds}
-use Rattle.rb_match.proofs.Edges.{same-nat}
+use Rattle.rb_facts.proofs.Shown.{begins_with}
 
 -- nothing is done
 nothing : (plan : Plan) (b : Sheet) (most : ℕ) (Pre Post : List ℕ → Memory → Type 0) → ((s : List ℕ) (m : Memory) → Pre s m → Post s m) → CodePiece plan b.slots b b Nowhere most Pre (AtEnd b Post)
@@ -230,10 +224,6 @@ fields_binds agreed t leaf words sub subs field fields i old mid new bound more 
         piece_less plan old.slots old.slots old new (k1 + k2) (mends_from plan.layouts t leaf (sub ∷ subs) i + fields_bound plan (sub ∷ subs) (field ∷ fields)) Pre Pre Post Post (omega arith) (omega (arith, most)) (λ s m x. x) (λ s m x. x)
         (pieces plan old.slots old mid new k1 k2 Pre Mid Post first second)
 
-pub begins_with : (d : ℕ) (ts : List (Value → Bool)) (l : Value-F Value) → is_con d ts l ≡ true → (us : List Value) × (l ≡ V.Con d us) × (all_pass ts us ≡ true)
-begins_with d ts (V.Num n) e = absurd (false≢true e)
-begins_with d ts (V.Con k us) e = let b = and_parts (d == k) (all_pass ts us) e in (us, ap (λ n. V.Con n us) (sym (same-nat d k b.0)), b.1)
-
 mends_more : (layouts : List Layout) (t leaf : ℕ) (subs : List Pat) (i : ℕ) → mends_at layouts t leaf [] i + mends_from layouts t leaf subs i ≡ mends_at layouts t leaf [] (i + length subs)
 mends_more layouts t leaf [] i = let z : i + 0 ≡ i = omega arith in (let e = ap (mends_at layouts t leaf []) z in omega (arith, e))
 mends_more layouts t leaf (p ∷ ps) i =
@@ -253,14 +243,6 @@ look_more layouts t = go (takes_none_apart layouts t)
 -- the bound at a constructor
 pub con_bound : (plan : Plan) (t : Ty) (at : ℕ) (c : ConRef) (subs : List Pat) → binding_bound plan.program.types plan.layouts t (Con at c subs) ≡ binding_look plan.layouts t + fields_bound plan subs (field_types plan.program.types c)
 con_bound plan t at c subs = ap (λ (f : Ty → List TypedPosition). looks_with (binding_look plan.layouts) (f t)) (fold-Con (Ty → List TypedPosition) (places_step plan.program.types) at c subs)
-
--- mending is what its recursion says, in each plan of the agreed program
-abbrev pub MendsIn : LaidOut → Type 0
-MendsIn agreed = (plan : Plan) → IsPlanOf agreed plan → (t : ℕ) → mend_of plan.layouts t ≡ greatest (map (mend_leaf (choose_of plan.layouts)) (leaves_of_layout (layout_of plan.layouts t)))
-
-pub mends_in : (agreed : LaidOut) → Agrees agreed.covered.program → agreed.layouts ≡ flat_layouts agreed.covered.program → MendsIn agreed
-mends_in agreed agrees flat = λ plan of t.
-    subst (λ ls. mend_of ls t ≡ greatest (map (mend_leaf (choose_of ls)) (leaves_of_layout (layout_of ls t)))) (sym (of.layouts ∙ flat)) (mending_recurs (flat_layouts agreed.covered.program) agrees.a9 t)
 
 -- a constructor
 pub con_binds : (agreed : LaidOut) (t : Ty) (at : ℕ) (c : ConRef) (subs : List Pat) (leaf : ℕ) (words : List ℕ) (old new : Sheet) (bound : List Local) → MendsIn agreed → t ≡ Named c.ty → IsOnlyLeaf agreed c.ty (Con at c subs) leaf

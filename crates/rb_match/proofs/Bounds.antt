@@ -10,9 +10,10 @@ use Rattle.rb_decide.specs.Decisions.{AreDistinct}
 use Rattle.rb_core.specs.declared.types.Ty.{Ty}
 use Rattle.rb_layout.specs.Flattening.{same_path}
 use Rattle.rb_rel.proofs.Holding.{path_is}
-use Rattle.rb_match.specs.Bounding.{TypedPosition, same_place, distinct_places, looks_with}
-use Rattle.rb_match.specs.inner.Flowing.{path_of}
-use Rattle.rb_match.specs.inner.Places.{IsPlaceIn}
+use Rattle.rb_facts.specs.Looks.{TypedPosition, looks_with}
+use Rattle.rb_match.specs.Bounding.{same_place, distinct_places}
+use Rattle.rb_facts.specs.Ways.{path_of}
+use Rattle.rb_facts.specs.Places.{IsPlaceIn}
 
 place_is : (a b : TypedPosition) → same_place a b ≡ true → a ≡ b
 place_is a b e =

@@ -18,7 +18,7 @@ use Rattle.rb_decide.proofs.Taking.{match-takes}
 use Rattle.rb_target.specs.declared.body.Hole.{Hole}
 use Rattle.rb_target.specs.Meaning.{slots_at}
 use Rattle.rb_target.specs.Sheet.{Sheet}
-use Rattle.rb_bytes.specs.Memory.{Memory}
+use Rattle.rb_bytes.specs.Memory.{Memory, IsGood}
 use Rattle.rb_layout.specs.declared.agreed.LaidOut.{LaidOut}
 use Rattle.rb_layout.specs.Agreement.{Agrees}
 use Rattle.rb_layout.specs.Flattening.{flat_layouts}
@@ -26,7 +26,6 @@ use Rattle.rb_rel.proofs.Agreeing.{lawful}
 use Rattle.rb_rel.proofs.Typing.{Represents-typed}
 use Rattle.rb_fragment.specs.declared.reads.Read.{Read, Slot}
 use Rattle.rb_fragment.specs.Plan.{Plan, Rep}
-use Rattle.rb_bytes.specs.Memory.{IsGood}
 use Rattle.rb_target.specs.Growth.{AgreesBut, Grows, Nowhere}
 use Rattle.rb_target.specs.Targets.{Finishes}
 use Rattle.rb_target.proofs.Growing.{Keeps-trans}
@@ -35,15 +34,17 @@ use Rattle.rb_fragment.proofs.Adding.{Adds-trans}
 use Rattle.rb_fragment.proofs.MakingAll.{meant-kept}
 use Rattle.rb_fragment.proofs.Pieces.{later-trans}
 use Rattle.rb_fragment.specs.Slots.{AllBelow}
-use Rattle.rb_match.specs.declared.knowledge.Spot.{Spot}
-use Rattle.rb_match.specs.inner.Saving.{GivesSpots}
+use Rattle.rb_facts.specs.declared.knowledge.Spot.{Spot}
+use Rattle.rb_facts.specs.Saving.{GivesSpots}
 use Rattle.rb_match.proofs.Edges.{hole_at}
 use Rattle.rb_fragment.specs.WordReads.{AreMeant, AllFit}
 use Rattle.rb_fragment.proofs.ReadForms.{mean-Slot, fits-Slot}
-use Rattle.rb_match.specs.Bounding.{TypedPosition, choosing_look, looks_with, places_of_patterns, rounds}
+use Rattle.rb_facts.specs.Looks.{TypedPosition, choosing_look, looks_with}
+use Rattle.rb_match.specs.Bounding.{places_of_patterns, rounds}
 use Rattle.rb_match.specs.Choosing.{ChoosesClause}
-use Rattle.rb_match.specs.inner.Flowing.{tree_from, looks, path_of, HasWay, TakesGraph}
-use Rattle.rb_match.specs.inner.Places.{IsPlaceIn, IsLookedAt}
+use Rattle.rb_facts.specs.Ways.{tree_from, looks, path_of, HasWay}
+use Rattle.rb_match.specs.inner.Flowing.{TakesGraph}
+use Rattle.rb_facts.specs.Places.{IsPlaceIn, IsLookedAt}
 use Rattle.rb_match.specs.inner.Trees.{TakesTree}
 use Rattle.rb_match.proofs.Bounds.{in_distinct, within_sum, all_at}
 

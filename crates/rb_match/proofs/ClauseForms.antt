@@ -33,21 +33,23 @@ use Rattle.rb_fragment.specs.WordReads.{AreMeant}
 use Rattle.rb_fragment.proofs.Adding.{Adds-refl, Adds-trans}
 use Rattle.rb_fragment.proofs.Patching.{AreAllHoles, adds_closed, closed_hole, closed_length, closed_slots, hole_within}
 use Rattle.rb_fragment.proofs.Pieces.{later-trans}
-use Rattle.rb_match.specs.Bounding.{choosing_look, TypedPosition, places_in, places_of_patterns, places_step, rounds}
+use Rattle.rb_facts.specs.Looks.{choosing_look, TypedPosition, places_in, places_step}
+use Rattle.rb_match.specs.Bounding.{places_of_patterns, rounds}
 use Rattle.rb_match.specs.Choosing.{ChoosesClause}
 use Rattle.rb_target.specs.Meaning.{slots_at}
 use Rattle.std.proofs.lemmas.List.{length-map}
 use Rattle.std.proofs.lemmas.Bool.Decides.{nat_tests}
 use Rattle.rb_match.specs.inner.Clauses.{way_holes, round_of, HolesStand, TriesClause, TriesAll}
-use Rattle.rb_match.specs.inner.Flowing.{looks, path_of, HasWay}
-use Rattle.rb_match.specs.inner.Places.{IsLookedAt, IsPlaceIn}
+use Rattle.rb_facts.specs.Ways.{looks, path_of, HasWay}
+use Rattle.rb_facts.specs.Places.{IsLookedAt, IsPlaceIn}
 use Rattle.rb_match.specs.inner.Trees.{TakesTree}
 use Rattle.rb_match.proofs.Bounds.{all_at, in_distinct, within_sum}
 use Rattle.rb_match.proofs.Chosen.{value_takes, slots_fit, slots_meant}
-use Rattle.rb_match.proofs.Edges.{same-nat, in_none, in_append, in_left, in_right, all_holes_from, closable_from, holes_from, patchable_from}
+use Rattle.rb_facts.proofs.Numbers.{same-nat}
+use Rattle.rb_match.proofs.Edges.{in_none, in_append, in_left, in_right, all_holes_from, closable_from, holes_from, patchable_from}
 use Rattle.rb_match.proofs.Landing.{IsLanded, closed_open}
 use Rattle.rb_match.proofs.Nodes.{closed_grows}
-use Rattle.rb_match.proofs.Placing.{in-flat}
+use Rattle.rb_facts.proofs.Placing.{in-flat}
 use Rattle.rb_match.proofs.Testing.{meant-kept}
 
 -- Holes of a way

@@ -10,16 +10,14 @@ use Rattle.rb_target.specs.Targets.{IsHoleAmong, IsOpenTarget}
 use Rattle.rb_rel.proofs.Lists.{get-append, get-left, get-right, get-map, get-mapped}
 use Rattle.rb_fragment.proofs.Patching.{AreAllHoles, AreClosable}
 use Rattle.rb_fragment.specs.Arms.{AreHoles, ArePatchable}
-use Rattle.rb_match.specs.declared.knowledge.Edge.{Edge}
-use Rattle.rb_match.specs.inner.Knowing.{IsEdge}
-use Rattle.rb_match.specs.inner.Asking.{hole_of, holes_of}
+use Rattle.rb_facts.specs.declared.knowledge.Edge.{Edge}
+use Rattle.rb_facts.specs.Knowing.{IsEdge, View, AreKnown}
+use Rattle.rb_facts.specs.Edges.{hole_of, holes_of}
+use Rattle.rb_match.specs.inner.Asking.{is_test, known_at_node}
 use Rattle.rb_match.specs.inner.Flowing.{landing_of, others_of}
-
-pub same-nat : (a b : ℕ) → (a == b) ≡ true → a ≡ b
-same-nat a b e = grind (arith, common_steps)
-
-pub other-nat : (a b : ℕ) → (a == b) ≡ false → a ≡ b → ⊥
-other-nat a b e s = grind (arith, common_steps)
+use Rattle.rb_decide.specs.declared.decision_graph.GraphNode.{GraphNode}
+use Rattle.rb_facts.specs.declared.knowledge.Known.{Known}
+use Rattle.rb_facts.proofs.Numbers.{same-nat, other-nat}
 
 pub in_none : (h : Hole) → IsHoleAmong h [] → ⊥
 in_none h (k, e) = cc e
@@ -154,3 +152,11 @@ hole_at from count code (x ∷ hs) a h (suc k, at) = hole_at from count code hs 
 pub holes-low : (from from1 count : ℕ) (code : List Instr) (hs : List Hole) → from1 ≤ from → AreHoles from count code hs → AreHoles from1 count code hs
 holes-low from from1 count code [] le a = tt
 holes-low from from1 count code (h ∷ hs) le a = (let x = a.0 in omega (arith, x, le), a.1, a.2, holes-low from from1 count code hs le a.3)
+
+-- what an edge carries is so, too
+pub carried_known : (nodes : List GraphNode) (node : ℕ) (view : View) (known : List Known) → AreKnown view known → AreKnown view (known_at_node nodes node known)
+carried_known nodes node view known all = go (is_test (slice_get nodes node))
+  where
+    go : (u : Bool) → AreKnown view (if u then known else [])
+    go true = all
+    go false = λ i x at. absurd cc

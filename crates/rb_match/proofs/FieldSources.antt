@@ -10,16 +10,17 @@ use Rattle.rb_layout.specs.declared.agreed.LaidOut.{LaidOut}
 use Rattle.rb_fragment.specs.declared.held.Local.{Local}
 use Rattle.rb_match.specs.declared.binding.FieldSource.{FieldSource}
 use Rattle.rb_match.specs.declared.binding.FieldSource.TheVariants as F
-use Rattle.rb_match.specs.declared.knowledge.Known.{Known}
-use Rattle.rb_match.specs.declared.knowledge.Spot.{Spot}
-use Rattle.rb_match.specs.Bounding.{takes_none_apart}
+use Rattle.rb_facts.specs.declared.knowledge.Known.{Known}
+use Rattle.rb_facts.specs.declared.knowledge.Spot.{Spot}
+use Rattle.rb_facts.specs.Looks.{takes_none_apart}
 use Rattle.rb_match.specs.Choosing.{BindsPattern}
 use Rattle.rb_match.specs.inner.Binding.{BindsFieldFrom, BindsFields, BindsFieldsFrom, BindsSpots, FieldStands, GivesFields, IsOnlyLeaf, SavesTogether, StandsInSpot, is_unbound}
-use Rattle.rb_match.specs.inner.Knowing.{FollowsSaved}
-use Rattle.rb_match.specs.inner.Saving.{GivesSpots, IsSpotAt}
-use Rattle.rb_match.proofs.Bindings.{MendsIn, con_binds, field_binds, field_unbound, fields_binds, fields_none}
+use Rattle.rb_facts.specs.Knowing.{FollowsSaved}
+use Rattle.rb_facts.specs.Saving.{GivesSpots, IsSpotAt}
+use Rattle.rb_facts.proofs.Mending.{MendsIn}
+use Rattle.rb_match.proofs.Bindings.{con_binds, field_binds, field_unbound, fields_binds, fields_none}
 use Rattle.rb_match.proofs.SavedBindings.{deep_binds, spot_binds, spot_unbound, spots_bind, spots_none}
-use Rattle.rb_match.proofs.SavedParts.{item-is}
+use Rattle.rb_facts.proofs.SavedParts.{item-is}
 
 -- a spot that is known to hold its field
 pub spot_stands : (spots : List Spot) (known : List Known) (i : ℕ) (field : Ty) (k : ℕ) (d : Spot) → IsSpotAt spots (i ∷ []) field k → FollowsSaved known k → StandsInSpot spots known i field (get_or spots k d).slots

@@ -11,12 +11,14 @@ use Rattle.rb_target.proofs.Shapes.{patch_is}
 use Rattle.rb_fragment.proofs.Closing.{is_open}
 use Rattle.rb_fragment.proofs.Patching.{AreAllHoles, AreClosable, adds_closed, all_holes_patched, closed_length, closed_slots, hole_within}
 use Rattle.rb_fragment.specs.Arms.{AreOfOneWay, with_targets}
-use Rattle.rb_match.specs.declared.knowledge.Known.{Known}
-use Rattle.rb_match.specs.declared.knowledge.Edge.{Edge}
-use Rattle.rb_match.specs.inner.Knowing.{IsEdge, IsCommonKnowledge, view_of}
-use Rattle.rb_match.specs.inner.Asking.{holes_of, AreOpen}
-use Rattle.rb_match.specs.inner.Flowing.{landing_of, others_of, Job, IsOn, Arrives, Lands, Flows, FlowsHere, JobStands}
-use Rattle.rb_match.proofs.Edges.{same-nat, other-nat, in_none, in_head, in_tail, in_append, open_edge, edge_open, landing, landed, landed_from, other_kept, other_from, all_holes_from, closable_from}
+use Rattle.rb_facts.specs.declared.knowledge.Known.{Known}
+use Rattle.rb_facts.specs.declared.knowledge.Edge.{Edge}
+use Rattle.rb_facts.specs.Knowing.{IsEdge, IsCommonKnowledge, view_of}
+use Rattle.rb_facts.specs.Edges.{holes_of, AreOpen}
+use Rattle.rb_match.specs.inner.Flowing.{landing_of, others_of, Arrives, Lands, Flows, FlowsHere, JobStands}
+use Rattle.rb_facts.specs.Ways.{Job, IsOn}
+use Rattle.rb_facts.proofs.Numbers.{same-nat, other-nat}
+use Rattle.rb_match.proofs.Edges.{in_none, in_head, in_tail, in_append, open_edge, edge_open, landing, landed, landed_from, other_kept, other_from, all_holes_from, closable_from}
 
 -- some holes that are closed, where others stay open
 pub record IsLanded (final : List Instr) (b : Sheet) (hs ks : List Hole) (ts : List ℕ) (lo hi : ℕ) : Type 0 where

@@ -1,7 +1,7 @@
 -- A test of a value of a data type: its leaf is found, and leads to the node of its constructor.
 use denote.Ref.{Bor}
 use Rattle.std.proofs.Common.{◌≡◌, ℕ, zero, suc, ◌+◌, ◌-◌, ◌<◌, ◌≤◌, ◌==◌, inl, inr, Bool, true, false, List, [], ◌∷◌, ◌++◌, map, length, Option, Some, None, refl, sym, subst, ap, ◌∙◌, arith}
-use Rattle.std.specs.Prelude.{if◌then◌else◌, nat_lt}
+use Rattle.std.specs.Prelude.{if◌then◌else◌, nat_lt, slice_get}
 use Rattle.std.proofs.lemmas.Bool.{false≢true, and_parts}
 use Rattle.std.proofs.lemmas.Bool.Decides.{nat_tests}
 use Rattle.std.proofs.lemmas.Option.{same_Some, slice_get_within}
@@ -14,9 +14,6 @@ use Rattle.rb_core.specs.declared.pattern.Pat.TheVariants.{outs-Wild, outs-Var, 
 use Rattle.rb_core.specs.Matching.{matches_of, is_con, all_pass}
 use Rattle.rb_core.proofs.MatchingForms.{matches-Con}
 use Rattle.rb_core.proofs.PatternLaws.{induction}
-use Rattle.rb_matrix.specs.declared.matrix.Head.{Head}
-use Rattle.rb_matrix.specs.declared.matrix.Head.TheVariants as H
-use Rattle.rb_matrix.specs.Heads.{layer_begins}
 use Rattle.rb_decide.specs.declared.decision_graph.GraphArm.{GraphArm}
 use Rattle.rb_decide.specs.declared.decision_graph.GraphNode.{GraphNode}
 use Rattle.rb_core.specs.declared.types.Ty.TheVariants.{Named}
@@ -26,28 +23,30 @@ use Rattle.rb_target.specs.Sheet.{Sheet, IsHole}
 use Rattle.rb_target.specs.Targets.{Finishes, IsHoleAmong}
 use Rattle.rb_target.proofs.Finishing.{agrees-sub}
 use Rattle.rb_layout.specs.declared.agreed.LaidOut.{LaidOut}
-use Rattle.std.specs.Prelude.{slice_get}
 use Rattle.rb_layout.specs.declared.layout.Layout.{Layout}
 use Rattle.rb_layout.specs.declared.layout.Leaf.{Leaf}
 use Rattle.rb_layout.specs.Positions.{con_of_layer, layout_of, leaf_of}
-use Rattle.rb_fetch.specs.Finding.{IsPlanOf}
+use Rattle.rb_fetch.specs.Finding.{IsPlanOf, FindsGroupOf, HasGroupMeant, leaf_count, leaf_within, layout_leaf_count}
 use Rattle.rb_rel.proofs.Leaves.{leaf_matches}
 use Rattle.rb_rel.proofs.Represented.{opened}
 use Rattle.rb_fragment.specs.declared.reads.Read.{Read}
 use Rattle.rb_fragment.specs.Arms.{AreHoles, AreOfOneWay}
 use Rattle.rb_fragment.specs.Plan.{Plan}
-use Rattle.rb_fetch.specs.Finding.{FindsGroupOf, HasGroupMeant, leaf_count, leaf_within, layout_leaf_count}
 use Rattle.rb_fetch.specs.Pruning.{group_at, group_or_none}
 use Rattle.rb_fetch.proofs.Grouping.{found_by_depth}
-use Rattle.rb_match.specs.declared.knowledge.Known.{Known}
-use Rattle.rb_match.specs.declared.knowledge.Edge.{Edge}
-use Rattle.rb_match.specs.declared.knowledge.Known.TheVariants as K
-use Rattle.rb_match.specs.Bounding.{choosing_look}
-use Rattle.rb_match.specs.inner.Knowing.{AreKnown, IsEdge, IsKnown, view_of}
-use Rattle.rb_match.specs.inner.Asking.{take_link, con_in, leaf_con, link_at, group_for, node_for, facts_for, IsGrouped, AreGroups, edge_in, edge_to, edge_for, keep_edge, leaf_edges_of, LeavesBy, StandOpen, AsksLeaf, holes_of}
-use Rattle.rb_match.proofs.Edges.{same-nat, hole_at, in_tail, open_edge}
-use Rattle.rb_match.proofs.Following.{carried_known, known-kept, snoc-at}
+use Rattle.rb_facts.specs.declared.knowledge.Known.{Known}
+use Rattle.rb_facts.specs.declared.knowledge.Edge.{Edge}
+use Rattle.rb_facts.specs.declared.knowledge.Known.TheVariants as K
+use Rattle.rb_facts.specs.Looks.{choosing_look}
+use Rattle.rb_facts.specs.Knowing.{AreKnown, IsEdge, IsKnown, view_of}
+use Rattle.rb_facts.specs.Links.{take_link, con_in, leaf_con, link_at}
+use Rattle.rb_match.specs.inner.Asking.{group_for, node_for, facts_for, IsGrouped, AreGroups, edge_in, edge_to, edge_for, keep_edge, leaf_edges_of, LeavesBy, AsksLeaf}
+use Rattle.rb_facts.specs.Edges.{StandOpen, holes_of}
+use Rattle.rb_facts.proofs.Numbers.{same-nat}
+use Rattle.rb_match.proofs.Edges.{hole_at, in_tail, open_edge, carried_known}
+use Rattle.rb_facts.proofs.Following.{known-kept, snoc-at}
 use Rattle.rb_match.proofs.NumberTests.{Keeps-less}
+use Rattle.rb_facts.proofs.LinkForms.{link_same}
 
 -- a value that a provenance matches begins with its constructor
 abbrev Begins : Pat → Type 0
@@ -64,16 +63,6 @@ begins = induction Begins (record {
   num = λ at n v c e m. absurd (let z = sym (ap con_of_layer (outs-Num at n)) ∙ e in cc);
   con = λ at cr ps each v c e m. con_begins cr (map matches_of ps) c (out-Value v) (same_Some cr.con c (sym (ap con_of_layer (outs-Con at cr ps)) ∙ e)) (sym (matches-Con v at cr ps) ∙ m);
 })
-
--- only the constructor counts
-head_same : (h : Head) (c : ℕ) (us : List Value) → layer_begins h (V.Con c us) ≡ layer_begins h (V.Con c [])
-head_same (H.Num n) c us = refl
-head_same (H.Con d) c us = refl
-
-pub link_same : (arms : List GraphArm) (other : Option ℕ) (c : ℕ) (us : List Value) → take_link arms other (V.Con c us) ≡ take_link arms other (V.Con c [])
-link_same [] other c us = refl
-link_same (a ∷ arms) other c us =
-    ap (λ u. if u then Some a.under else take_link arms other (V.Con c us)) (head_same a.head c us) ∙ ap (λ r. if layer_begins a.head (V.Con c []) then Some a.under else r) (link_same arms other c us)
 
 -- a value of a leaf begins with the leaf's constructor
 pub leaf_begins : (agreed : LaidOut) (t l c : ℕ) → leaf_con agreed t l ≡ Some c → (plan : Plan) → IsPlanOf agreed plan → (layout : Layout) (part : Value) → layout_of plan.layouts t ≡ Some layout → leaf_of layout part ≡ Some l → (us : List Value) × (out-Value part ≡ V.Con c us)

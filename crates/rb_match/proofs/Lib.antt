@@ -2,25 +2,17 @@ mod Bindings
 mod Bounds
 mod Chosen
 mod ClauseForms
-mod Composing
-mod Deepness
 mod Edges
 mod FieldSources
-mod Following
-mod Landing
 mod Groups
+mod Landing
 mod LeafTests
-mod Mending
 mod Nodes
 mod NumberTests
 mod Opening
-mod Passing
-mod Placing
 mod SavedBindings
-mod SavedParts
 pub mod Sharing
-mod Shown
 mod Testing
-mod Threads
+mod Threaded
 mod Together
 mod Unbound

@@ -24,23 +24,26 @@ use Rattle.rb_fragment.specs.Arms.{AreHoles, AreOfOneWay, ArePatchable, HasHole,
 use Rattle.rb_fragment.specs.Plan.{Plan, Rep}
 use Rattle.rb_fragment.proofs.Adding.{push_adds}
 use Rattle.rb_fragment.proofs.Patching.{at_closed, closed_hole, closed_length, hole_within, retarget_none}
-use Rattle.rb_match.specs.declared.knowledge.Known.{Known}
-use Rattle.rb_match.specs.declared.knowledge.Edge.{Edge}
-use Rattle.rb_match.specs.declared.knowledge.Spot.{Spot}
-use Rattle.rb_match.specs.declared.place.Place.{Place}
-use Rattle.rb_match.specs.declared.spots.Whole.{Whole}
-use Rattle.rb_fragment.proofs.Holds.{AllBelow-more}
-use Rattle.rb_match.specs.inner.Knowing.{IsEdge, IsCommonKnowledge}
-use Rattle.rb_match.specs.inner.Places.{FindsPlace, IsLookedAt}
-use Rattle.rb_match.specs.inner.Asking.{AreSpots, holes_of, AreOpen, StandOpen, AskedAt, AskedThere, AsksLeaf, AsksNumber, edge_at}
-use Rattle.rb_match.specs.inner.Flowing.{landing_of, others_of, job_of, Flows, JobStands, StepsNode, RootStands, IsFineJob, IsClauseHole, AreClauseHoles, TakesGraph}
+use Rattle.rb_facts.specs.declared.knowledge.Known.{Known}
+use Rattle.rb_facts.specs.declared.knowledge.Edge.{Edge}
+use Rattle.rb_facts.specs.declared.knowledge.Spot.{Spot}
+use Rattle.rb_facts.specs.declared.place.Place.{Place}
+use Rattle.rb_match.specs.declared.asking.Whole.{Whole}
+use Rattle.rb_facts.specs.Knowing.{IsEdge, IsCommonKnowledge}
+use Rattle.rb_facts.specs.Places.{FindsPlace, IsLookedAt}
+use Rattle.rb_facts.specs.Edges.{holes_of, AreOpen, StandOpen}
+use Rattle.rb_match.specs.inner.Asking.{AskedAt, AskedThere, AsksLeaf, AsksNumber, edge_at}
+use Rattle.rb_match.specs.inner.Flowing.{landing_of, others_of, Flows, JobStands, StepsNode, RootStands, IsFineJob, IsClauseHole, AreClauseHoles, TakesGraph}
+use Rattle.rb_facts.specs.Ways.{job_of}
 use Rattle.rb_match.proofs.Edges.{edge_append, edge_open, other_from, holes_from, patchable_from}
 use Rattle.rb_match.proofs.Landing.{landing_hole, landing_target, land_flows}
-use Rattle.rb_match.proofs.Passing.{begins_on, ends_on}
-use Rattle.rb_match.specs.inner.Threading.{LeadsOn, Threads}
+use Rattle.rb_facts.proofs.Passing.{begins_on, ends_on}
+use Rattle.rb_facts.specs.Threading.{LeadsOn, Threads}
 use Rattle.rb_match.specs.inner.Opening.{Asks, AsksOnward, AsksPart, IsOnward}
 use Rattle.rb_match.proofs.Testing.{test_flows, test_job, root_flows}
-use Rattle.rb_match.proofs.Threads.{leads_refl, thread_append, thread_flows, thread_refl}
+use Rattle.rb_facts.proofs.Threads.{leads_refl, thread_append, thread_refl}
+use Rattle.rb_match.proofs.Threaded.{thread_flows}
+use Rattle.rb_facts.proofs.SavedParts.{spots-more}
 
 -- from reads of the part to reads of the whole value
 pub asks_of : (agreed : LaidOut) (graph : Whole) (words : List Read) (spots : List Spot) (known : List Known) (position : List ℕ) (arms : List GraphArm) (other : Option ℕ) (old new : Sheet) (edges : List Edge) (place : Place)
@@ -96,17 +99,6 @@ pub leaf_part : (agreed : LaidOut) (graph : Whole) (t : ℕ) (spots : List Spot)
     → AsksLeaf agreed t reads known position arms other old new edges → AsksPart agreed graph (Named t) spots reads known position arms other old new edges
 leaf_part agreed graph t spots reads known position arms other old new edges asks = λ plan n of are fit count.
     asked_on agreed graph plan (Named t) n spots reads known position arms other old new edges (asks plan n spots of are fit count)
-
--- spots of code with more slots
-pub spots-more : (plan : Plan) (n m m1 : ℕ) (spots : List Spot) → m ≤ m1 → AreSpots plan n m spots → AreSpots plan n m1 spots
-spots-more plan n m m1 spots le a = record {
-  low = (let l = a.low in omega (arith, l, le));
-  from = a.from;
-  below = λ k spot at. AllBelow-more m m1 spot.slots le (a.below k spot at);
-  count = a.count;
-  distinct = a.distinct;
-  apart = a.apart;
-}
 
 -- where no hole is, code that is closed stays
 has_in : (pc : ℕ) (hs : List Hole) → HasHole pc hs → (h : Hole) × IsHoleAmong h hs × (pc ≡ h.pc)

@@ -30,12 +30,14 @@ use Rattle.rb_fragment.specs.declared.reads.Read.{Read}
 use Rattle.rb_fragment.specs.Reads.{MakesRead}
 use Rattle.rb_fragment.specs.WordReads.{AreMeant}
 use Rattle.rb_fragment.proofs.Adding.{Adds-trans, push_adds}
-use Rattle.rb_match.specs.declared.knowledge.Known.{Known}
-use Rattle.rb_match.specs.declared.knowledge.Edge.{Edge}
-use Rattle.rb_match.specs.inner.Knowing.{IsEdge, view_of}
-use Rattle.rb_match.specs.inner.Asking.{take_link, number_of_head, is_number, are_numbers, number_arm, number_arms, edge_in, arm_edges, else_edges, StandOpen, AsksNumber}
-use Rattle.rb_match.proofs.Edges.{edge_append, edge_left, edge_right, open_edge}
-use Rattle.rb_match.proofs.Following.{carried_known, known-kept}
+use Rattle.rb_facts.specs.declared.knowledge.Known.{Known}
+use Rattle.rb_facts.specs.declared.knowledge.Edge.{Edge}
+use Rattle.rb_facts.specs.Knowing.{IsEdge, view_of}
+use Rattle.rb_facts.specs.Links.{take_link}
+use Rattle.rb_match.specs.inner.Asking.{number_of_head, is_number, are_numbers, number_arm, number_arms, edge_in, arm_edges, else_edges, AsksNumber}
+use Rattle.rb_facts.specs.Edges.{StandOpen}
+use Rattle.rb_match.proofs.Edges.{edge_append, edge_left, edge_right, open_edge, carried_known}
+use Rattle.rb_facts.proofs.Following.{known-kept}
 
 -- the arm that is picked leads where the value goes
 head_step : (h : Head) (under : ℕ) (rest p : Option ℕ) (x node : ℕ) → is_number h ≡ true → (if layer_begins h (V.Num x) then Some under else rest) ≡ Some node

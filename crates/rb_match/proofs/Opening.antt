@@ -39,25 +39,29 @@ use Rattle.rb_fetch.specs.Finding.{FindsGroup, HasGroup, IsPlanOf, leaf_count, l
 use Rattle.rb_fetch.specs.Pruning.{group_at, group_or_none}
 use Rattle.rb_fetch.proofs.Grouping.{found_by_depth}
 use Rattle.rb_match.specs.declared.deep.Onward.{Onward}
-use Rattle.rb_match.specs.declared.knowledge.Known.{Known}
-use Rattle.rb_match.specs.declared.knowledge.Known.TheVariants as K
-use Rattle.rb_match.specs.declared.knowledge.Spot.{Spot}
-use Rattle.rb_match.specs.declared.knowledge.Edge.{Edge}
-use Rattle.rb_match.specs.declared.spots.Whole.{Whole}
-use Rattle.rb_match.specs.Bounding.{choosing_look, rebuilding_bound}
-use Rattle.rb_match.specs.inner.Knowing.{AreKnown, IsEdge, IsKnown, view_of}
-use Rattle.rb_match.specs.inner.Asking.{AreGroups, AreSpots, LeavesWhere, StandOpen, group_for, edge_at, holes_of, take_link}
+use Rattle.rb_facts.specs.declared.knowledge.Known.{Known}
+use Rattle.rb_facts.specs.declared.knowledge.Known.TheVariants as K
+use Rattle.rb_facts.specs.declared.knowledge.Spot.{Spot}
+use Rattle.rb_facts.specs.declared.knowledge.Edge.{Edge}
+use Rattle.rb_match.specs.declared.asking.Whole.{Whole}
+use Rattle.rb_facts.specs.Looks.{choosing_look, rebuilding_bound}
+use Rattle.rb_facts.specs.Knowing.{AreKnown, IsEdge, IsKnown, view_of}
+use Rattle.rb_match.specs.inner.Asking.{AreGroups, LeavesWhere, group_for, edge_at}
+use Rattle.rb_facts.specs.Saving.{AreSpots, IsThereWith, Knows, SavesFields}
+use Rattle.rb_facts.specs.Edges.{StandOpen, holes_of}
+use Rattle.rb_facts.specs.Links.{take_link}
 use Rattle.rb_match.specs.inner.Clauses.{way_holes}
 use Rattle.rb_match.specs.inner.Opening.{AsksDeep, CanOpen, GoOn, HasGroupOnward, IsAlone, IsOnward, LeadLeaves, LeadsAll, LeadsFrom, LeadsLeaf, LeadsWays, PartLeads, ShowOnward, StepsWay, WaysLead, WaysStand, group_onward, holes_to_set, shared_edge, shared_edges}
-use Rattle.rb_match.specs.inner.Saving.{IsThereWith, Knows, SavesFields}
-use Rattle.rb_match.specs.inner.Threading.{AllFollow}
+use Rattle.rb_facts.specs.Threading.{AllFollow}
 use Rattle.rb_match.proofs.ClauseForms.{way_from, way_in}
-use Rattle.rb_match.proofs.Edges.{all_holes_from, closable_from, hole_at, other-nat, same-nat, edge_append, edge_left, edge_open, edge_right, in_append, in_left, in_right, open_edge, patchable_from}
-use Rattle.rb_match.proofs.Following.{carried_known, known-kept, snoc-at}
+use Rattle.rb_match.proofs.Edges.{all_holes_from, closable_from, hole_at, edge_append, edge_left, edge_open, edge_right, in_append, in_left, in_right, open_edge, patchable_from, carried_known}
+use Rattle.rb_facts.proofs.Numbers.{other-nat, same-nat}
+use Rattle.rb_facts.proofs.Following.{known-kept, snoc-at}
 use Rattle.rb_match.proofs.Landing.{IsLanded, closed_open}
 use Rattle.rb_match.proofs.LeafTests.{by_group, leaf_links}
 use Rattle.rb_target.proofs.Shapes.{jump_shape}
-use Rattle.rb_match.proofs.Nodes.{closed_grows, spots-more}
+use Rattle.rb_match.proofs.Nodes.{closed_grows}
+use Rattle.rb_facts.proofs.SavedParts.{spots-more}
 use Rattle.rb_match.proofs.NumberTests.{Keeps-less}
 
 -- Holes that are pending

@@ -1,5 +1,5 @@
 -- Code that binds what stands in saved fields.
-use Rattle.std.proofs.Common.{◌≡◌, ℕ, suc, ◌+◌, inl, inr, Bool, true, false, List, [], ◌∷◌, ◌++◌, map, Some, refl, sym, subst, ap, ◌∙◌, arith}
+use Rattle.std.proofs.Common.{◌≡◌, ℕ, suc, ◌+◌, inl, inr, Bool, true, false, List, [], ◌∷◌, ◌++◌, map, Some, refl, sym, subst, ap, ◌∙◌, arith, get_or}
 use Rattle.std.specs.Prelude.{slice_get, if◌then◌else◌}
 use Rattle.std.proofs.lemmas.Bool.{false≢true, and_parts}
 use Rattle.std.proofs.lemmas.Option.{same_Some}
@@ -30,21 +30,20 @@ use Rattle.rb_fragment.proofs.Adding.{Adds-refl, Adds-trans}
 use Rattle.rb_fragment.proofs.Holds.{AllBelow-more, AreGiven-more, AreGiven-append, Holds-append, IsOfLocal-append, slots_at-kept}
 use Rattle.rb_fragment.proofs.Moves.{one-from}
 use Rattle.rb_fragment.proofs.Pieces.{piece_none}
-use Rattle.rb_match.specs.declared.knowledge.Known.{Known}
-use Rattle.rb_match.specs.declared.knowledge.Spot.{Spot}
-use Rattle.rb_match.specs.Bounding.{binding_bound, binding_look, choosing_look, takes_none_apart}
-use Rattle.rb_match.specs.inner.Asking.{AreSpots}
+use Rattle.rb_facts.specs.declared.knowledge.Known.{Known}
+use Rattle.rb_facts.specs.declared.knowledge.Spot.{Spot}
+use Rattle.rb_match.specs.Bounding.{binding_bound, binding_look}
+use Rattle.rb_facts.specs.Looks.{choosing_look, takes_none_apart}
+use Rattle.rb_facts.specs.Saving.{AreSpots, Anything, GivesSpots, IsSpotAt, IsThere}
 use Rattle.rb_match.specs.Choosing.{BindsPattern}
 use Rattle.rb_match.specs.inner.Binding.{AreSeen, BindsSaved, BindsSpot, BindsSpots, FieldMatches, FieldsMatch, SavesTogether, fields_bound, is_unbound}
-use Rattle.rb_match.specs.inner.Knowing.{FollowsSaved, view_of}
-use Rattle.rb_match.specs.inner.Saving.{Anything, GivesSpots, IsSpotAt, IsThere}
+use Rattle.rb_facts.specs.Knowing.{FollowsSaved, view_of}
 use Rattle.rb_match.proofs.Unbound.{unbound_binds}
-use Rattle.rb_match.proofs.Bindings.{begins_with, con_bound, fields_more, kept, scope-append}
-use Rattle.rb_match.proofs.Composing.{pieces, piece_framed, piece_less}
-use Rattle.rb_match.proofs.Following.{known-kept}
-use Rattle.rb_match.proofs.Nodes.{spots-more}
-use Rattle.rb_match.proofs.SavedParts.{item-is}
-use Rattle.std.proofs.Common.{get_or}
+use Rattle.rb_facts.proofs.Shown.{begins_with}
+use Rattle.rb_match.proofs.Bindings.{con_bound, fields_more, kept, scope-append}
+use Rattle.rb_facts.proofs.Composing.{pieces, piece_framed, piece_less}
+use Rattle.rb_facts.proofs.Following.{known-kept}
+use Rattle.rb_facts.proofs.SavedParts.{spots-more, item-is}
 
 -- a field without variables
 spot_none : (agreed : LaidOut) (spots : List Spot) (known : List Known) (sub : Pat) (field : Ty) (i : ℕ) (old : Sheet) → ((plan : Plan) → (binders plan.program.types sub field ≡ []) × ((v : Value) → bindings sub v ≡ [])) → BindsSpot agreed spots known sub field i old old []

@@ -12,10 +12,11 @@ use Rattle.rb_decide.specs.Decisions.{AreDistinct}
 use Rattle.rb_decide.specs.Trees.{match_tree, size}
 use Rattle.rb_layout.specs.declared.layout.Layout.{Layout}
 use Rattle.rb_rel.specs.Switches.{depth_of, look_of, mend_of}
-use Rattle.rb_match.specs.Bounding.{BoundIsShared, TypedPosition, binding_bound, binding_look, choosing_bound, choosing_look, takes_none_apart, looks_of, looks_with, place_below, places_below, places_in, places_of_patterns, places_step, rounds}
-use Rattle.rb_match.specs.inner.Flowing.{path_of}
+use Rattle.rb_match.specs.Bounding.{BoundIsShared, binding_bound, binding_look, choosing_bound, looks_of, places_of_patterns, rounds}
+use Rattle.rb_facts.specs.Looks.{TypedPosition, choosing_look, takes_none_apart, looks_with, place_below, places_below, places_in, places_step}
+use Rattle.rb_facts.specs.Ways.{path_of}
 use Rattle.rb_match.proofs.Bounds.{in_distinct, within_sum}
-use Rattle.rb_match.proofs.Placing.{in-flat}
+use Rattle.rb_facts.proofs.Placing.{in-flat}
 
 -- Places of one pattern are distinct ---------------------------------------------------------------
 

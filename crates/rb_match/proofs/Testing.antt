@@ -1,5 +1,5 @@
 -- A node's test behind the code that comes to it.
-use Rattle.std.proofs.Common.{◌≡◌, ℕ, ◌+◌, inl, inr, List, [], ◌∷◌, ◌++◌, length, Option, Some, refl, sym, subst, ◌∙◌, arith}
+use Rattle.std.proofs.Common.{◌≡◌, ℕ, inl, inr, List, [], ◌∷◌, ◌++◌, length, Option, Some, refl, sym, subst, ◌∙◌, arith}
 use Rattle.std.specs.Prelude.{slice_get}
 use Rattle.rb_decide.specs.declared.decision_graph.GraphArm.{GraphArm}
 use Rattle.rb_decide.specs.declared.decision_graph.GraphNode.TheVariants.{Test}
@@ -18,19 +18,21 @@ use Rattle.rb_fragment.proofs.Adding.{Adds-refl, Adds-trans}
 use Rattle.rb_fragment.proofs.Patching.{hole_within}
 use Rattle.rb_fragment.proofs.Pieces.{later-refl, later-trans}
 use Rattle.rb_fragment.proofs.ReadForms.{mean-kept}
-use Rattle.rb_match.specs.declared.knowledge.Known.{Known}
-use Rattle.rb_match.specs.declared.knowledge.Edge.{Edge}
-use Rattle.rb_match.specs.declared.knowledge.Spot.{Spot}
-use Rattle.rb_match.specs.declared.spots.Whole.{Whole}
+use Rattle.rb_facts.specs.declared.knowledge.Known.{Known}
+use Rattle.rb_facts.specs.declared.knowledge.Edge.{Edge}
+use Rattle.rb_facts.specs.declared.knowledge.Spot.{Spot}
+use Rattle.rb_match.specs.declared.asking.Whole.{Whole}
 use Rattle.rb_layout.specs.declared.agreed.LaidOut.{LaidOut}
 use Rattle.rb_fetch.specs.Finding.{IsPlanOf}
-use Rattle.rb_match.specs.Bounding.{TypedPosition, choosing_look}
-use Rattle.rb_match.specs.inner.Knowing.{AreKnown, view_of}
-use Rattle.rb_match.specs.inner.Asking.{holes_of, AreOpen, StandOpen, Asked}
-use Rattle.rb_match.specs.inner.Flowing.{Job, looks, Flows, FlowsHere, job_of}
+use Rattle.rb_facts.specs.Looks.{TypedPosition, choosing_look}
+use Rattle.rb_facts.specs.Knowing.{AreKnown, view_of}
+use Rattle.rb_facts.specs.Edges.{holes_of, AreOpen, StandOpen}
+use Rattle.rb_match.specs.inner.Asking.{Asked}
+use Rattle.rb_facts.specs.Ways.{Job, looks, job_of}
+use Rattle.rb_match.specs.inner.Flowing.{Flows, FlowsHere}
 use Rattle.rb_match.specs.inner.Opening.{IsOnward}
 use Rattle.rb_match.proofs.Edges.{edge_append, edge_left, edge_right, open_edge, edge_open}
-use Rattle.rb_match.proofs.Passing.{tested, passes, begins_on}
+use Rattle.rb_facts.proofs.Passing.{tested, passes, begins_on, looks-snoc}
 
 -- reads over kept slots mean what they meant
 pub meant-kept : (n : ℕ) (s s' : List ℕ) (m : Memory) → Keeps n s s' → (rs : List Read) (ws : List ℕ) → AllFit n rs → AreMeant rs s m ws → AreMeant rs s' m ws
@@ -38,10 +40,6 @@ meant-kept n s s' m k [] [] fit h = tt
 meant-kept n s s' m k [] (w ∷ ws) fit h = h
 meant-kept n s s' m k (r ∷ rs) [] fit h = h
 meant-kept n s s' m k (r ∷ rs) (w ∷ ws) fit h = (mean-kept n s s' m k r fit.0 ∙ h.0, meant-kept n s s' m k rs ws fit.1 h.1)
-
-pub looks-snoc : (plan : Plan) (path : List TypedPosition) (p : TypedPosition) → looks plan (path ++ p ∷ []) ≡ looks plan path + choosing_look plan.layouts p.ty
-looks-snoc plan [] p = omega arith
-looks-snoc plan (x ∷ path) p = let h = looks-snoc plan path p in omega (arith, h)
 
 -- the job that a graph of tests gives
 abbrev pub test_job : Whole → Plan → ℕ → List Spot → List Read → ℕ → Sheet → Job

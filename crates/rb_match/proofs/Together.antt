@@ -21,12 +21,13 @@ use Rattle.rb_fragment.specs.Arms.{with_targets}
 use Rattle.rb_fragment.proofs.Closing.{closed_is}
 use Rattle.rb_fragment.proofs.MakingAll.{slots_fit, slots_meant}
 use Rattle.rb_fragment.proofs.Patching.{adds_closed, closed_length, closed_slots, hole_within}
-use Rattle.rb_match.specs.declared.knowledge.Known.{Known}
-use Rattle.rb_match.specs.declared.knowledge.Spot.{Spot}
-use Rattle.rb_match.specs.declared.knowledge.Edge.{Edge}
-use Rattle.rb_match.specs.declared.spots.Whole.{Whole}
-use Rattle.rb_match.specs.inner.Knowing.{IsCommonKnowledge, view_of}
-use Rattle.rb_match.specs.inner.Asking.{StandOpen, holes_of, take_link}
+use Rattle.rb_facts.specs.declared.knowledge.Known.{Known}
+use Rattle.rb_facts.specs.declared.knowledge.Spot.{Spot}
+use Rattle.rb_facts.specs.declared.knowledge.Edge.{Edge}
+use Rattle.rb_match.specs.declared.asking.Whole.{Whole}
+use Rattle.rb_facts.specs.Knowing.{IsCommonKnowledge, view_of}
+use Rattle.rb_facts.specs.Edges.{StandOpen, holes_of}
+use Rattle.rb_facts.specs.Links.{take_link}
 use Rattle.rb_match.specs.inner.Binding.{SavesTogether}
 use Rattle.rb_match.specs.inner.Flowing.{landing_of}
 use Rattle.rb_match.specs.inner.Opening.{AsksDeep}

@@ -2,9 +2,5 @@ pub mod Asking
 pub mod Binding
 pub mod Clauses
 pub mod Flowing
-pub mod Knowing
 pub mod Opening
-pub mod Places
-pub mod Saving
-pub mod Threading
 pub mod Trees

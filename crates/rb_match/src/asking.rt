@@ -11,24 +11,25 @@
 //! value there. A read says where a word of the part is: bits of slots and of memory. `agreed` is
 //! the program with its layouts, and `body` the code so far, at whose end new code is appended.
 
-ghost use Rattle.std.specs.Prelude.{◌≡◌, ◌+◌, ◌++◌, ◌<◌, ◌^◌, [], IfOk, OnOk, true, None, is_some, length, slice_get};
-ghost use Rattle.rb_core.specs.declared.value.Value.TheOpen as Layers;
+ghost use Rattle.std.specs.Prelude.{◌≡◌, ◌+◌, ◌++◌, ◌<◌, ◌^◌, IfOk, OnOk, true, None, length, slice_get};
 ghost use Rattle.rb_target.specs.declared.instr.Instr.TheVariants.{Jump};
 ghost use Rattle.rb_target.specs.Growth.{Grows};
 ghost use Rattle.rb_target.specs.Sheet.{with_more};
 ghost use Rattle.rb_fetch.specs.Finding.{leaf_count};
-ghost use Rattle.rb_match.specs.inner.Asking.{number_arm, number_arms, is_number, are_numbers, is_test, known_at_node, edge_at, edge_in, arm_edges, else_edges, leaf_con, link_at, take_link, node_for, facts_for, IsGrouped, AreGroups, edge_for, leaf_edges_of, StandOpen, AsksNumber, AsksLeaf};
+ghost use Rattle.rb_match.specs.inner.Asking.{number_arm, number_arms, is_number, are_numbers, is_test, known_at_node, edge_at, edge_in, arm_edges, else_edges, node_for, facts_for, IsGrouped, AreGroups, edge_for, leaf_edges_of, AsksNumber, AsksLeaf};
+ghost use Rattle.rb_facts.specs.Edges.{StandOpen};
 ghost use Rattle.rb_match.specs.inner.Opening.{Asks, AsksPart};
 
 use crate::deep::ask_deep;
-use crate::knowledge::{Edge, Known, Spot, Subject, Test, copy_known, with_known};
-use crate::place::{is_looked_at, place_of_part};
-use crate::spots::{Whole, has_spot_below, is_within};
 use rb_core::pattern::Pat;
 use rb_core::seq::Seq;
 use rb_core::types::Ty;
 use rb_decide::clause_matrix::number_of;
 use rb_decide::decision_graph::{GraphArm, GraphNode};
+use rb_facts::knowledge::{Edge, Known, Spot, copy_known, with_known};
+use rb_facts::links::{count_leaves, leaf_link, mark_tested_below};
+use rb_facts::place::{is_looked_at, place_of_part};
+use rb_facts::spots::has_spot_below;
 use rb_fetch::look::find_group_of;
 use rb_fragment::make::make;
 use rb_fragment::reads::Read;
@@ -37,6 +38,34 @@ use rb_matrix::matrix::Head;
 use rb_target::body::{Body, Hole};
 use rb_target::instr::{Instr, SwitchArm};
 use std::alloc::{AllocError, Global};
+
+/// A graph of tests, and what it tests: values of a type, for some patterns. Where it has no nodes, all that
+/// can be saved is wanted.
+#[derive(Clone, Copy)]
+pub struct Whole<'a> {
+    pub ty: Ty,
+    pub pats: &'a [Pat],
+    pub nodes: &'a [GraphNode],
+}
+
+/// A value that is matched: reads of its words, which say where these are, and the spots of its
+/// parts.
+#[derive(Clone, Copy)]
+pub struct Subject<'a> {
+    pub words: &'a [Read],
+    pub spots: &'a [Spot],
+}
+
+/// A test: what is known where it stands, the position of the part that it looks at, and the nodes
+/// to which it leads: each arm has one for the values that begin with its head, a constructor or a
+/// number, and `other` is that of all other values, None where there are none.
+#[derive(Clone, Copy)]
+pub struct Test<'b, 'a> {
+    pub known: &'b [Known<'a>],
+    pub position: &'a [u32],
+    pub arms: &'b [GraphArm],
+    pub other: Option<u32>,
+}
 
 // Numbers ---------------------------------------------------------------------------------------
 
@@ -221,119 +250,6 @@ fn ask_number<'a>(
 }
 
 // Constructors ----------------------------------------------------------------------------------
-
-/// The provenance of a leaf of a data type; None where there is no such leaf. No clause says which
-/// pattern it is: who saves parts by it tests first that the leaf has each of them.
-pub fn prov_of<'a>(agreed: &'a Agreed, ty: u32, leaf: usize) -> Option<&'a Pat> {
-    let layout = agreed.layouts().get(ty as usize)?;
-    let leaf = layout.leaves.get(leaf)?;
-    Some(&leaf.prov)
-}
-
-/// The constructor with which the values of a leaf begin; None where its provenance shows none, or
-/// there is no such leaf.
-pub fn con_of(agreed: &Agreed, ty: u32, leaf: usize) -> Option<u32>
-    ensures { result ≡ leaf_con agreed.now ty leaf }
-{
-    let layout = agreed.layouts().get(ty as usize)?;
-    let leaf = layout.leaves.get(leaf)?;
-    match &leaf.prov {
-        Pat::Con(_, con, _) => Some(con.con),
-        Pat::Wild(_) => None,
-        Pat::Var(_, _) => None,
-        Pat::Num(_, _) => None,
-    }
-}
-
-/// How many leaves a data type has; 0 where it has no layout.
-pub fn count_leaves(agreed: &Agreed, ty: u32) -> usize
-    ensures { result ≡ leaf_count agreed.now ty }
-{
-    match agreed.layouts().get(ty as usize) {
-        None => 0,
-        Some(layout) => layout.leaves.len(),
-    }
-}
-
-/// The node to which a test leads the values of a constructor; None where it leads them to none.
-pub fn link_of(arms: &[GraphArm], other: Option<u32>, con: u32) -> Option<u32>
-    ensures { result ≡ take_link arms.now other (Layers.Con con []) }
-{
-    for arm in arms {
-        match arm.head {
-            Head::Con(head) => {
-                if head.con == con {
-                    return Some(arm.under);
-                }
-            }
-            Head::Num(_) => {}
-        }
-    }
-    other
-}
-
-/// The node to which a test leads the values of a leaf; None where none of them can be here.
-///
-/// # Errors
-///
-/// A leaf that there isn't, or whose provenance shows no constructor.
-pub fn leaf_link(
-    agreed: &Agreed,
-    ty: u32,
-    leaf: usize,
-    arms: &[GraphArm],
-    other: Option<u32>,
-) -> Result<Option<u32>, AllocError>
-    ensures link { IfOk result (λ link. link ≡ link_at arms.now other (leaf_con agreed.now ty leaf)) }
-    ensures con { IfOk result (λ link. is_some (leaf_con agreed.now ty leaf) ≡ true) }
-{
-    let Some(con) = con_of(agreed, ty, leaf) else {
-        return Err(AllocError);
-    };
-    Ok(link_of(arms, other, con))
-}
-
-// Whether one of the nodes to which a test leads, by an arm or for all other values, is marked. No
-// clause says so: marks are guesses.
-fn some_marked(marks: &[bool], arms: &[GraphArm], other: Option<u32>) -> bool {
-    if let Some(node) = other
-        && let Some(true) = marks.get(node as usize)
-    {
-        return true;
-    }
-    arms.iter()
-        .any(|arm| matches!(marks.get(arm.under as usize), Some(true)))
-}
-
-/// For each node whether a test below a position can be met from it on: such a test reads from the part there, so it
-/// needs the part's leaf. Links go to lower nodes. No clause speaks of these marks, since they are a guess: where one
-/// is missing, the test below finds no leaf and is given up, as for want of memory; where there is one too many, leaves
-/// are told apart or parts saved in vain.
-///
-/// # Errors
-///
-/// Want of memory.
-pub fn mark_tested_below(
-    alloc: Global,
-    nodes: &[GraphNode],
-    position: &[u32],
-) -> Result<Seq<bool>, AllocError> {
-    let mut marks = Seq::new(alloc);
-    let mut is_met = false;
-    for node in nodes {
-        let mark = match node {
-            GraphNode::Clause(_) => false,
-            GraphNode::Test(tested, arms, other) => {
-                let tested = tested.as_slice();
-                let is_below = tested.len() > position.len() && is_within(tested, position);
-                is_below || (is_met && some_marked(marks.as_slice(), arms.as_slice(), *other))
-            }
-        };
-        is_met = is_met || mark;
-        marks.push(mark)?;
-    }
-    Ok(marks)
-}
 
 // The number of a leaf's group. A leaf is a group by itself, with its own number, where the node to
 // which it leads is marked, since a test below needs it; else the group is that of the node, whose
@@ -527,16 +443,13 @@ fn ask_part<'a>(
     match ty {
         Ty::Int(_) => {
             let (known, arms, other) = (test.known, test.arms, test.other);
-            let edges = ask_number(alloc, body, graph.nodes, reads, known, arms, other)?;
-            Ok(edges)
+            ask_number(alloc, body, graph.nodes, reads, known, arms, other)
         }
         Ty::Named(t) => {
             if has_spot_below(spots, test.position) {
-                let edges = ask_deep(alloc, body, agreed, graph, t, reads, spots, test)?;
-                Ok(edges)
+                ask_deep(alloc, body, agreed, graph, t, reads, spots, test)
             } else {
-                let edges = ask_leaf(alloc, body, agreed, graph.nodes, t, reads, test)?;
-                Ok(edges)
+                ask_leaf(alloc, body, agreed, graph.nodes, t, reads, test)
             }
         }
     }

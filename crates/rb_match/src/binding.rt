@@ -15,21 +15,22 @@ ghost use Rattle.rb_target.specs.Growth.{Grows};
 ghost use Rattle.rb_fetch.specs.Finding.{leaf_count};
 ghost use Rattle.rb_match.specs.Choosing.{BindsPattern};
 ghost use Rattle.rb_match.specs.inner.Binding.{BindsBare, IsLeftOut, IsOnly, IsOnlyLeaf, BindsFieldFrom, BindsFieldsFrom, FieldStands, GivesFields, SavesTogether, StandsInSpot};
-ghost use Rattle.rb_match.specs.Bounding.{takes_none_apart};
+ghost use Rattle.rb_facts.specs.Looks.{takes_none_apart};
 
-use crate::asking::count_leaves;
+use crate::asking::{Test, Whole};
 use crate::deep::ask_deep;
 use crate::engine::land;
-use crate::knowledge::{Known, Spot, Test, node_known, saved_known};
 use crate::patterns::binds_nothing;
-use crate::saving::{LeafSlots, fetch_part, spot_at};
-use crate::spots::{Wanted, Whole, give_spots, is_deep};
 use rb_core::inference::types_of_fields;
 use rb_core::pattern::Pat;
 use rb_core::seq::Seq;
 use rb_core::types::{ConRef, Ty};
 use rb_decide::clause_matrix::number_of;
 use rb_decide::decision_graph::GraphArm;
+use rb_facts::knowledge::{Known, Spot, node_known, saved_known};
+use rb_facts::links::count_leaves;
+use rb_facts::saving::{LeafSlots, fetch_part, spot_at};
+use rb_facts::spots::{Wanted, give_spots, is_deep};
 use rb_fetch::field::copy_slots;
 use rb_fragment::held::Local;
 use rb_fragment::reads::slot_reads;
@@ -254,8 +255,7 @@ fn saved_slots(
         return Err(AllocError);
     }
     let words = spots[k].slots.as_slice();
-    let slots = copy_slots(alloc, words)?;
-    Ok(slots)
+    copy_slots(alloc, words)
 }
 
 // Where the words of a constructor's fields are got from.
@@ -322,14 +322,12 @@ fn field_slots(
     match source {
         FieldSource::Leaf(value) => {
             let path = [i];
-            let slots = fetch_part(alloc, body, agreed, value, &path, field)?;
-            Ok(slots)
+            fetch_part(alloc, body, agreed, value, &path, field)
         }
         FieldSource::Spots(spots, known) => {
             let spots = spots.as_slice();
             let known = known.as_slice();
-            let slots = saved_slots(alloc, spots, known, i, field)?;
-            Ok(slots)
+            saved_slots(alloc, spots, known, i, field)
         }
     }
 }

@@ -52,8 +52,7 @@ fn emit_alone(
     let pats = alone(alloc, pat)?;
     let graph = pattern_graph(alloc, types, ty, pat)?;
     let pats = pats.as_slice();
-    let holes = emit_shared(alloc, body, agreed, ty, words, pats, &graph)?;
-    Ok(holes)
+    emit_shared(alloc, body, agreed, ty, words, pats, &graph)
 }
 
 /// Those of the holes that have the number `way`, in their order, with the number `name` instead;

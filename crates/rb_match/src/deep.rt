@@ -21,23 +21,23 @@ ghost use Rattle.rb_target.specs.Growth.{Grows};
 ghost use Rattle.rb_fragment.specs.Arms.{with_targets};
 ghost use Rattle.rb_match.specs.inner.Clauses.{way_holes};
 ghost use Rattle.rb_fetch.specs.Finding.{leaf_count};
-ghost use Rattle.rb_match.specs.declared.knowledge.Edge.{Edge};
-ghost use Rattle.rb_match.specs.inner.Asking.{AreGroups, StandOpen};
-ghost use Rattle.rb_match.specs.inner.Saving.{SavesFields};
-ghost use Rattle.rb_match.specs.inner.Threading.{AllFollow};
+ghost use Rattle.rb_facts.specs.declared.knowledge.Edge.{Edge};
+ghost use Rattle.rb_match.specs.inner.Asking.{AreGroups};
+ghost use Rattle.rb_facts.specs.Edges.{StandOpen};
+ghost use Rattle.rb_facts.specs.Saving.{SavesFields};
+ghost use Rattle.rb_facts.specs.Threading.{AllFollow};
 ghost use Rattle.rb_match.specs.inner.Opening.{AsksDeep, CanOpen, HasGroupOnward, LeadsFrom, LeadsLeaf, LeadsWays, StepsWay, group_onward, shared_edges};
 
-use crate::asking::{
-    con_of, count_leaves, edge_within, link_of, mark_tested_below, open_jump, prov_of,
-};
+use crate::asking::{Test, Whole, edge_within, open_jump};
 use crate::clauses::holes_of;
-use crate::knowledge::{Edge, Known, Spot, Test, copy_known, with_known};
-use crate::saving::{Source, save_fields};
-use crate::spots::{Whole, needs_from};
-use crate::threading::{Exit, lead_on};
 use rb_core::seq::Seq;
 use rb_decide::clause_matrix::number_of;
 use rb_decide::decision_graph::GraphNode;
+use rb_facts::knowledge::{Edge, Known, Spot, copy_known, with_known};
+use rb_facts::links::{con_of, count_leaves, link_of, mark_tested_below, prov_of};
+use rb_facts::saving::{Source, save_fields};
+use rb_facts::spots::needs_from;
+use rb_facts::threading::{Exit, lead_on};
 use rb_fetch::look::find_group;
 use rb_fragment::make::make_all;
 use rb_fragment::patch::patch_all;

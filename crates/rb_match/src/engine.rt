@@ -16,16 +16,15 @@
 ghost use Rattle.std.specs.Prelude.{◌≡◌, ◌∷◌, [], IfOk, OnOk, length};
 ghost use Rattle.rb_target.specs.Growth.{Grows};
 ghost use Rattle.rb_fragment.specs.Arms.{AreHoles, AreOfOneWay, with_targets};
-ghost use Rattle.rb_match.specs.inner.Asking.{AreOpen};
+ghost use Rattle.rb_facts.specs.Edges.{AreOpen};
 ghost use Rattle.rb_match.specs.inner.Flowing.{landing_of, others_of, StepsNode, RootStands, IsClauseHole, AreClauseHoles, TakesGraph};
 ghost use Rattle.rb_match.specs.inner.Opening.{AsksOnward};
 
-use crate::asking::{ask, open_jump};
-use crate::knowledge::{Edge, Subject, Test, node_known};
-use crate::spots::Whole;
-use crate::threading::thread;
+use crate::asking::{Subject, Test, Whole, ask, open_jump};
 use rb_core::seq::Seq;
 use rb_decide::decision_graph::GraphNode;
+use rb_facts::knowledge::{Edge, node_known};
+use rb_facts::threading::thread;
 use rb_fragment::patch::patch_all;
 use rb_layout::agreed::Agreed;
 use rb_target::body::{Body, Hole};

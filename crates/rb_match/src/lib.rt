@@ -19,7 +19,7 @@
 //! At the root the pair's own words stand in slots. The leaf of a pair tells where its fields are, so the
 //! first field is bits of them, said as a read (`rb_fragment`) and made only now. A switch on its leaf has
 //! two arms, and each is an *edge*: a target that is still open, with the number of the node to which it
-//! leads, and with the leaves that are known there (`knowledge`). The arm of A leads to clause 0, which
+//! leads, and with the leaves that are known there (`knowledge` of `rb_facts`). The arm of A leads to clause 0, which
 //! has no code and needs no facts: its edges are the answer's holes. The arm of B leads to the next node. When
 //! that node's turn comes, all edges that lead to it are set to the end of the code, what all of them know is
 //! known there, and its test is emitted: so the second field is read from the same slots. A number is tested by
@@ -33,59 +33,28 @@
 //! takes, what the edge knows is so, and the switches so far are those of looks at distinct places, at
 //! which some clause has a number or a constructor. So a match costs at most the sum of its places.
 //!
-//! # Saved places
+//! # Where a leaf takes a field apart
 //!
-//! A leaf may take a field apart, and two leaves may do so in two ways. Let the pair stand in two bits as
-//!
-//! ```text
-//! split 0[0:1] {
-//!     0 => P(A, _) : { word 2 { [0:1] = 0, [1:1] .1 } }
-//!     1 => P(B, _) : { word 2 { [0:1] = 1, [1:1] .1 } }
-//! }
-//! ```
-//!
-//! No bits hold the first field here: the leaf says which constructor it is. So on the way of each leaf its test
-//! needs no code ([`threading`]): the way of leaf 0 leads on to clause 0, and that of leaf 1 to the test of the
-//! second field. A node behind several leaves can't read a field from any of them alone, and where another test
-//! stands between, it doesn't know the leaf: there a field is rebuilt as a K, or read, on the way of each leaf. So
-//! a look at a part of such a type *saves* what later tests need ([`deep`]). Before the first node each field at
-//! which some pattern looks is given a *spot*: slots of its own, the same ones whichever leaf it comes from
-//! ([`spots`]). The look finds the leaf; on the way of leaf 1 the field `.1` is taken and copied into its spot, and
-//! an open jump leads on ([`saving`]). Of leaf 0 nothing is saved: its edge is the look's own, and if several such
-//! leaves led on to one node, the look would not tell them apart.
-//! The edge of leaf 1 knows one fact more: that this spot holds its part. Where the edges of several leaves meet,
-//! what all of them saved is known, since the spots are the same; so [`place::place_of_part`] begins at the nearest
-//! saved part at or above a position, and reads fields from there downward.
+//! `rb_facts` says which tests need no code there and are led over, and where parts are saved for later ones. A look at
+//! a part of such a type saves what later tests need ([`deep`]). Let the pair stand in two leaves, `P(A, _)` and
+//! `P(B, _)`, each with bits of the second field alone. The look finds the leaf; behind it the code of leaf 1 copies
+//! the second field into its spot, slots that are the same ones whichever leaf it comes from, and an open jump leads
+//! on. Of leaf 0 nothing is saved: its edge is the look's own, and if several such leaves led on to one node, the look
+//! would not tell them apart.
 //!
 //! A look at such a type costs the switches that find its leaf and those that rebuild, which is half of what
 //! the bound allows a match at such a place. The other half is left to binding, which looks again where a
 //! pattern's constructor has several leaves. Where no leaf takes a field apart there are no spots, no jumps
 //! and no rebuilding, and binding takes no switch.
 //!
-//! # Tests that a leaf decides
-//!
-//! Let a leaf be `T(Some(_, _), _)`, where `Some` has fields of its own, and a pattern `T(Some(B, 3), _)`. The leaf
-//! decides the test of `.0`, but not those of `.0.0` and `.0.1` below it, which want to know where the fields of
-//! `.0` are: that is what a look at `.0` would have told. Where all values of `Some` have one leaf, which takes no
-//! field apart, that leaf is known without a look ([`threading`]), and the edge says so. What stands below is read
-//! from where `T(Some(_, _), _)` has it, if that leaf is known there ([`place`]), so that nothing is put together;
-//! and else from the spot of `.0`.
-//!
-//! Where `Some` has several leaves, or one that takes a field apart, the fields of `.0` have spots of their own. So the
-//! way of the leaf `T(Some(_, _), _)` *opens* `.0` ([`saving`]): it saves those fields themselves, and `.0` is neither
-//! put together nor looked at. That can be done at the exit of a look alone, and a part is opened only where
-//! all parts between it and the one that is looked at are.
-//!
-//! So a test that a leaf decides is looked at in two cases only: where another test stands between, and ways of several
-//! leaves meet behind it or the part would have to be opened; and where the part would have to be opened but stands in
-//! one whose leaf its constructor shows.
+//! # Many nodes, and binding
 //!
 //! Where the tree has more than 512 nodes, clauses are tried one by one ([`clauses`]), each by the same
 //! code for the two patterns `p` and `_`; what it doesn't match goes on at the next clause.
 //!
 //! [`binding::bind`] follows the pattern. A value that the pattern matches has no leaf that has another constructor in
-//! one of its places: so `P(B, x)` is bound from leaf 1 without a look ([`patterns`]). Where one leaf is left, each
-//! field that holds a variable is fetched on the way to it.
+//! one of its places: so, where the pair stands in the two leaves above, `P(B, x)` is bound from leaf 1 without a look
+//! ([`patterns`]). Where one leaf is left, each field that holds a variable is fetched on the way to it.
 #![tactic(auto)]
 
 mod asking;
@@ -94,10 +63,5 @@ pub mod choosing;
 mod clauses;
 mod deep;
 mod engine;
-mod knowledge;
 pub mod laws;
 mod patterns;
-mod place;
-mod saving;
-mod spots;
-mod threading;

@@ -14,14 +14,12 @@ use denote.Ref.{Bor}
 use Rattle.std.specs.Prelude.{◌≡◌, ℕ, ◌+◌, ◌-◌, ◌<◌, ◌≤◌, ◌^◌, List, [], ◌∷◌, ◌++◌, map, length, Bool, true, false, ◌&&◌, nat_lt, Option, Some, None, slice_get, if◌then◌else◌}
 use Rattle.rb_core.specs.declared.value.Value.{Value, out-Value}
 use Rattle.rb_core.specs.declared.value.Value.TheOpen as V
-use Rattle.rb_core.specs.declared.value.Value.TheOpen.{Value-F}
 use Rattle.rb_core.specs.declared.types.Ty.{Ty}
 use Rattle.rb_core.specs.declared.types.Ty.TheVariants.{Int, Named}
-use Rattle.rb_core.specs.declared.pattern.Pat.{Pat, out-Pat}
+use Rattle.rb_core.specs.declared.pattern.Pat.{Pat}
 use Rattle.rb_core.specs.Values.{part_at}
 use Rattle.rb_matrix.specs.declared.matrix.Head.{Head}
 use Rattle.rb_matrix.specs.declared.matrix.Head.TheVariants as H
-use Rattle.rb_matrix.specs.Heads.{layer_begins}
 use Rattle.rb_decide.specs.declared.decision_graph.GraphArm.{GraphArm}
 use Rattle.rb_decide.specs.declared.decision_graph.GraphNode.{GraphNode}
 use Rattle.rb_decide.specs.declared.decision_graph.GraphNode.TheVariants.{Test, Clause}
@@ -32,33 +30,25 @@ use Rattle.rb_target.specs.declared.body.Hole.{Hole}
 use Rattle.rb_target.specs.Growth.{Keeps}
 use Rattle.rb_target.specs.Laws.{Law}
 use Rattle.rb_target.specs.Meaning.{World, Next, Callee}
-use Rattle.rb_target.specs.Sheet.{Sheet, IsHole}
+use Rattle.rb_target.specs.Sheet.{Sheet}
 use Rattle.rb_target.specs.Targets.{target_in, Finishes}
 use Rattle.rb_layout.specs.declared.agreed.LaidOut.{LaidOut}
-use Rattle.rb_layout.specs.declared.layout.Leaf.{Leaf}
-use Rattle.rb_layout.specs.Positions.{con_of_layer, layout_of}
 use Rattle.rb_fragment.specs.declared.reads.Read.{Read}
 use Rattle.rb_fragment.specs.Plan.{Plan, Rep, words_needed}
 use Rattle.rb_fragment.specs.Adding.{Adds}
 use Rattle.rb_fragment.specs.Pieces.{IsLater}
-use Rattle.rb_fragment.specs.Slots.{AllFrom, SlotsAreApart, IsDistinct}
 use Rattle.rb_fragment.specs.WordReads.{AreMeant, AllFit}
-use Rattle.rb_fetch.specs.Finding.{IsPlanOf, leaf_count, leaf_within}
-use Rattle.rb_match.specs.declared.knowledge.Known.{Known}
-use Rattle.rb_match.specs.declared.knowledge.Known.TheVariants as K
-use Rattle.rb_match.specs.declared.knowledge.Spot.{Spot}
-use Rattle.rb_match.specs.Bounding.{choosing_look}
-use Rattle.rb_match.specs.declared.knowledge.Edge.{Edge}
-use Rattle.rb_match.specs.inner.Knowing.{AreKnown, IsEdge, SpotsBelow, View, view_of}
-use Rattle.rb_match.specs.inner.Places.{HaveWords, IsLookedAt}
-
--- Links -----------------------------------------------------------------------------------------
-
--- the node to which a test leads a value: that of the first arm with whose head it begins, or else the other one, if
--- there is one
-abbrev pub take_link : List GraphArm → Option ℕ → Value-F Value → Option ℕ
-take_link [] other tested = other
-take_link (a ∷ arms) other tested = if layer_begins a.head tested then Some a.under else take_link arms other tested
+use Rattle.rb_fetch.specs.Finding.{IsPlanOf, leaf_count}
+use Rattle.rb_facts.specs.declared.knowledge.Known.{Known}
+use Rattle.rb_facts.specs.declared.knowledge.Known.TheVariants as K
+use Rattle.rb_facts.specs.declared.knowledge.Spot.{Spot}
+use Rattle.rb_facts.specs.Looks.{choosing_look}
+use Rattle.rb_facts.specs.declared.knowledge.Edge.{Edge}
+use Rattle.rb_facts.specs.Knowing.{AreKnown, IsEdge, SpotsBelow, View, view_of}
+use Rattle.rb_facts.specs.Places.{IsLookedAt}
+use Rattle.rb_facts.specs.Links.{take_link, leaf_con, link_at}
+use Rattle.rb_facts.specs.Edges.{holes_of}
+use Rattle.rb_facts.specs.Saving.{AreSpots}
 
 -- What edges carry -----------------------------------------------------------------------------
 
@@ -120,23 +110,6 @@ else_edges nodes pc known (Some link) = edge_in nodes pc None link known ∷ []
 
 -- Constructors ----------------------------------------------------------------------------------
 
--- the number of the constructor with which a leaf's provenance begins; none where there is no leaf, or it begins
--- with none
-abbrev pub con_in : Option Leaf → Option ℕ
-con_in None = None
-con_in (Some leaf) = con_of_layer (out-Pat leaf.prov)
-
--- the number of the constructor with which the values of leaf l of data type t begin, if there is such a leaf and its
--- provenance begins with one
-abbrev pub leaf_con : LaidOut → ℕ → ℕ → Option ℕ
-leaf_con agreed t l = con_in (leaf_within (layout_of agreed.layouts t) l)
-
--- the node to which a test leads the values of the constructor with this number; none where the test has none for
--- them, or where no constructor is given
-abbrev pub link_at : List GraphArm → Option ℕ → Option ℕ → Option ℕ
-link_at arms other None = None
-link_at arms other (Some c) = take_link arms other (V.Con c [])
-
 -- The group of a leaf that leads to a node, by which the code tells leaves apart: the leaf's own number where it is a
 -- group by itself, or else the node's number behind those of the `count` leaves. A leaf that leads to none has none.
 abbrev pub group_for : ℕ → Bool → ℕ → Option ℕ → Option ℕ
@@ -196,29 +169,6 @@ leaf_edges_of agreed nodes t position known arms other (h ∷ hs) =
 
 -- Edges -----------------------------------------------------------------------------------------
 
--- the hole of an edge
-abbrev pub hole_of : Edge → Hole
-hole_of e = e.hole
-
--- the holes of edges, in their order
-abbrev pub holes_of : List Edge → List Hole
-holes_of es = map hole_of es
-
--- each of these edges is a hole of the code, at an instruction with the number `from` or a later one
-abbrev pub AreOpen : ℕ → List Instr → List Edge → Type 0
-AreOpen from code edges = (e : Edge) → IsEdge e edges → (from ≤ e.hole.pc) × IsHole code e.hole
-
--- edges by the same instruction and the same arm of it lead to the same node, since they have one target
-abbrev pub LeadOneWay : List Edge → Type 0
-LeadOneWay edges =
-    (e f : Edge) → IsEdge e edges → IsEdge f edges → e.hole.pc ≡ f.hole.pc → e.hole.arm ≡ f.hole.arm
-    → e.hole.leaf ≡ f.hole.leaf
-
--- edges are open in the code from old to new, and each target of theirs leads to one node
-pub record StandOpen (old new : Sheet) (edges : List Edge) : Type 0 where
-  pub are_open : AreOpen (length old.code) new.code edges
-  pub one : LeadOneWay edges
-
 -- The run from instruction `start`, with the slots s and the world w, goes out by an edge, whatever its target, to a
 -- node of which `To` is so, with what the edge says is known of value v. It does at most `most` more switches, and
 -- keeps the first n slots.
@@ -248,17 +198,6 @@ LeavesBy plan final next edges n most start s w clean v spots node =
     LeavesWhere (IsNode node) plan final next edges n most start s w clean v spots
 
 -- Tests -----------------------------------------------------------------------------------------
-
--- spots that code may write: their slots are from n on and below m, each spot has as many as its type has words, and
--- no slot is given twice, within a spot or in two of them
-pub record AreSpots (plan : Plan) (n m : ℕ) (spots : List Spot) : Type 0 where
-  pub low : n ≤ m
-  pub from : (k : ℕ) (spot : Spot) → slice_get spots k ≡ Some spot → AllFrom n spot.slots
-  pub below : SpotsBelow m spots
-  pub count : HaveWords plan spots
-  pub distinct : (k : ℕ) (spot : Spot) → slice_get spots k ≡ Some spot → IsDistinct spot.slots
-  pub apart : (j k : ℕ) (a b : Spot) → slice_get spots j ≡ Some a → slice_get spots k ≡ Some b → (j ≡ k → ⊥)
-      → SlotsAreApart a.slots b.slots
 
 -- The code from old to new makes a test, over reads of the part that is tested: where the test leads the part to a
 -- node, by an arm or as all other values, the run leaves by an edge to a node that `To` allows for that one.

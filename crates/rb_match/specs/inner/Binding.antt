@@ -11,7 +11,7 @@
 -- code that finds the leaf of a part.
 use Rattle.std.specs.Prelude.{◌≡◌, ℕ, ◌+◌, ◌<◌, ◌≤◌, ◌⊎◌, List, [], ◌∷◌, map, length, Bool, true, false, Some, slice_get}
 use Rattle.std.specs.List.{list_all}
-use Rattle.rb_core.specs.declared.value.Value.{Value}
+use Rattle.rb_core.specs.declared.value.Value.{Value, out-Value}
 use Rattle.rb_core.specs.declared.types.Ty.{Ty}
 use Rattle.rb_core.specs.declared.types.Ty.TheVariants.{Named}
 use Rattle.rb_core.specs.declared.typing.Binder.{Binder}
@@ -24,7 +24,7 @@ use Rattle.rb_core.specs.Inference.{binders, all_binders}
 use Rattle.rb_core.specs.Matching.{all_bindings, all_pass, bindings, matches_of}
 use Rattle.rb_core.specs.Typing.{field_types}
 use Rattle.rb_core.specs.Values.{part_at}
-use Rattle.rb_bytes.specs.Memory.{IsGood}
+use Rattle.rb_bytes.specs.Memory.{IsGood, Memory}
 use Rattle.rb_target.specs.Growth.{Nowhere}
 use Rattle.rb_target.specs.Meaning.{slots_at}
 use Rattle.rb_target.specs.Sheet.{Sheet}
@@ -41,18 +41,16 @@ use Rattle.rb_fragment.specs.Slots.{AllBelow, IsOneOf}
 use Rattle.rb_fetch.specs.Finding.{IsPlanOf, leaf_count, leaf_within}
 use Rattle.rb_matrix.specs.Apart.{PatternsAreApart}
 use Rattle.rb_match.specs.Choosing.{BindsPattern}
-use Rattle.rb_bytes.specs.Memory.{Memory}
 use Rattle.rb_core.specs.declared.types.ConRef.{ConRef}
-use Rattle.rb_core.specs.declared.value.Value.{out-Value}
 use Rattle.rb_core.specs.declared.value.Value.TheOpen as V
 use Rattle.rb_match.specs.declared.binding.FieldSource.{FieldSource}
 use Rattle.rb_match.specs.declared.binding.FieldSource.TheVariants as F
-use Rattle.rb_match.specs.declared.knowledge.Known.{Known}
-use Rattle.rb_match.specs.declared.knowledge.Spot.{Spot}
-use Rattle.rb_match.specs.inner.Knowing.{AreKnown, FollowsSaved, view_of}
-use Rattle.rb_match.specs.Bounding.{binding_bound, binding_look, choosing_look, looks_with, places_below, places_in}
-use Rattle.rb_match.specs.inner.Asking.{AreSpots}
-use Rattle.rb_match.specs.inner.Saving.{FetchesPart, IsThere, mend_at, mends_from}
+use Rattle.rb_facts.specs.declared.knowledge.Known.{Known}
+use Rattle.rb_facts.specs.declared.knowledge.Spot.{Spot}
+use Rattle.rb_facts.specs.Knowing.{AreKnown, FollowsSaved, view_of}
+use Rattle.rb_match.specs.Bounding.{binding_bound, binding_look}
+use Rattle.rb_facts.specs.Looks.{choosing_look, looks_with, places_below, places_in}
+use Rattle.rb_facts.specs.Saving.{AreSpots, FetchesPart, IsThere, mend_at, mends_from}
 
 -- no value of leaf n of data type t matches the pattern, or there is no such leaf
 abbrev pub IsLeftOut : LaidOut → ℕ → Pat → ℕ → Type 0

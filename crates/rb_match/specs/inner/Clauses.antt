@@ -28,7 +28,8 @@ use Rattle.rb_fragment.specs.Adding.{Adds}
 use Rattle.rb_fragment.specs.Pieces.{IsLater, GoesOutBy}
 use Rattle.rb_fragment.specs.WordReads.{AreMeant, AllFit}
 use Rattle.rb_fetch.specs.Finding.{IsPlanOf}
-use Rattle.rb_match.specs.Bounding.{choosing_look, looks_with, places_of_patterns}
+use Rattle.rb_facts.specs.Looks.{choosing_look, looks_with}
+use Rattle.rb_match.specs.Bounding.{places_of_patterns}
 use Rattle.rb_match.specs.inner.Trees.{TakesTree}
 
 -- those of the holes that have the number `way`, with the number `name` instead, in their order

@@ -40,16 +40,18 @@ use Rattle.rb_fragment.specs.WordReads.{AllFit}
 use Rattle.rb_fetch.specs.Finding.{IsPlanOf, leaf_count}
 use Rattle.rb_fetch.specs.Pruning.{group_at}
 use Rattle.rb_match.specs.declared.deep.Onward.{Onward}
-use Rattle.rb_match.specs.declared.knowledge.Known.{Known}
-use Rattle.rb_match.specs.declared.knowledge.Known.TheVariants as K
-use Rattle.rb_match.specs.declared.knowledge.Spot.{Spot}
-use Rattle.rb_match.specs.declared.knowledge.Edge.{Edge}
-use Rattle.rb_match.specs.declared.spots.Whole.{Whole}
-use Rattle.rb_match.specs.Bounding.{choosing_look}
-use Rattle.rb_match.specs.inner.Knowing.{AreKnown, View, view_of}
-use Rattle.rb_match.specs.inner.Asking.{AreGroups, AreOpen, AreSpots, Asked, AskedThere, LeadOneWay, LeavesWhere, StandOpen, edge_in, group_for, holes_of, leaf_con, take_link}
-use Rattle.rb_match.specs.inner.Saving.{IsThereWith}
-use Rattle.rb_match.specs.inner.Threading.{AllFollow, LeadsOn, Threads}
+use Rattle.rb_facts.specs.declared.knowledge.Known.{Known}
+use Rattle.rb_facts.specs.declared.knowledge.Known.TheVariants as K
+use Rattle.rb_facts.specs.declared.knowledge.Spot.{Spot}
+use Rattle.rb_facts.specs.declared.knowledge.Edge.{Edge}
+use Rattle.rb_match.specs.declared.asking.Whole.{Whole}
+use Rattle.rb_facts.specs.Looks.{choosing_look}
+use Rattle.rb_facts.specs.Knowing.{AreKnown, View, view_of}
+use Rattle.rb_match.specs.inner.Asking.{AreGroups, Asked, AskedThere, LeavesWhere, edge_in, group_for}
+use Rattle.rb_facts.specs.Edges.{AreOpen, LeadOneWay, StandOpen, holes_of}
+use Rattle.rb_facts.specs.Saving.{AreSpots, IsThereWith}
+use Rattle.rb_facts.specs.Links.{leaf_con, take_link}
+use Rattle.rb_facts.specs.Threading.{AllFollow, LeadsOn, Threads}
 
 -- those of the holes, in their order, whose `leaf`, the number of a group of leaves, is i or higher: no way is made
 -- for them yet

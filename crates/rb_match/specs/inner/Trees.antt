@@ -29,9 +29,9 @@ use Rattle.rb_fragment.specs.Adding.{Adds}
 use Rattle.rb_fragment.specs.Pieces.{GoesOutBy}
 use Rattle.rb_fragment.specs.WordReads.{AreMeant, AllFit}
 use Rattle.rb_fetch.specs.Finding.{IsPlanOf}
-use Rattle.rb_match.specs.Bounding.{TypedPosition}
-use Rattle.rb_match.specs.inner.Places.{IsLookedAt, IsPlaceIn}
-use Rattle.rb_match.specs.inner.Flowing.{HasWay, path_of, looks}
+use Rattle.rb_facts.specs.Looks.{TypedPosition}
+use Rattle.rb_facts.specs.Places.{IsLookedAt, IsPlaceIn}
+use Rattle.rb_facts.specs.Ways.{HasWay, path_of, looks}
 
 -- the run, from instruction `start` with the slots s and the world w, leaves by a hole of clause k, after looks at
 -- the places of one way through the tree: with at most the switches of these, and the first n slots kept

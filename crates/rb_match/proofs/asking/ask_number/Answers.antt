@@ -1,4 +1,4 @@
-use Rattle.rb_match.proofs.Following.{only-one}
+use Rattle.rb_facts.proofs.Following.{only-one}
 use Rattle.rb_match.proofs.NumberTests.{asks_number, number_stand, number_grows}
 use Rattle.rb_match.proofs.asking.ask_number.Goals as goal
 

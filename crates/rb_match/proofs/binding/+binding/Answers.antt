@@ -9,7 +9,7 @@ use Rattle.rb_decide.proofs.Building.{split-rest, get-same}
 use Rattle.rb_match.specs.Choosing.{BindsPattern}
 use Rattle.rb_match.specs.inner.Binding.{BindsBare, BindsFieldFrom, BindsFieldsFrom, weight, weights, weight_step}
 use Rattle.rb_match.proofs.FieldSources.{source_field, source_fields, source_none, source_unbound}
-use Rattle.rb_match.proofs.Following.{no-item}
+use Rattle.rb_facts.proofs.Following.{no-item}
 use Rattle.rb_match.proofs.binding.+binding.Goals as goal
 
 pub bind_at-returns-in-Wild-clause-binds : goal.bind_at-returns-in-Wild-clause-binds

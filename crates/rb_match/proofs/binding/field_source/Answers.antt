@@ -1,6 +1,6 @@
 use Rattle.std.proofs.Common.{◌≡◌, true, arith}
 use Rattle.rb_target.proofs.Growing.{Grows-trans}
-use Rattle.rb_match.proofs.Bindings.{mends_in}
+use Rattle.rb_facts.proofs.Mending.{mends_in}
 use Rattle.rb_match.proofs.FieldSources.{leaf_gives, spots_give}
 use Rattle.rb_match.proofs.binding.field_source.Goals as goal
 

@@ -1,7 +1,7 @@
 use Rattle.std.proofs.Common.{[], length, refl, subst, arith}
 use Rattle.rb_core.specs.declared.types.Ty.TheVariants.{Named}
-use Rattle.rb_match.specs.declared.spots.Whole.{Whole}
-use Rattle.rb_match.specs.inner.Knowing.{IsCommonKnowledge}
+use Rattle.rb_match.specs.declared.asking.Whole.{Whole}
+use Rattle.rb_facts.specs.Knowing.{IsCommonKnowledge}
 use Rattle.rb_match.proofs.Landing.{landing_hole}
 use Rattle.rb_match.proofs.Nodes.{closed_grows}
 use Rattle.rb_match.proofs.Together.{saves_together}

@@ -1,9 +1,9 @@
 use Rattle.std.proofs.Common.{List, [], ◌∷◌, ◌++◌, Some, sym, subst, ◌∙◌}
 use Rattle.rb_match.specs.declared.deep.Onward.{Onward}
-use Rattle.rb_match.specs.declared.knowledge.Known.{Known}
-use Rattle.rb_match.specs.declared.knowledge.Known.TheVariants as K
+use Rattle.rb_facts.specs.declared.knowledge.Known.{Known}
+use Rattle.rb_facts.specs.declared.knowledge.Known.TheVariants as K
 use Rattle.rb_match.specs.inner.Opening.{GoOn, LeadsFrom}
-use Rattle.rb_match.specs.inner.Threading.{AllFollow}
+use Rattle.rb_facts.specs.Threading.{AllFollow}
 use Rattle.rb_match.proofs.deep.onward_of.Goals as goal
 
 pub returns : goal.returns

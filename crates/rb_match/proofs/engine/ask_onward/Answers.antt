@@ -1,6 +1,6 @@
 use Rattle.std.proofs.lemmas.Result.{IfOk-weaker}
 use Rattle.rb_match.specs.inner.Opening.{AsksOnward}
-use Rattle.rb_match.specs.inner.Threading.{Threads}
+use Rattle.rb_facts.specs.Threading.{Threads}
 use Rattle.rb_match.proofs.engine.ask_onward.Goals as goal
 
 pub returns : goal.returns

@@ -1,7 +1,7 @@
 use Rattle.std.proofs.Common.{◌≡◌, length, ℕ, Some}
 use Rattle.std.specs.Prelude.{slice_get}
 use Rattle.rb_target.specs.declared.body.Hole.{Hole}
-use Rattle.rb_match.specs.declared.knowledge.Edge.{Edge}
+use Rattle.rb_facts.specs.declared.knowledge.Edge.{Edge}
 use Rattle.rb_match.specs.inner.Flowing.{IsClauseHole}
 use Rattle.rb_match.proofs.engine.clause_holes.Given as goal
 

@@ -1,5 +1,5 @@
 use Rattle.std.proofs.Common.{subst}
-use Rattle.rb_match.specs.inner.Knowing.{IsCommonKnowledge}
+use Rattle.rb_facts.specs.Knowing.{IsCommonKnowledge}
 use Rattle.rb_match.proofs.Nodes.{steps_onward}
 use Rattle.rb_match.proofs.engine.emit_node.Goals as goal
 

@@ -1,6 +1,6 @@
 use Rattle.std.proofs.Common.{Bool, ap, filter, ◌==◌, ◌∙◌, not, rules}
 use Rattle.std.proofs.lemmas.Fn.{filter_same}
-use Rattle.rb_match.specs.declared.knowledge.Edge.{Edge}
+use Rattle.rb_facts.specs.declared.knowledge.Edge.{Edge}
 use Rattle.rb_match.proofs.Edges.{others_kept}
 use Rattle.rb_match.proofs.engine.others.Goals as goal
 

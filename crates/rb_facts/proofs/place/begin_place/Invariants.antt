@@ -1,0 +1,4 @@
+use Rattle.rb_facts.proofs.place.begin_place.Given as goal
+
+abbrev pub invariant-loop-i : goal.invariant-loop-i
+invariant-loop-i l = Unit {0}

@@ -1,0 +1,9 @@
+pub mod Edges
+pub mod Knowing
+pub mod Links
+pub mod Looks
+pub mod Places
+pub mod Saving
+pub mod Threading
+pub mod Ways
+pub mod inner

@@ -1,7 +1,0 @@
-use Rattle.std.proofs.Common.{◌≡◌, drop, []}
-use Rattle.rb_core.specs.declared.value.Value.TheOpen as V
-use Rattle.rb_match.specs.inner.Asking.{take_link}
-use Rattle.rb_match.proofs.asking.link_of.Given as goal
-
-abbrev pub invariant-loop-arm : goal.invariant-loop-arm
-invariant-loop-arm l = take_link (drop l.arm-index l.arms) l.other (V.Con l.con []) ≡ take_link l.arms l.other (V.Con l.con [])

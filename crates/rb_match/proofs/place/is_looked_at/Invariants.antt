@@ -1,4 +1,0 @@
-use Rattle.rb_match.proofs.place.is_looked_at.Given as goal
-
-abbrev pub invariant-loop-pat : goal.invariant-loop-pat
-invariant-loop-pat l = Unit {0}

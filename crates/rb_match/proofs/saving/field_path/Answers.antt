@@ -1,4 +1,0 @@
-use Rattle.rb_match.proofs.saving.field_path.Goals as goal
-
-pub returns : goal.returns
-returns c = rw c.in_ok-number.ensures at c.path_below.ensures

@@ -1,6 +1,0 @@
-use Rattle.std.proofs.Common.{take}
-use Rattle.rb_fragment.specs.Slots.{SlotsAreApart}
-use Rattle.rb_match.proofs.saving.slots_are_apart.Given as goal
-
-abbrev pub invariant-loop-slot : goal.invariant-loop-slot
-invariant-loop-slot l = SlotsAreApart (take l.slot-index l.slots) l.others

@@ -1,4 +1,0 @@
-use Rattle.rb_match.proofs.spots.has_constructor.Given as goal
-
-abbrev pub invariant-loop-sub : goal.invariant-loop-sub
-invariant-loop-sub l = Unit {0}

@@ -1,4 +1,0 @@
-use Rattle.rb_match.proofs.spots.is_deep.Given as goal
-
-abbrev pub invariant-loop-leaf : goal.invariant-loop-leaf
-invariant-loop-leaf l = Unit {0}

@@ -1,5 +1,0 @@
-use Rattle.rb_match.proofs.Shown.{NoneBelow}
-use Rattle.rb_match.proofs.threading.first_leaf.Given as goal
-
-abbrev pub invariant-loop-i : goal.invariant-loop-i
-invariant-loop-i l = NoneBelow l.leaves l.pat l.i
