@@ -1,5 +1,5 @@
 -- The places at the open positions of a provenance, pattern by pattern.
-use Rattle.std.proofs.Common.{◌≡◌, ℕ, suc, ◌+◌, ◌-◌, ◌<◌, ◌≤◌, length, map, drop, List, [], ◌∷◌, ◌++◌, Some, refl, sym, ap, ◌∙◌, arith, append_assoc, append-nil}
+use Rattle.std.proofs.Common.{◌≡◌, ℕ, ◌+◌, ◌≤◌, length, map, drop, List, [], ◌∷◌, ◌++◌, Some, refl, sym, ap, ◌∙◌, append_assoc, append-nil}
 use Rattle.std.specs.Prelude.{slice_get}
 use Rattle.std.proofs.lemmas.List.Concat.{flat_map-append}
 use Rattle.rb_core.specs.declared.types.Ty.{Ty}
@@ -11,8 +11,7 @@ use Rattle.rb_core.proofs.PatternLaws.{fold-Num}
 use Rattle.rb_layout.specs.Positions.{Open, below, opens_below, opens_of, opens_step, types_or_none}
 use Rattle.rb_rel.proofs.Opens.{opens-Con, opens-Wild, opens-Var}
 use Rattle.rb_image.specs.declared.below.Examined.{Examined}
-use Rattle.rb_image.specs.declared.kept.Kept.{Kept}
-use Rattle.rb_image.specs.Parts.{At, field_words, place_at}
+use Rattle.rb_image.specs.Parts.{At, place_at}
 use Rattle.rb_image.specs.inner.Opening.{places_below, place_below, examined_word}
 use Rattle.rb_image.proofs.DropLemmas.{drop_item, drop_past}
 
@@ -66,7 +65,3 @@ module _ (x : Examined) where
 
   pub fields_untyped : (ps : List Pat) (ts : List Ty) (path : List ℕ) (i : ℕ) → length ts ≤ i → fields_from (drop i ps) (drop i ts) path i ≡ []
   fields_untyped ps ts path i le = ap (λ us. fields_from (drop i ps) us path i) (drop_past ts i le) ∙ none_typed (map (opens_of types) (drop i ps)) path i
-
--- one word of a field more
-pub words_more : (word : List ℕ → ℕ → Kept) (path : List ℕ) (j n : ℕ) → j < n → field_words word path j (n - j) ≡ word path j ∷ field_words word path (j + 1) (n - (j + 1))
-words_more word path j n lt = let e : n - j ≡ suc (n - (j + 1)) = omega (arith, lt) in ap (field_words word path j) e

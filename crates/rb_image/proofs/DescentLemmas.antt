@@ -183,7 +183,7 @@ module _ (look : Looking) where
     turned (Note p) is after new turn = subst (DescentStands look root after) (sym turn.1) (noted_turn p is after turn.0)
     turned (Look p) is after new turn = subst (λ ks. DescentStands look root ks new) (sym turn.0) (elim turn.1 [
       | inl x ↦ subst (DescentStands look root known) (sym x.1) (known_turn p is x.0)
-      | inr x ↦ look_turn p is (Ok (ats_of x.below)) x.found x.below refl new x.steps
+      | inr x ↦ look_turn p is (Ok (ats_of x.1.below)) x.1.found x.1.below refl new x.1.steps
     ])
 
     -- or it has a fault

@@ -127,12 +127,12 @@ module _ (look : Looking) where
     turn_ends (Note p) is turn = subst (AllEnd look n) (sym turn.1) (rest_ends n todo rest s pops h)
     turn_ends (Look p) is turn = elim turn.1 [
       | inl x ↦ subst (AllEnd look n) (sym x.1) (rest_ends n todo rest s pops h)
-      | inr x ↦ look_ends n todo rest s pops p is h x.below (found_so p x.below x.found) new x.steps
+      | inr x ↦ look_ends n todo rest s pops p is h x.1.below (found_so p x.1.below x.1.found) new x.1.steps
     ]
 
     pub turn_less : (t : Step) → s ≡ t → IsTurn look t known rest after new → weights look n new < weights look n todo
     turn_less (Note p) is turn = subst (λ ss. weights look n ss < weights look n todo) (sym turn.1) (note_less n todo rest s pops p is)
     turn_less (Look p) is turn = elim turn.1 [
       | inl x ↦ subst (λ ss. weights look n ss < weights look n todo) (sym x.1) (known_less n todo rest s pops p is h)
-      | inr x ↦ look_less n todo rest s pops p is h x.below (found_so p x.below x.found) new x.steps
+      | inr x ↦ look_less n todo rest s pops p is h x.1.below (found_so p x.1.below x.1.found) new x.1.steps
     ]

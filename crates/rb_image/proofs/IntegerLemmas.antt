@@ -11,8 +11,7 @@ use Rattle.rb_core.specs.declared.types.Ty.{Ty}
 use Rattle.rb_layout.specs.A6.{holds_unit}
 use Rattle.rb_image.specs.declared.order.Spot.{Spot}
 use Rattle.rb_image.specs.Integers.{bit_in, field_bit, number_of_bits}
-use Rattle.rb_image.specs.Orders.{LocatedPart}
-use Rattle.rb_image.specs.inner.Viewing.{spot_part, spots_of}
+use Rattle.rb_image.specs.Orders.{LocatedPart, spot_part, spots_of}
 use Rattle.rb_image.proofs.DropLemmas.{drop_item}
 
 small_mod : (n : ℕ) → n < 2 → n % 2 ≡ n

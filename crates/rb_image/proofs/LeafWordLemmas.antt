@@ -24,11 +24,10 @@ use Rattle.rb_image.specs.declared.leaf_words.LeafWords.{LeafWords}
 use Rattle.rb_image.specs.declared.order.Spot.{Spot}
 use Rattle.rb_image.specs.Blocks.{size_at, size_in, word_in}
 use Rattle.rb_image.specs.LeafWords.{AreNumbers, HasNumbers, block_numbers, follow, follow_kind, follow_part, items_or_none, numbers_at, with_found}
-use Rattle.rb_image.specs.Orders.{LocatedPart, order_of}
+use Rattle.rb_image.specs.Orders.{LocatedPart, IsLeafPart, order_of, spot_part, spots_of}
 use Rattle.rb_image.specs.Parts.{bits_at, pointer_lead, kept_at}
 use Rattle.rb_image.specs.Splits.{range_of}
-use Rattle.rb_image.specs.inner.Reaching.{IsLeafPart, unread_words, word_read}
-use Rattle.rb_image.specs.inner.Viewing.{spot_part, spots_of}
+use Rattle.rb_image.specs.inner.Reaching.{unread_words, word_read}
 use Rattle.rb_image.proofs.DropLemmas.{drop_item, drop_past}
 use Rattle.rb_image.proofs.ExaminedParts.{followed_is}
 use Rattle.rb_image.proofs.PlacedSpots.{order_spots, spot_of}

@@ -1,7 +1,7 @@
 -- The order in which the parts of a leaf are examined. A part is a range of a word of a leaf: a constant, bits or a
 -- word of a field, or a pointer to one of the leaf's blocks. The offset of a part is its first bit, in bits; `byte`
 -- is where a word begins in its block, in bytes. `block` is the number of a leaf's block, or none for the root.
-use Rattle.std.specs.Prelude.{ℕ, zero, suc, ◌+◌, ◌/◌, ◌==◌, List, [], ◌∷◌, ◌++◌, filter, length, Option, Some, None}
+use Rattle.std.specs.Prelude.{◌≡◌, ℕ, zero, suc, ◌+◌, ◌/◌, ◌==◌, List, [], ◌∷◌, ◌++◌, filter, length, map, Option, Some, None, slice_get}
 use Rattle.std.specs.List.{flat_map}
 use Rattle.rb_layout.specs.declared.layout.Leaf.{Leaf}
 use Rattle.rb_layout.specs.declared.layout.FlatWord.{FlatWord}
@@ -9,6 +9,7 @@ use Rattle.rb_layout.specs.declared.layout.Kind.{Kind}
 use Rattle.rb_layout.specs.declared.layout.Kind.TheVariants.{Const, Bits, Word, Pointer}
 use Rattle.rb_layout.specs.declared.layout.Part.{Part}
 use Rattle.rb_layout.specs.Words.{words_in}
+use Rattle.rb_image.specs.declared.order.Spot.{Spot}
 
 -- a part, and the word that it is of: root word number `word`, or the word of a block that begins at a byte
 pub record LocatedPart : Type 0 where
@@ -17,6 +18,14 @@ pub record LocatedPart : Type 0 where
   pub byte : ℕ
   pub width : ℕ
   pub part : Part
+
+-- the part that a `Spot` of the code borrows, with the word that it is of
+abbrev pub spot_part : Spot → LocatedPart
+spot_part s = record { block = s.block; word = s.word; byte = s.byte; width = s.width; part = s.part.now }
+
+-- the parts that spots borrow, with the words that they are of, in their order
+abbrev pub spots_of : List Spot → List LocatedPart
+spots_of spots = map spot_part spots
 
 -- those of the parts that begin at bit o
 abbrev pub beginning_at : List Part → ℕ → List Part
@@ -67,3 +76,7 @@ block_order leaf (suc depth) b = words_order (block_order leaf depth) (Some b) 0
 -- block of a lower number than its own
 abbrev pub order_of : Leaf → List LocatedPart
 order_of leaf = words_order (block_order leaf (length leaf.blocks)) None 0 0 leaf.root
+
+-- s is one of the parts of a leaf, each with the word that it is of, as `order_of` lists them
+abbrev pub IsLeafPart : Leaf → LocatedPart → Type 0
+IsLeafPart leaf s = (k : ℕ) × (slice_get (order_of leaf) k ≡ Some s)

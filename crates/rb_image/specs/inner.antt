@@ -1,4 +1,3 @@
-pub mod Checking
 pub mod Descending
 pub mod Ending
 pub mod Filling
@@ -6,8 +5,6 @@ pub mod Halving
 pub mod Having
 pub mod Knowing
 pub mod Opening
-pub mod Ordering
 pub mod Reaching
 pub mod Siting
-pub mod Standing
 pub mod Viewing

@@ -39,8 +39,9 @@ pub struct Examined<'a> {
     pub addresses: &'a [u64],
 }
 
-/// Whether a part of this kind holds word `number` of the field at a path.
-pub(crate) fn holds(kind: &Kind, path: &[u32], number: u64) -> bool
+/// Whether a part of this kind holds word `number` of the field at a path, a list of field numbers from the leaf's
+/// root.
+pub fn holds(kind: &Kind, path: &[u32], number: u64) -> bool
     ensures { result ≡ spec.is_field_word kind.now path.now number }
 {
     match kind {

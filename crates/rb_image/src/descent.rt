@@ -7,7 +7,7 @@
 
 ghost use Rattle.std.specs.Prelude.{◌≡◌, ◌++◌, OnOk, length};
 ghost use Rattle.rb_image.specs.Parts.{at_of, look};
-ghost use Rattle.rb_image.specs.inner.Descending.{SoundnessIsFound, TurnEnds, looks};
+ghost use Rattle.rb_image.specs.inner.Descending.{SoundnessIsFound, TurnAnswers, looks};
 ghost use Rattle.rb_image.specs.inner.Ending.{DescentsEnd, DescentEnds, depth_bound};
 ghost use Rattle.rb_image_text.specs.Places.{AreInPlace};
 
@@ -60,7 +60,7 @@ fn turn(
     todo: &mut Vec<Step>,
 ) -> Result<(), ImageFault>
     requires placed { AreInPlace memory.now }
-    ensures { TurnEnds (look agreed.now.covered.program.types agreed.now.layouts memory.now) step
+    ensures { TurnAnswers (look agreed.now.covered.program.types agreed.now.layouts memory.now) step
         known.old todo.old.items known.new todo.new.items result }
 {
     match step {

@@ -10,7 +10,7 @@ ghost use Rattle.std.specs.Prelude.{◌≡◌, IfOk, length, slice_get};
 ghost use Rattle.rb_layout.specs.Readable.{IsReadable};
 ghost use Rattle.rb_image.specs.FieldSites.{AreNarrow, AreRootSites, AreSitesOf, HasNarrowParts, IsNarrow};
 ghost use Rattle.rb_image.specs.inner.Siting as spec;
-ghost use Rattle.rb_image.specs.inner.Viewing.{spot_part, spots_of};
+ghost use Rattle.rb_image.specs.Orders.{spot_part, spots_of};
 
 use crate::below::holds;
 use crate::order::{Spot, order_of};
@@ -151,8 +151,7 @@ pub fn field_sites(
     ensures narrow { IfOk result (λ found. AreNarrow found.items) }
 {
     let order = order_of(alloc, leaf)?;
-    let found = sites_of(alloc, sites, addresses, order.as_slice(), path, count)?;
-    Ok(found)
+    sites_of(alloc, sites, addresses, order.as_slice(), path, count)
 }
 
 /// The sites of the root words of an image, so many of them.

@@ -12,8 +12,7 @@ ghost use Rattle.rb_layout.specs.Readable.{IsReadable};
 ghost use Rattle.rb_image.specs.Integers as spec;
 ghost use Rattle.rb_image.specs.Integers.{field_bit, part_value};
 ghost use Rattle.rb_image.specs.LeafWords.{HasNumbers};
-ghost use Rattle.rb_image.specs.Orders.{order_of};
-ghost use Rattle.rb_image.specs.inner.Viewing.{spots_of};
+ghost use Rattle.rb_image.specs.Orders.{order_of, spots_of};
 ghost use Rattle.rb_image_text.specs.Places.{AreInPlace};
 
 use crate::leaf_words::LeafWords;

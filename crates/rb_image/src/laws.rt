@@ -4,18 +4,11 @@
 //! made of parts; its provenance is the pattern of its values. A split chooses the leaf by the bits
 //! at a location. A place is a type's number and the words at which a value of it is to stand; an
 //! image is sound if no place that one comes to from its root words has a fault. A site says where
-//! bits stand, in a root word or in a block. A walk goes along a path of field numbers, through the
-//! leaves of the subvalues on it.
+//! bits stand, in a root word or in a block.
 
-ghost use Rattle.rb_image.specs.FieldSites.{LeavesAreNarrow};
 ghost use Rattle.rb_image.specs.Falling.{DescendingImagesAreSound, SoundImagesDescend, SoundValuesDescend};
-ghost use Rattle.rb_image.specs.HeldParts.{GivenPartsAreHeld};
-ghost use Rattle.rb_image.specs.PathParts.{PathsLeadToParts};
-ghost use Rattle.rb_image.specs.PathSpans.{WalksAreShort};
-ghost use Rattle.rb_image.specs.PackedWords.{PackedWordsRepresent};
-ghost use Rattle.rb_image.specs.RebuiltValues.{RebuiltWordsRepresent};
+ghost use Rattle.rb_image.specs.FieldSites.{LeavesAreNarrow};
 ghost use Rattle.rb_image.specs.Spans.{SpansRecur};
-ghost use Rattle.rb_image.specs.TakenApart.{ValuesAreSeen};
 ghost use Rattle.rb_image.specs.Values.{SoundImagesHaveValues};
 ghost use Rattle.rb_image.specs.Visits.{LayoutsAreTidy};
 
@@ -59,40 +52,4 @@ pub fn leaves_are_narrow()
 /// its words are few and short and their parts narrow: such layouts `visit` asks for.
 pub fn layouts_are_tidy()
     ensures { LayoutsAreTidy }
-{}
-
-/// The splits and words of the data types to whose leaves a walk comes are at most as many as the sum of the spans of
-/// the types of the subvalues on its path, the last included: so many words such a walk reads at most.
-pub fn walks_are_short()
-    ensures { WalksAreShort }
-{}
-
-/// Where an image holds a value, the words of an integer, or of a subvalue of a data type with a leaf of its own, to
-/// which a path of field numbers leads represent the part of the value there.
-pub fn paths_lead_to_parts()
-    ensures { PathsLeadToParts }
-{}
-
-/// Where the words of its fields represent the parts of a value whose leaf has no blocks, the words in which `rebuild`
-/// packs them represent the value; and cleanly where those of the fields do.
-pub fn packed_words_represent()
-    ensures { PackedWordsRepresent }
-{}
-
-/// Where words represent a value of a type without pointers, as each is that a leaf takes apart, the splits lead to the
-/// leaf of the value and its constants are there, though no image is looked at: so `rebuild` sees it in its own leaf.
-pub fn values_are_seen()
-    ensures { ValuesAreSeen }
-{}
-
-/// Where a value stands at a position inside a leaf, and what stands open below is represented by its words, the words
-/// that `rebuild` gives of it represent it.
-pub fn rebuilt_words_represent()
-    ensures { RebuiltWordsRepresent }
-{}
-
-/// Where an image holds a value, the words that `peek` gives represent the part of the value at the path, also where
-/// the part was taken apart and is rebuilt.
-pub fn given_parts_are_held()
-    ensures { GivenPartsAreHeld }
 {}

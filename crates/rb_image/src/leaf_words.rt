@@ -9,12 +9,12 @@ ghost use Rattle.std.specs.Prelude.{◌≡◌, ◌+◌, ◌<◌, ◌≤◌, ℕ,
 ghost use Rattle.std.specs.Prelude.{IfOk, OnOk, slice_get, slice_index, slice_set};
 ghost use Rattle.rb_layout.specs.Readable.{AreShort, IsReadable};
 ghost use Rattle.rb_layout.specs.declared.layout.Leaf.{Leaf};
-ghost use Rattle.rb_image.specs.LeafWords.{HasNumbers, block_span, follow_part, items_or_none, numbers_at, block_addresses};
-ghost use Rattle.rb_image.specs.Orders.{order_of};
+ghost use Rattle.rb_image.specs.LeafWords.{HasNumbers, block_addresses, block_span, follow_part};
+ghost use Rattle.rb_image.specs.LeafWords.{items_or_none, numbers_at};
+ghost use Rattle.rb_image.specs.Orders.{IsLeafPart, order_of, spot_part};
 ghost use Rattle.rb_image.specs.Parts.{bits_at};
 ghost use Rattle.rb_image.specs.Sites.{kept_of};
-ghost use Rattle.rb_image.specs.inner.Reaching.{IsLeafPart, unread_words, word_read};
-ghost use Rattle.rb_image.specs.inner.Viewing.{spot_part};
+ghost use Rattle.rb_image.specs.inner.Reaching.{unread_words, word_read};
 ghost use Rattle.rb_image_text.specs.Places.{AreInPlace};
 ghost use Rattle.rb_image_text.specs.declared.image.ImageBlock.{ImageBlock};
 
@@ -121,8 +121,9 @@ impl LeafWords {
         }
     }
 
-    /// The bits of a part of the leaf, none of which is read again.
-    pub(crate) fn bits(&self, spot: &Spot) -> Kept
+    /// The bits of a part of the leaf, with where the word is kept that they are of; the number 0 for a part of a block
+    /// whose address is not known. Nothing is read.
+    pub fn bits(&self, spot: &Spot) -> Kept
         ensures { (m : List ImageBlock) (leaf : Leaf) → AreInPlace m → HasNumbers m leaf self.now
             → IsLeafPart leaf (spot_part spot.now)
             → result ≡ bits_at m self.now.root.items self.now.addresses.items (spot_part spot.now) }
@@ -209,9 +210,12 @@ impl LeafWords {
         }
     }
 
-    /// The words of a leaf of which those of the root alone are known: no address, and no word of a
-    /// block.
-    pub(crate) fn of_root(alloc: Global, leaf: &Leaf, root: Vec<Kept>) -> Result<Self, AllocError>
+    /// The words of a leaf of which those of the root alone are known: no address, and no word of a block.
+    ///
+    /// # Errors
+    ///
+    /// Want of memory.
+    pub fn of_root(alloc: Global, leaf: &Leaf, root: Vec<Kept>) -> Result<Self, AllocError>
         ensures root { IfOk result (λ found. found.root ≡ root) }
         ensures addresses { IfOk result (λ found. found.addresses.items ≡ replicate (length leaf.now.blocks) 0) }
         ensures numbers { (m : List ImageBlock) → IfOk result (λ found. HasNumbers m leaf.now found) }

@@ -1,6 +1,6 @@
 //! Images of a part of a memory, of which nothing is trusted: one place looked at by itself, what its words and the
-//! blocks that they lead to say of the value that is to stand there, or what is wrong with them; and whole images, each
-//! place of which is so looked at, and the value that one holds.
+//! blocks that they lead to say of the value that is to stand there, or what is wrong with them; whole images, each
+//! place of which is so looked at, and the value that one holds; and one subvalue read word by word, each a step.
 //!
 //! Take a list whose tag is the lowest bit of a pointer, and whose items lie behind it:
 //!
@@ -60,35 +60,12 @@
 //! span of the type without that of types whose constructors stand inside its leaves. `enter` goes from there to the
 //! sites of a field's words, where no pointer on the way to them was refused.
 //!
-//! `walk_along` goes so from a value along a path of field numbers. Inside a leaf it goes from a constructor to its
-//! field and reads nothing. Where any value of a data type may stand, it enters that value: it finds its sites, visits
-//! it, and goes on from the root of its own leaf. So for `.1.0` of the list above it visits the root word, enters `.1`
-//! and visits the word from byte 8 on, and ends at the `.0` of that leaf. It answers with all that it visited, which is
-//! what may be at fault on the way, and with the position at which it ends. `specs/Walks.antt` says where a path leads.
-//! The integer at such a position `integer_at` gathers from the parts of the leaf that hold ranges of it.
-//!
-//! `follow_path` walks so from the root words, and then looks for faults in the words on the path alone: those of the
-//! root; those that the splits of each subvalue on it read; those that hold what comes next; and those whose pointers
-//! lead to any of these. In each of them it looks at what the leaves passed have there: constants, and pointers. For
-//! that no leaf's word is read again. Take for the path `.0` of the list above: on it are the root word and the word
-//! from byte 0 of the block at 64 on. The tail, which leads to the block that it is kept in, is off this path, and so
-//! no fault is found; on the path `.1` it is. `specs/Paths.antt` says which words are on a path, and what is wrong with
-//! them.
-//!
-//! A walk may also end where the leaf's provenance has a constructor. What stands there was taken apart: it has no
-//! words of its own, and its fields stand in words of the leaf. `rebuild` gives the words that it has in the layout of
-//! its own type. It chooses the leaf whose provenance matches, for which the leaf of a value that stands open below may
-//! have to be known, and packs the words of the fields there; a field that was taken apart as well is rebuilt first. A
-//! type that a leaf takes apart has no pointers, so all of it stands in the words of the one leaf, and nothing is read.
-//! `specs/Views.antt` says what stands at the positions below, and `specs/Rebuilds.antt` which leaf and words these
-//! are. Where the words of the fields represent the parts of a value, the words that they make represent the value, as
-//! `specs/PackedWords.antt` says. `peek` gives what stands at a path: the type and the words of the walk's end.
-//!
 //! `field_sites` goes on from a leaf to the words of an open position below it, and reads nothing for that: it gives
 //! the sites at which they stand, from the sites of the leaf's own words and the addresses of its blocks. Here the
 //! block of `Cons` is at 64, so the one word of `.1` stands in all 64 bits of the word from byte 8 of it on. A word
 //! that is a range of a word of the leaf stands in a range of the bits at that one's site. `root_sites` begins this
-//! with the root words. `specs/FieldSites.antt` says which words they are.
+//! with the root words. `specs/FieldSites.antt` says which words they are. The integer at an open position `integer_at`
+//! gathers from the parts of the leaf that hold ranges of it.
 //!
 //! `specs/Parts.antt` says what one place comes to, above `specs/Splits.antt`, the leaf to which its splits lead, and
 //! `specs/Orders.antt`, the order of a leaf's parts; `specs/Blocks.antt` which blocks and words an image has.
@@ -100,12 +77,8 @@
 //! that is kept in a block leads to one with a lower address.
 #![tactic(auto)]
 
-mod ahead;
-mod arrival;
-mod asked;
-mod below;
+pub mod below;
 mod blocks;
-mod check;
 mod descent;
 pub mod examine;
 pub mod fields;
@@ -117,21 +90,13 @@ pub mod laws;
 pub mod leaf;
 pub mod leaf_words;
 pub mod look;
-mod matching;
 pub mod memory;
-mod order;
-mod pack;
-mod parts;
-pub mod path;
-mod path_words;
-pub mod peek;
-pub mod rebuild;
-mod roots;
+pub mod order;
+pub mod parts;
+pub mod roots;
 pub mod site;
-mod splits;
+pub mod splits;
 pub mod value;
-mod view;
 pub mod visit;
-pub mod walk;
 pub mod ways;
 pub mod word;

@@ -7,8 +7,9 @@
 
 ghost use Rattle.std.specs.Prelude.{◌≡◌, ◌++◌, ◌∷◌, length, IfOk, OnOk};
 ghost use Rattle.rb_layout.specs.Readable.{AreShort, IsReadable};
-ghost use Rattle.rb_image.specs.Orders.{beginning_at, pointed_parts, block_order, by_offset, order_of, word_order, words_order};
-ghost use Rattle.rb_image.specs.inner.Viewing.{parts_of, spot_part, spots_of};
+ghost use Rattle.rb_image.specs.Orders.{beginning_at, pointed_parts, block_order, by_offset, order_of, spot_part};
+ghost use Rattle.rb_image.specs.Orders.{spots_of, word_order, words_order};
+ghost use Rattle.rb_image.specs.inner.Viewing.{parts_of};
 
 use rb_layout::layout::{FlatWord, Kind, Leaf, Part};
 use std::alloc::{AllocError, Global};
@@ -155,8 +156,13 @@ fn add_words<'a>(
     Ok(())
 }
 
-/// The parts of a leaf by word and offset, those of a pointer's block right behind the pointer.
-pub(crate) fn order_of<'a>(alloc: Global, leaf: &'a Leaf) -> Result<Vec<Spot<'a>>, AllocError>
+/// The parts of a leaf by word and offset, the bit at which each begins; those of a pointer's block come right behind
+/// the pointer. The leaf's words are few and short.
+///
+/// # Errors
+///
+/// Want of memory.
+pub fn order_of<'a>(alloc: Global, leaf: &'a Leaf) -> Result<Vec<Spot<'a>>, AllocError>
     requires readable { IsReadable leaf.now }
     ensures { IfOk result (λ order. spots_of order.items ≡ order_of leaf.now) }
 {

@@ -8,9 +8,9 @@
 ghost use Rattle.std.specs.Prelude.{◌≡◌, slice_get, slice_index};
 ghost use Rattle.rb_layout.specs.Readable.{IsReadable};
 ghost use Rattle.rb_image.specs.Given.{IsGiven};
-ghost use Rattle.rb_image.specs.Orders.{order_of};
+ghost use Rattle.rb_image.specs.Orders.{order_of, spot_part, spots_of};
 ghost use Rattle.rb_image.specs.Parts as spec;
-ghost use Rattle.rb_image.specs.inner.Viewing.{EndsAsDue, spot_part, spots_of};
+ghost use Rattle.rb_image.specs.inner.Viewing.{EndsAsDue};
 ghost use Rattle.rb_image_text.specs.Places.{AreInPlace};
 
 use crate::blocks::{size_at, word_in};
@@ -23,8 +23,9 @@ use rb_layout::layout::{Kind, Leaf};
 use rb_layout::sizes::block_size;
 use std::alloc::Global;
 
-/// The address of the block with this number; 0 where it is not known, or there is no such block.
-pub(crate) fn address_at(addresses: &[u64], block: u32) -> u64
+/// The address of the block with this number, where `addresses` are those of a leaf's blocks; 0 where it is not known,
+/// or there is no such block.
+pub fn address_at(addresses: &[u64], block: u32) -> u64
     ensures { result ≡ slice_index addresses.now block }
 {
     match addresses.get(block as usize) {
@@ -129,10 +130,15 @@ fn examine_part(
     }
 }
 
-/// Examines parts in their order: gives the addresses of the leaf's blocks by number, 0 for one to
-/// which no pointer leads, or the first fault of a part: `BadBits` for a constant that differs,
-/// `BadPointer` for a pointer that leads to no block as the leaf has it.
-pub(crate) fn examine(
+/// Examines the parts of a leaf in their order, where `words` are those of its root, and `memory` has the blocks of an
+/// image, by address: gives the addresses of the leaf's blocks by number, 0 for one to which no pointer leads.
+///
+/// # Errors
+///
+/// The first fault of a part: `BadBits`, with the base and the place of its word, for a constant that differs, and
+/// `BadPointer`, with the base of the pointer and the address, for a pointer that leads to no block of the size of the
+/// leaf's block, or, from within a block, not below that block. Or want of memory.
+pub fn examine(
     alloc: Global,
     memory: &[ImageBlock],
     leaf: &Leaf,

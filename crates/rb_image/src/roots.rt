@@ -13,8 +13,8 @@ use crate::kept::{Kept, Place};
 use rb_layout::layout::Layout;
 use std::alloc::{AllocError, Global};
 
-/// The widths in bits of the words of the data type with a number, none where it has no layout.
-pub(crate) fn widths_of(layouts: &[Layout], ty: u32) -> &[u64]
+/// The widths in bits of the root words of the data type with a number, none where it has no layout.
+pub fn widths_of(layouts: &[Layout], ty: u32) -> &[u64]
     ensures { result.now ≡ widths_of layouts.now (Named ty) }
 {
     match layouts.get(ty as usize) {
@@ -33,9 +33,9 @@ fn fits(word: u64, width: u64) -> bool
     word < 1u64 << width
 }
 
-/// The number of the first word that is missing, too many or too wide; none where all words fit the
-/// widths.
-pub(crate) fn first_misfit(widths: &[u64], words: &[u64]) -> Option<u64>
+/// The number of the first word that is missing, too many or too wide, where `widths` are in bits; none where all words
+/// fit the widths.
+pub fn first_misfit(widths: &[u64], words: &[u64]) -> Option<u64>
     ensures { MatchOption result (WordsFit widths.now words.now) (IsFirstMisfit widths.now words.now) }
 {
     for (i, width) in widths.iter().enumerate() {
@@ -52,8 +52,12 @@ pub(crate) fn first_misfit(widths: &[u64], words: &[u64]) -> Option<u64>
     None
 }
 
-/// The place at which a value of the data type `ty` is to stand in these root words.
-pub(crate) fn root_place(alloc: Global, ty: u32, words: &[u64]) -> Result<Place, AllocError>
+/// The place at which a value of the data type with the number `ty` is to stand in these root words.
+///
+/// # Errors
+///
+/// Want of memory.
+pub fn root_place(alloc: Global, ty: u32, words: &[u64]) -> Result<Place, AllocError>
     ensures { IfOk result (λ place. at_of place ≡ root_at ty words.now) }
 {
     let mut kept = Vec::with_capacity(alloc, words.len())?;

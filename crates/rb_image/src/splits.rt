@@ -35,9 +35,14 @@ pub(crate) fn pointed_from(base: u64, address: u128) -> Option<u64>
     }
 }
 
-/// The word to which a step of a location leads from the pointer in a range: `BadPointer` where it
-/// leads to none, or, from within a block, not below that block.
-pub(crate) fn step_over(memory: &[ImageBlock], range: Kept, step: Step) -> Result<Kept, ImageFault>
+/// The word to which a step of a location leads from the pointer in a range, where `memory` has the blocks of an image,
+/// by address: it is of `step.width` bits, from byte `step.byte` of a block on.
+///
+/// # Errors
+///
+/// `BadPointer`, with the base of the pointer and the address, where it leads to no such word, or, from within a block,
+/// not below that block.
+pub fn step_over(memory: &[ImageBlock], range: Kept, step: Step) -> Result<Kept, ImageFault>
     requires placed { AreInPlace memory.now }
     ensures { result ≡ step_over memory.now range step }
 {
@@ -57,7 +62,7 @@ pub(crate) fn step_over(memory: &[ImageBlock], range: Kept, step: Step) -> Resul
 }
 
 /// The `l` bits of a word from bit `o` on, kept where the word is.
-pub(crate) fn range_of(word: Kept, o: u64, l: u64) -> Kept
+pub fn range_of(word: Kept, o: u64, l: u64) -> Kept
     ensures { result ≡ range_of word o l }
 {
     Kept {
@@ -67,8 +72,8 @@ pub(crate) fn range_of(word: Kept, o: u64, l: u64) -> Kept
     }
 }
 
-/// The word with this number; where there are fewer, one with the number 0.
-pub(crate) fn word_at(words: &[Kept], number: u64) -> Kept
+/// The word with this number among those of a value; where there are fewer, one of the number 0, kept as root word 0.
+pub fn word_at(words: &[Kept], number: u64) -> Kept
     ensures { result ≡ word_at words.now number }
 {
     match words.get(number as usize) {
@@ -94,13 +99,14 @@ fn range_at(memory: &[ImageBlock], words: &[Kept], loc: &Loc) -> Result<Kept, Im
     Ok(range)
 }
 
-/// The number of the leaf to which a tree of splits leads, or the first fault on the way: `BadBits`
-/// where no arm of a split takes its bits, or `BadPointer` of a location.
-pub(crate) fn leaf_at(
-    memory: &[ImageBlock],
-    words: &[Kept],
-    tree: &FlatTree,
-) -> Result<u32, ImageFault>
+/// The number of the leaf to which a tree of splits leads, where `words` are those of the value, and `memory` has the
+/// blocks of an image, by address.
+///
+/// # Errors
+///
+/// The first fault on the way, outer splits before inner ones: `BadBits`, with the base and the place of the word,
+/// where no arm of a split takes its bits, and `BadPointer` of a location, as of `step_over`.
+pub fn leaf_at(memory: &[ImageBlock], words: &[Kept], tree: &FlatTree) -> Result<u32, ImageFault>
     requires placed { AreInPlace memory.now }
     ensures { result ≡ leaf_at tree.now memory.now words.now }
 {

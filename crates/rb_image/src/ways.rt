@@ -11,10 +11,8 @@ ghost use Rattle.std.specs.Prelude.{◌≡◌, IfOk};
 ghost use Rattle.std.specs.List.{list_any};
 ghost use Rattle.rb_layout.specs.Readable.{IsReadable};
 ghost use Rattle.rb_image.specs.LeafWords.{HasNumbers};
-ghost use Rattle.rb_image.specs.Orders.{LocatedPart, order_of};
+ghost use Rattle.rb_image.specs.Orders.{LocatedPart, IsLeafPart, order_of, spot_part, spots_of};
 ghost use Rattle.rb_image.specs.Ways as spec;
-ghost use Rattle.rb_image.specs.inner.Reaching.{IsLeafPart};
-ghost use Rattle.rb_image.specs.inner.Viewing.{spot_part, spots_of};
 ghost use Rattle.rb_image_text.specs.Places.{AreInPlace};
 
 use crate::kept::Kept;
@@ -50,9 +48,13 @@ fn any_below(path: &[u32], order: &[Spot]) -> bool
     false
 }
 
-/// Whether a part of this kind holds a word or bits of a field whose path begins with this one, or
-/// is a pointer and one of the parts behind it does.
-pub(crate) fn leads_below(
+/// Whether a part of this kind holds a word or bits of a field whose path begins with this one, or is a pointer and one
+/// of the parts behind it does. A path is a list of field numbers from the leaf's root.
+///
+/// # Errors
+///
+/// Want of memory.
+pub fn leads_below(
     alloc: Global,
     leaf: &Leaf,
     path: &[u32],
@@ -72,14 +74,10 @@ pub(crate) fn leads_below(
     }
 }
 
-/// The fault of a part of this kind with these bits, if it is a pointer that is refused:
-/// `BadPointer`; none for other parts.
-pub(crate) fn refusal_of(
-    memory: &[ImageBlock],
-    leaf: &Leaf,
-    bits: Kept,
-    kind: &Kind,
-) -> Option<ImageFault>
+/// The fault of a part of this kind with these bits, if it is a pointer that is refused: `BadPointer` with the base of
+/// the pointer and the address, where it leads to no block of the leaf's size, or, from within a block, not below that
+/// block; none for other parts. `memory` has the blocks of an image, by address.
+pub fn refusal_of(memory: &[ImageBlock], leaf: &Leaf, bits: Kept, kind: &Kind) -> Option<ImageFault>
     requires placed { AreInPlace memory.now }
     requires readable { IsReadable leaf.now }
     ensures { result ≡ spec.refusal_of memory.now leaf.now bits kind.now }

@@ -5,9 +5,9 @@ use crate::call::{agreed_of, compare, fault_text};
 use crate::images::{ITEMS, LIST, SHAPE, WIDE};
 use rb_core::types::Ty;
 use rb_edge::steps::{CountLedger, Steps};
-use rb_image::peek::{Peeked, peek};
 use rb_image_text::read::read_image_text;
 use rb_layout::agreed::Agreed;
+use rb_peek::peek::{Peeked, peek};
 use std::alloc::{AllocError, Global};
 use std::test::Fail;
 

@@ -4,8 +4,8 @@ use Rattle.std.specs.declared.alloc.Global.{Global}
 use Rattle.std.specs.declared.vec.Vec.{Vec}
 use Rattle.rb_core.specs.declared.program.Program.{Program}
 use Rattle.rb_core.specs.declared.types.Ty.{Ty}
-use Rattle.rb_image.specs.Peeking.{IsPart, IsPartFault}
-use Rattle.rb_image.specs.declared.peek.Peeked.{Peeked}
+use Rattle.rb_peek.specs.Peeking.{IsPart, IsPartFault}
+use Rattle.rb_peek.specs.declared.peek.Peeked.{Peeked}
 use Rattle.rb_image_text.specs.declared.fault.ImageFault.{ImageFault}
 use Rattle.rb_image_text.specs.declared.fault.ImageFault.TheVariants.{Memory}
 use Rattle.rb_image_text.specs.declared.image.Image.{Image}

@@ -8,8 +8,8 @@ use Rattle.rb_core.specs.Typing.{result_type}
 use Rattle.rb_core.specs.declared.program.Program.{Program}
 use Rattle.rb_core.specs.declared.types.Ty.{Ty}
 use Rattle.rb_edge.specs.History.{Reading}
-use Rattle.rb_image.specs.Peeking.{IsPart, IsPartFault}
-use Rattle.rb_image.specs.declared.peek.Peeked.{Peeked}
+use Rattle.rb_peek.specs.Peeking.{IsPart, IsPartFault}
+use Rattle.rb_peek.specs.declared.peek.Peeked.{Peeked}
 use Rattle.rb_image_text.specs.declared.fault.ImageFault.{ImageFault}
 use Rattle.rb_image_text.specs.declared.image.Image.{Image}
 use Rattle.rb_layout.specs.Flattening.{flat_layouts}

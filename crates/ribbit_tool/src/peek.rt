@@ -22,10 +22,10 @@ use rb_accept::opening::{open_image, refuse_image};
 use rb_core::types::Ty;
 use rb_edge::source::Source;
 use rb_edge::steps::{NoLedger, Steps};
-use rb_image::peek::{Peeked, peek};
 use rb_image_text::image::Image;
 use rb_layout::agreed::Agreed;
 use rb_lines::refusal::Refusal;
+use rb_peek::peek::{Peeked, peek};
 use rb_run::answer::result_of_main;
 use std::alloc::Global;
 

@@ -2,7 +2,7 @@
 -- looks at a place and at all places below it, and notes each of which all below was found sound. A place is the
 -- number of a data type, and the words at which a value of it is to stand. `look` gives the places below one, or its
 -- own fault.
-use Rattle.std.specs.Prelude.{◌≡◌, ◌⊎◌, List, [], ◌∷◌, ◌++◌, true, Result, Ok, Err}
+use Rattle.std.specs.Prelude.{◌≡◌, ◌⊎◌, List, [], ◌∷◌, ◌++◌, true, false, Result, Ok, Err}
 use Rattle.std.specs.List.{AllByRecursion}
 use Rattle.rb_image_text.specs.declared.fault.ImageFault.{ImageFault}
 use Rattle.rb_image_text.specs.declared.fault.ImageFault.TheVariants.{Memory}
@@ -67,17 +67,19 @@ pub record DescentStands (look : Looking) (root : At) (known : List At) (todo : 
 
 -- a look at place p found no fault: what is to do is now `new`, with the note of p behind the steps `old`, and looks
 -- at the places below it
-pub record IsLookedAt (look : Looking) (p : Place) (old new : List Step) : Type 0 where
+pub record OpensBelow (look : Looking) (p : Place) (old new : List Step) : Type 0 where
   pub below : List Place
   pub found : look (at_of p) ≡ Ok (ats_of below)
   pub steps : new ≡ old ++ Note p ∷ looks below
 
 -- one step is done, where the places `known` were found sound, and the steps `old` are still to do: `after` are known
--- then, and `new` is to do. A place to note is known from now on; one that is known is not looked at.
+-- then, and `new` is to do. A place to note is known from now on; one that is known is passed over, and just one that
+-- is not known opens what is below it.
 abbrev pub IsTurn : Looking → Step → List At → List Step → List At → List Step → Type 0
 IsTurn look (Note p) known old after new = (after ≡ with_place known (at_of p)) × (new ≡ old)
 IsTurn look (Look p) known old after new =
-    (after ≡ known) × (((is_among known (at_of p) ≡ true) × (new ≡ old)) ⊎ IsLookedAt look p old new)
+    (after ≡ known) × (((is_among known (at_of p) ≡ true) × (new ≡ old))
+    ⊎ ((is_among known (at_of p) ≡ false) × OpensBelow look p old new))
 
 -- why a step was not done: the place that it is to look at has this fault of its own, or there is want of memory
 abbrev pub IsTurnFault : Looking → Step → ImageFault → Type 0
@@ -85,7 +87,7 @@ IsTurnFault look (Note p) fault = fault ≡ Memory
 IsTurnFault look (Look p) fault = (look (at_of p) ≡ Err fault) ⊎ (fault ≡ Memory)
 
 -- what doing one step answers: it is done, or why not
-abbrev pub TurnEnds : {A : Type 0} → Looking → Step → List At → List Step → List At → List Step
+abbrev pub TurnAnswers : {A : Type 0} → Looking → Step → List At → List Step → List At → List Step
     → Result A ImageFault → Type 0
-TurnEnds look s known old after new (Ok a) = IsTurn look s known old after new
-TurnEnds look s known old after new (Err fault) = IsTurnFault look s fault
+TurnAnswers look s known old after new (Ok a) = IsTurn look s known old after new
+TurnAnswers look s known old after new (Err fault) = IsTurnFault look s fault

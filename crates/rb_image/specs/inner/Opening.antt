@@ -7,7 +7,7 @@ use Rattle.rb_layout.specs.Positions.{Open}
 use Rattle.rb_image.specs.declared.below.Examined.{Examined}
 use Rattle.rb_image.specs.declared.kept.Kept.{Kept}
 use Rattle.rb_image.specs.Parts.{At, field_word, place_at}
-use Rattle.rb_image.specs.inner.Viewing.{spots_of}
+use Rattle.rb_image.specs.Orders.{spots_of}
 
 -- word j of the field at a path of a leaf that was examined, with where it is kept
 abbrev pub examined_word : Examined → List ℕ → ℕ → Kept

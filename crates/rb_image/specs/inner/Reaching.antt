@@ -1,12 +1,11 @@
 -- Words of a leaf that are not read yet, and those that are. A leaf has root words, and blocks with words of their
 -- own. A block's address is known once a pointer was followed to it.
-use Rattle.std.specs.Prelude.{◌≡◌, ℕ, ◌+◌, ◌==◌, List, [], ◌∷◌, length, Option, Some, None, slice_get, slice_index, if◌then◌else◌}
+use Rattle.std.specs.Prelude.{ℕ, ◌+◌, ◌==◌, List, [], ◌∷◌, length, Option, Some, None, slice_get, slice_index, if◌then◌else◌}
 use Rattle.rb_layout.specs.declared.layout.Block.{Block}
-use Rattle.rb_layout.specs.declared.layout.Leaf.{Leaf}
 use Rattle.rb_image.specs.declared.kept.Kept.{Kept}
 use Rattle.rb_image.specs.declared.leaf_words.LeafWords.{LeafWords}
 use Rattle.rb_image.specs.LeafWords.{items_or_none}
-use Rattle.rb_image.specs.Orders.{LocatedPart, order_of}
+use Rattle.rb_image.specs.Orders.{LocatedPart}
 use Rattle.rb_image.specs.Splits.{word_at}
 
 -- how many words those blocks have whose addresses are not known, that is 0 or missing
@@ -14,10 +13,6 @@ abbrev pub unread_words : List Block → List ℕ → ℕ
 unread_words [] ats = 0
 unread_words (b ∷ bs) [] = length b.words + unread_words bs []
 unread_words (b ∷ bs) (at ∷ ats) = (if at == 0 then length b.words else 0) + unread_words bs ats
-
--- s is one of the parts of a leaf, each with the word that it is of, as `order_of` lists them
-abbrev pub IsLeafPart : Leaf → LocatedPart → Type 0
-IsLeafPart leaf s = (k : ℕ) × (slice_get (order_of leaf) k ≡ Some s)
 
 -- the word that part s is of, among the words of its leaf that were read: of the root, or of the block with this
 -- number

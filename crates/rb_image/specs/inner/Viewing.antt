@@ -1,19 +1,8 @@
--- What lists of borrowed parts come to, and what a step leaves. A spot is a borrowed part of a leaf, with the word
--- that it is of.
+-- What lists of borrowed parts come to, and what a step leaves.
 use Rattle.std.specs.Prelude.{◌≡◌, List, map, Result, Ok, Err}
 use Rattle.std.specs.Borrow.{Bor}
 use Rattle.rb_layout.specs.declared.layout.Part.{Part}
 use Rattle.rb_image_text.specs.declared.fault.ImageFault.{ImageFault}
-use Rattle.rb_image.specs.declared.order.Spot.{Spot}
-use Rattle.rb_image.specs.Orders.{LocatedPart}
-
--- the part that a spot is, with the word that it is of
-abbrev pub spot_part : Spot → LocatedPart
-spot_part s = record { block = s.block; word = s.word; byte = s.byte; width = s.width; part = s.part.now }
-
--- the parts that spots are, with the words that they are of, in their order
-abbrev pub spots_of : List Spot → List LocatedPart
-spots_of spots = map spot_part spots
 
 -- the parts that are borrowed, in their order
 abbrev pub parts_of : List (Bor Part) → List Part

@@ -2,7 +2,7 @@ use Rattle.std.proofs.Common.{Bool, ◌+◌, drop, length, refl, sym, ap, ◌∙
 use Rattle.std.specs.Prelude.{if◌then◌else◌}
 use Rattle.std.proofs.lemmas.Option.{slice_get_read}
 use Rattle.rb_image.specs.inner.Siting.{field_site as the_site, part_site}
-use Rattle.rb_image.specs.inner.Viewing.{spot_part, spots_of}
+use Rattle.rb_image.specs.Orders.{spot_part, spots_of}
 use Rattle.rb_image.proofs.DropLemmas.{drop_item}
 use Rattle.rb_image.proofs.fields.field_site.Goals as goal
 

@@ -1,6 +1,6 @@
 use Rattle.std.proofs.Common.{◌≡◌, drop}
 use Rattle.rb_image.specs.inner.Siting.{field_site as the_site}
-use Rattle.rb_image.specs.inner.Viewing.{spots_of}
+use Rattle.rb_image.specs.Orders.{spots_of}
 use Rattle.rb_image.proofs.fields.field_site.Given as goal
 
 abbrev pub invariant-loop-spot : goal.invariant-loop-spot

@@ -1,6 +1,6 @@
 use Rattle.std.proofs.Common.{◌≡◌, ◌++◌, ◌-◌}
 use Rattle.rb_image.specs.inner.Siting.{field_site, sites_from}
-use Rattle.rb_image.specs.inner.Viewing.{spots_of}
+use Rattle.rb_image.specs.Orders.{spots_of}
 use Rattle.rb_image.proofs.fields.sites_of.Given as goal
 
 abbrev pub invariant-loop-number : goal.invariant-loop-number

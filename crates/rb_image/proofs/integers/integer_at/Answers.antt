@@ -1,8 +1,7 @@
 use Rattle.std.proofs.Common.{◌≡◌, ◌+◌, ◌-◌, ◌*◌, ap, ◌∙◌, arith}
 use Rattle.rb_core.specs.declared.types.Ty.TheVariants.{Int}
 use Rattle.rb_image.specs.Integers.{field_bit, part_value}
-use Rattle.rb_image.specs.Orders.{order_of}
-use Rattle.rb_image.specs.inner.Viewing.{spots_of}
+use Rattle.rb_image.specs.Orders.{order_of, spots_of}
 use Rattle.rb_image.proofs.GatheredFields.{field_bit_small}
 use Rattle.rb_image.proofs.IntegerLemmas.{highest, highest_all, highest_more, highest_narrow}
 use Rattle.rb_image.proofs.integers.integer_at.Goals as goal

@@ -1,7 +1,7 @@
 use Rattle.std.proofs.Common.{map, sym, arith}
 use Rattle.rb_image.specs.Sites.{kept_of}
 use Rattle.rb_image.specs.Splits.{range_at}
-use Rattle.rb_image.proofs.AskedLemmas.{range_more}
+use Rattle.rb_image.proofs.RangeLemmas.{range_more}
 use Rattle.rb_image.proofs.Blanks.{no_step}
 use Rattle.rb_image.proofs.leaf.read_range.Goals as goal
 

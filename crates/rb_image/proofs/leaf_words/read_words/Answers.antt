@@ -1,10 +1,9 @@
 use Rattle.std.proofs.Common.{◌≡◌, length, map, refl, sym, ap, ◌∙◌, arith}
 use Rattle.std.proofs.lemmas.Option.{slice_get_read}
 use Rattle.rb_image.specs.LeafWords.{block_addresses, block_span, follow}
-use Rattle.rb_image.specs.Orders.{order_of}
+use Rattle.rb_image.specs.Orders.{order_of, spots_of}
 use Rattle.rb_image.specs.Sites.{kept_of}
 use Rattle.rb_image.specs.inner.Reaching.{unread_words}
-use Rattle.rb_image.specs.inner.Viewing.{spots_of}
 use Rattle.rb_image.proofs.LeafWordLemmas.{all_followed, follow_more, spot_is_part, unread_none}
 use Rattle.rb_image.proofs.leaf_words.read_words.Goals as goal
 

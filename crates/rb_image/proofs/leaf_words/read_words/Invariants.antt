@@ -2,7 +2,7 @@ use Rattle.std.proofs.Common.{◌≡◌, ◌+◌, ◌≤◌, drop, length, map}
 use Rattle.rb_image.specs.LeafWords.{HasNumbers, block_span, follow, block_addresses}
 use Rattle.rb_image.specs.Sites.{kept_of}
 use Rattle.rb_image.specs.inner.Reaching.{unread_words}
-use Rattle.rb_image.specs.inner.Viewing.{spots_of}
+use Rattle.rb_image.specs.Orders.{spots_of}
 use Rattle.rb_image.proofs.leaf_words.read_words.Given as goal
 
 abbrev pub invariant-loop-spot : goal.invariant-loop-spot

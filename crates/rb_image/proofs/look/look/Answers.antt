@@ -10,7 +10,7 @@ use Rattle.rb_coding.specs.FewFields.{HaveFewFields}
 use Rattle.rb_coding.proofs.FewFields.{few_fields}
 use Rattle.rb_image.specs.Parts.{at_of, ats_of, look as the_look}
 use Rattle.rb_image.specs.Splits.{leaf_at}
-use Rattle.rb_image.specs.inner.Viewing.{spots_of}
+use Rattle.rb_image.specs.Orders.{spots_of}
 use Rattle.rb_image.proofs.LeafLemmas.{opens_at, readable_leaf}
 use Rattle.rb_image.proofs.LookLemmas.{addresses_err, addresses_ok, given_err, given_memory, given_on, places_given, splits_err}
 use Rattle.rb_image.proofs.look.look.Goals as goal

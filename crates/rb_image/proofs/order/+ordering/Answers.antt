@@ -3,8 +3,8 @@ use Rattle.std.specs.List.{flat_map}
 use Rattle.std.specs.Option.{option_copied}
 use Rattle.std.proofs.lemmas.Option.{slice_get_read}
 use Rattle.rb_layout.specs.Readable.{AreShort}
-use Rattle.rb_image.specs.Orders.{block_order, with_inner, words_order}
-use Rattle.rb_image.specs.inner.Viewing.{parts_of, spots_of}
+use Rattle.rb_image.specs.Orders.{block_order, with_inner, words_order, spots_of}
+use Rattle.rb_image.specs.inner.Viewing.{parts_of}
 use Rattle.rb_image.proofs.OrderLemmas.{block_short, part_end, part_more, word_more}
 use Rattle.rb_image.proofs.order.+ordering.Goals as goal
 

@@ -1,7 +1,7 @@
 use Rattle.std.proofs.Common.{◌≡◌, ◌+◌, ◌*◌, ◌≤◌, ◌++◌, drop}
 use Rattle.std.specs.List.{flat_map}
-use Rattle.rb_image.specs.Orders.{block_order, with_inner, word_order, words_order}
-use Rattle.rb_image.specs.inner.Viewing.{parts_of, spots_of}
+use Rattle.rb_image.specs.Orders.{block_order, with_inner, word_order, words_order, spots_of}
+use Rattle.rb_image.specs.inner.Viewing.{parts_of}
 use Rattle.rb_image.proofs.order.+ordering.Given as goal
 
 abbrev pub decreases-add_block : goal.decreases-add_block

@@ -1,6 +1,6 @@
 use Rattle.std.proofs.Common.{◌≡◌, drop}
 use Rattle.rb_image.specs.Parts.{addresses_of, examine as examined}
-use Rattle.rb_image.specs.inner.Viewing.{spots_of}
+use Rattle.rb_image.specs.Orders.{spots_of}
 use Rattle.rb_image.proofs.parts.examine.Given as goal
 
 abbrev pub invariant-loop-spot : goal.invariant-loop-spot

@@ -1,6 +1,6 @@
 use Rattle.std.proofs.Common.{sym}
 use Rattle.rb_image.specs.Splits.{range_at as the_range}
-use Rattle.rb_image.proofs.AskedLemmas.{range_more}
+use Rattle.rb_image.proofs.RangeLemmas.{range_more}
 use Rattle.rb_image.proofs.Blanks.{no_step}
 use Rattle.rb_image.proofs.splits.range_at.Goals as goal
 

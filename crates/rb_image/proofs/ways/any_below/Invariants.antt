@@ -1,8 +1,7 @@
 use Rattle.std.proofs.Common.{◌≡◌, drop}
 use Rattle.std.specs.List.{list_any}
-use Rattle.rb_image.specs.Orders.{LocatedPart}
+use Rattle.rb_image.specs.Orders.{LocatedPart, spots_of}
 use Rattle.rb_image.specs.Ways.{is_below}
-use Rattle.rb_image.specs.inner.Viewing.{spots_of}
 use Rattle.rb_image.proofs.ways.any_below.Given as goal
 
 abbrev pub invariant-loop-spot : goal.invariant-loop-spot

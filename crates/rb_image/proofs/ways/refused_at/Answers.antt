@@ -3,7 +3,7 @@ use Rattle.std.specs.Prelude.{if◌then◌else◌}
 use Rattle.rb_image_text.specs.Places.{AreInPlace}
 use Rattle.rb_image.specs.Parts.{bits_at}
 use Rattle.rb_image.specs.Ways.{leads_below, refusal_of}
-use Rattle.rb_image.specs.inner.Viewing.{spot_part}
+use Rattle.rb_image.specs.Orders.{spot_part}
 use Rattle.rb_image.proofs.ways.refused_at.Goals as goal
 
 pub refusal_of-requires-clause-placed : goal.refusal_of-requires-clause-placed

@@ -2,7 +2,7 @@ use Rattle.std.proofs.Common.{◌+◌, drop, length, refl, sym, ap, ◌∙◌}
 use Rattle.std.specs.Option.{option_or}
 use Rattle.std.proofs.lemmas.Option.{slice_get_read}
 use Rattle.rb_image.specs.Ways.{refused_below as refused}
-use Rattle.rb_image.specs.inner.Viewing.{spots_of}
+use Rattle.rb_image.specs.Orders.{spots_of}
 use Rattle.rb_image.proofs.DropLemmas.{drop_item}
 use Rattle.rb_image.proofs.LeafWordLemmas.{spot_is_part}
 use Rattle.rb_image.proofs.ways.refused_below.Goals as goal

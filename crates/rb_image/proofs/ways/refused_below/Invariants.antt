@@ -1,7 +1,6 @@
 use Rattle.std.proofs.Common.{◌≡◌, drop}
-use Rattle.rb_image.specs.Orders.{order_of}
+use Rattle.rb_image.specs.Orders.{order_of, spots_of}
 use Rattle.rb_image.specs.Ways.{refused_below}
-use Rattle.rb_image.specs.inner.Viewing.{spots_of}
 use Rattle.rb_image.proofs.ways.refused_below.Given as goal
 
 abbrev pub invariant-loop-spot : goal.invariant-loop-spot

@@ -1,6 +1,6 @@
 use Rattle.std.proofs.Common.{length, refl, sym, ◌∙◌}
 use Rattle.std.proofs.lemmas.Option.{slice_get_read}
-use Rattle.rb_image.proofs.ViewLemmas.{word_passed}
+use Rattle.rb_image.proofs.FieldLemmas.{word_passed}
 use Rattle.rb_image.proofs.below.Examined.word.Goals as goal
 
 pub loop-spot-preserved : goal.loop-spot-preserved

@@ -1,7 +1,7 @@
 use Rattle.std.proofs.Common.{◌≡◌, drop}
 use Rattle.rb_image.specs.Parts.{field_word}
 use Rattle.rb_image.specs.inner.Opening.{examined_word}
-use Rattle.rb_image.specs.inner.Viewing.{spots_of}
+use Rattle.rb_image.specs.Orders.{spots_of}
 use Rattle.rb_image.proofs.below.Examined.word.Given as goal
 
 abbrev pub invariant-loop-spot : goal.invariant-loop-spot

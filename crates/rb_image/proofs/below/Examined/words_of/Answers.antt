@@ -1,7 +1,7 @@
 use Rattle.std.proofs.Common.{◌+◌, ◌-◌, ◌∷◌, [], ◌++◌, sym, ap, ◌∙◌, append_assoc}
 use Rattle.rb_image.specs.Parts.{field_words}
 use Rattle.rb_image.specs.inner.Opening.{examined_word}
-use Rattle.rb_image.proofs.BelowLemmas.{words_more}
+use Rattle.rb_image.proofs.FieldLemmas.{words_more}
 use Rattle.rb_image.proofs.below.Examined.words_of.Goals as goal
 
 pub loop-number-preserved : goal.loop-number-preserved

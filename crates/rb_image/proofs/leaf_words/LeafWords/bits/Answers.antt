@@ -1,7 +1,7 @@
 use Rattle.std.proofs.Common.{ap, ◌∙◌}
 use Rattle.rb_image.specs.Splits.{range_of}
 use Rattle.rb_image.proofs.LeafWordLemmas.{bits_are}
-use Rattle.rb_image.specs.inner.Viewing.{spot_part}
+use Rattle.rb_image.specs.Orders.{spot_part}
 use Rattle.rb_image.proofs.leaf_words.LeafWords.bits.Goals as goal
 
 pub returns : goal.returns

@@ -2,7 +2,7 @@ use Rattle.std.proofs.Common.{Ok, Err, sym, subst, ap, ◌∙◌}
 use Rattle.std.specs.Prelude.{slice_index}
 use Rattle.rb_image_text.specs.Places.{AreInPlace}
 use Rattle.rb_image.specs.Parts.{bits_at, pointer_lead}
-use Rattle.rb_image.specs.inner.Viewing.{spot_part}
+use Rattle.rb_image.specs.Orders.{spot_part}
 use Rattle.rb_image.proofs.LeafWordLemmas.{follow_found, found_above}
 use Rattle.rb_image.proofs.leaf_words.LeafWords.follow.Goals as goal
 

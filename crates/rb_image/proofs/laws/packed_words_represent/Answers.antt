@@ -1,5 +1,0 @@
-use Rattle.rb_image.proofs.PackedWords.{packed_words_represent}
-use Rattle.rb_image.proofs.laws.packed_words_represent.Goals as goal
-
-pub returns : goal.returns
-returns c = packed_words_represent

@@ -1,5 +1,0 @@
-use Rattle.rb_image.proofs.PathParts.{paths_lead}
-use Rattle.rb_image.proofs.laws.paths_lead_to_parts.Goals as goal
-
-pub returns : goal.returns
-returns c = paths_lead

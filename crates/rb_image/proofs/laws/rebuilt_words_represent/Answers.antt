@@ -1,5 +1,0 @@
-use Rattle.rb_image.proofs.RebuiltValues.{rebuilt_words_represent}
-use Rattle.rb_image.proofs.laws.rebuilt_words_represent.Goals as goal
-
-pub returns : goal.returns
-returns c = rebuilt_words_represent

@@ -1,5 +1,0 @@
-use Rattle.rb_image.proofs.SeenValues.{values_are_seen}
-use Rattle.rb_image.proofs.laws.values_are_seen.Goals as goal
-
-pub returns : goal.returns
-returns c = values_are_seen

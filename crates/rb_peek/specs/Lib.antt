@@ -1,0 +1,13 @@
+pub mod Asked
+pub mod HeldParts
+pub mod PackedWords
+pub mod PathParts
+pub mod PathSpans
+pub mod Paths
+pub mod Peeking
+pub mod Rebuilds
+pub mod RebuiltValues
+pub mod TakenApart
+pub mod Views
+pub mod Walks
+pub mod inner

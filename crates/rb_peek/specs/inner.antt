@@ -1,0 +1,3 @@
+pub mod Checking
+pub mod Ordering
+pub mod Standing
