@@ -2,7 +2,7 @@
 //! that it may do is given.
 
 use crate::call::{call, lines};
-use crate::surprise::{Surprise, another};
+use crate::surprise::{Surprise, another, no_row};
 use std::alloc::Global;
 
 /// A file, words, lines, the most switches, and lines.
@@ -46,6 +46,45 @@ pub fn expect_count_rows(alloc: Global, front: &str, rows: &[CountRow]) -> Resul
         expect_counts(alloc, words.as_str(), file, before, *most, behind)?;
     }
     Ok(())
+}
+
+/// Looks so at one file. Each line of the table is what stands behind `front` in the words, the lines before, the most
+/// switches, and the lines behind, with a `~` between them. A line that begins with a `#` says something of those below
+/// it.
+///
+/// # Errors
+///
+/// Another answer, another line, or want of memory.
+pub fn expect_count_table(
+    alloc: Global,
+    file: &str,
+    front: &str,
+    table: &str,
+) -> Result<(), Surprise> {
+    for line in table.split('\n') {
+        expect_count_line(alloc, file, front, line)?;
+    }
+    Ok(())
+}
+
+// Looks so at a line.
+fn expect_count_line(alloc: Global, file: &str, front: &str, line: &str) -> Result<(), Surprise> {
+    if line.starts_with('#') {
+        return Ok(());
+    }
+    let Some((words, before, most, behind)) = parts_of(line) else {
+        return no_row(alloc, line);
+    };
+    let words = format!(in alloc; "{front}{words}")?;
+    expect_counts(alloc, words.as_str(), file.as_bytes(), before, most, behind)
+}
+
+// Words, the lines before, the most switches, and the lines behind, as they stand in a line.
+fn parts_of(line: &str) -> Option<(&str, &str, u64, &str)> {
+    let (words, rest) = line.split_once('~')?;
+    let (before, rest) = rest.split_once('~')?;
+    let (most, behind) = rest.split_once('~')?;
+    Some((words, before, most.parse().ok()?, behind))
 }
 
 // The number between two texts.

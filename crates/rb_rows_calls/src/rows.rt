@@ -63,6 +63,31 @@ pub fn expect_lines(alloc: Global, words: &str, table: &str) -> Result<(), Surpr
     Ok(())
 }
 
+/// Looks whether words have their answers to one file. Each line of the table is what stands behind `front` in the words,
+/// a `~`, and the answer. A line that begins with a `#` says something of those below it.
+///
+/// # Errors
+///
+/// Another answer, a line without a `~`, or want of memory.
+pub fn expect_table(alloc: Global, file: &str, front: &str, table: &str) -> Result<(), Surprise> {
+    for line in table.split('\n') {
+        expect_line(alloc, file, front, line)?;
+    }
+    Ok(())
+}
+
+// Looks whether the words of a line have its answer.
+fn expect_line(alloc: Global, file: &str, front: &str, line: &str) -> Result<(), Surprise> {
+    if line.starts_with('#') {
+        return Ok(());
+    }
+    let Some((words, wanted)) = line.split_once('~') else {
+        return no_row(alloc, line);
+    };
+    let words = format!(in alloc; "{front}{words}")?;
+    expect_answer(alloc, words.as_str(), file.as_bytes(), wanted)
+}
+
 /// Looks whether words have their answers to files, of the name `E`, and images, of the name `I`.
 ///
 /// # Errors
