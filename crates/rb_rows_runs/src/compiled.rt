@@ -8,8 +8,8 @@ use rb_bytes::checked::CheckedMemory;
 use rb_edge::steps::{CountLedger, Steps};
 use rb_machine::run::run;
 use rb_rows_calls::call::{call, expect_answer};
-use rb_rows_calls::counts::{CountRow, expect_count_rows, expect_counts};
-use rb_rows_calls::surprise::{Surprise, another};
+use rb_rows_calls::counts::{expect_count_table, expect_counts};
+use rb_rows_calls::surprise::{Surprise, another, no_row};
 use rb_target::read::read_code;
 use std::alloc::{AllocError, Global};
 use std::str;
@@ -81,67 +81,6 @@ fn code_texts_run(rt: HostRuntime) -> Result<(), Surprise> {
     expect_run(rt.alloc(), &RUN)
 }
 
-// File, the start of a line, and how many lines of the file's code begin so, at least and at most.
-type Lines<'a> = (&'a str, &'a str, usize, usize);
-
-const LINES: [Lines; 33] = [
-    // an arm whose value is the function's result returns it
-    (SUM, "return ", 3, 3),
-    (SUM, "copy ", 0, 0),
-    (SUM, "jump ", 0, 0),
-    (RESULTS, "return ", 3, 3),
-    (RESULTS, "copy ", 0, 0),
-    (RESULTS, "jump ", 0, 0),
-    // the arms of a match in an operand leave theirs in one slot, one as a number and one copied, and go on behind it,
-    // where the last one ends
-    (OPERAND, "return ", 1, 1),
-    (OPERAND, "copy ", 1, 1),
-    (OPERAND, "jump ", 1, 1),
-    // four tests of a field, each once: as a tree they were six
-    (FOUR, "switch ", 0, 4),
-    // one switch finds the leaf, and each way has one for its byte: the bit is tested by none
-    (TOLD, "switch ", 3, 3),
-    // one switch finds the leaf, which tells an entry and its bit: neither is tested
-    (TOLD_INSIDE, "switch ", 1, 1),
-    // one finds the leaf, which tells an entry, and each of the bit and the byte below it has one; they are read from
-    // the pair, so that no entry is put together
-    (TOLD_ABOVE, "switch ", 3, 3),
-    (TOLD_ABOVE, "put ", 0, 0),
-    // one finds the leaf; behind it the bit and the byte have one each, and the number of the other way one
-    (TOLD_TWICE, "switch ", 4, 4),
-    (TOLD_TWICE, "put ", 0, 0),
-    // one finds the leaf, for two ways of which the byte has one; where it is bound, one finds the leaf again. No entry
-    // is put together
-    (OPENED, "switch ", 3, 3),
-    (OPENED, "put ", 0, 0),
-    // one finds the leaf, and each field has one
-    (MET, "switch ", 4, 4),
-    // a constructor that the file shows is not looked at, and a variable's is, once
-    (SHOWN, "switch ", 0, 0),
-    (UNSHOWN, "switch ", 1, 1),
-    // one switch tells the match whether the tree is empty; the color is the bit that tells a node's leaf, so that both
-    // ways return that bit, and no switch tells them apart
-    (COLOUR, "switch ", 1, 1),
-    (COLOUR, "jump ", 0, 0),
-    (COLOUR, "const ", 1, 1),
-    (COLOUR, "return ", 2, 2),
-    // the match tells all three leaves apart, and a red node's number is where the leaf of red nodes has it
-    (BY_COLOUR, "switch ", 2, 2),
-    // a number in a block is loaded where the body uses it, and a tail where it is tested
-    (UNUSED, "load ", 0, 0),
-    (USED, "load ", 1, 1),
-    (TESTED, "load ", 2, 2),
-    // the address of the block of which both are loaded is made once
-    (TESTED, "alu ", 1, 1),
-    // where the file shows what stands in an argument there is none; where it does not, one finds its leaf, which tells
-    // its bit
-    (SHOWN_INSIDE, "switch ", 1, 1),
-    // a word that is tested in all its bits is tested as it is
-    (WHOLE, "take ", 0, 0),
-    // bits of a field are taken from the word in which the field stands
-    (INNER, "take ", 1, 1),
-];
-
 // A bit in a word of its own.
 const WHOLE: &str =
     "type K = A | B;layout K <1> = split 0[0:1] { 0 => A : { word 1 { [0:1] = 0 } } 1 => B : { word 1 { [0:1] = 1 } } };fun main(k: K): u8 = match k { A => 1, B => 2 };";
@@ -183,22 +122,105 @@ fn lines_with(code: &[u8], start: &str) -> usize {
     count
 }
 
-// Looks whether the code of each row's file has at least and at most as many lines that begin with
-// the row's text as the row says; another number is a surprise.
-fn expect_lines(alloc: Global, rows: &[Lines]) -> Result<(), Surprise> {
-    for (file, start, least, most) in rows {
-        let code = code_text(alloc, file)?;
-        let count = lines_with(code.as_slice(), start);
-        if count < *least || *most < count {
-            another(alloc, file, code.as_slice(), start.as_bytes())?;
-        }
+// The start of a line, and how many lines begin so, at least and at most, as they stand in a row.
+fn bounds_of(row: &str) -> Option<(&str, usize, usize)> {
+    let (start, rest) = row.split_once('~')?;
+    let (least, most) = rest.split_once('~')?;
+    Some((start, least.parse().ok()?, most.parse().ok()?))
+}
+
+// Looks whether a code has at least and at most as many lines that begin with the row's text as the row says; another
+// number is a surprise.
+fn expect_row(alloc: Global, code: &[u8], row: &str) -> Result<(), Surprise> {
+    let Some((start, least, most)) = bounds_of(row) else {
+        return no_row(alloc, row);
+    };
+    let count = lines_with(code, start);
+    if least <= count && count <= most {
+        return Ok(());
+    }
+    another(alloc, row, code, start.as_bytes())
+}
+
+// Looks at each line of a table so, over the code of one file.
+fn expect_lines(alloc: Global, file: &str, table: &str) -> Result<(), Surprise> {
+    let code = code_text(alloc, file)?;
+    for row in table.split('\n') {
+        expect_row(alloc, code.as_slice(), row)?;
     }
     Ok(())
 }
 
+// For each file the start of a line, and how many lines of the file's code begin so, at least and at most.
+// Arms, and tests of numbers.
+fn expect_results(alloc: Global) -> Result<(), Surprise> {
+    // an arm whose value is the function's result returns it
+    expect_lines(alloc, SUM, "return ~3~3\ncopy ~0~0\njump ~0~0")?;
+    expect_lines(alloc, RESULTS, "return ~3~3\ncopy ~0~0\njump ~0~0")?;
+    // the arms of a match in an operand leave theirs in one slot, one as a number and one copied, and go on behind it,
+    // where the last one ends
+    expect_lines(alloc, OPERAND, "return ~1~1\ncopy ~1~1\njump ~1~1")?;
+    // four tests of a field, each once: as a tree they were six
+    expect_lines(alloc, FOUR, "switch ~0~4")
+}
+
+// Leaves that tell what stands in them.
+fn expect_leaves(alloc: Global) -> Result<(), Surprise> {
+    // one switch finds the leaf, and each way has one for its byte: the bit is tested by none
+    expect_lines(alloc, TOLD, "switch ~3~3")?;
+    // one switch finds the leaf, which tells an entry and its bit: neither is tested
+    expect_lines(alloc, TOLD_INSIDE, "switch ~1~1")?;
+    // one finds the leaf, which tells an entry, and each of the bit and the byte below it has one; they are read from
+    // the pair, so that no entry is put together
+    expect_lines(alloc, TOLD_ABOVE, "switch ~3~3\nput ~0~0")?;
+    // one finds the leaf; behind it the bit and the byte have one each, and the number of the other way one
+    expect_lines(alloc, TOLD_TWICE, "switch ~4~4\nput ~0~0")?;
+    // one finds the leaf, for two ways of which the byte has one; where it is bound, one finds the leaf again. No entry
+    // is put together
+    expect_lines(alloc, OPENED, "switch ~3~3\nput ~0~0")?;
+    // one finds the leaf, and each field has one
+    expect_lines(alloc, MET, "switch ~4~4")
+}
+
+// Constructors that the file shows, and colours.
+fn expect_shown(alloc: Global) -> Result<(), Surprise> {
+    // a constructor that the file shows is not looked at, and a variable's is, once
+    expect_lines(alloc, SHOWN, "switch ~0~0")?;
+    expect_lines(alloc, UNSHOWN, "switch ~1~1")?;
+    // one switch tells the match whether the tree is empty; the color is the bit that tells a node's leaf, so that both
+    // ways return that bit, and no switch tells them apart
+    expect_lines(
+        alloc,
+        COLOUR,
+        "switch ~1~1\njump ~0~0\nconst ~1~1\nreturn ~2~2",
+    )?;
+    // the match tells all three leaves apart, and a red node's number is where the leaf of red nodes has it
+    expect_lines(alloc, BY_COLOUR, "switch ~2~2")
+}
+
+// What is read of words and blocks.
+fn expect_words(alloc: Global) -> Result<(), Surprise> {
+    // a number in a block is loaded where the body uses it, and a tail where it is tested
+    expect_lines(alloc, UNUSED, "load ~0~0")?;
+    expect_lines(alloc, USED, "load ~1~1")?;
+    // the address of the block of which both are loaded is made once
+    expect_lines(alloc, TESTED, "load ~2~2\nalu ~1~1")?;
+    // where the file shows what stands in an argument there is none; where it does not, one finds its leaf, which tells
+    // its bit
+    expect_lines(alloc, SHOWN_INSIDE, "switch ~1~1")?;
+    // a word that is tested in all its bits is tested as it is
+    expect_lines(alloc, WHOLE, "take ~0~0")?;
+    // bits of a field are taken from the word in which the field stands
+    expect_lines(alloc, INNER, "take ~1~1")
+}
+
 #[test]
 fn lines_of_code(rt: HostRuntime) -> Result<(), Surprise> {
-    expect_lines(rt.alloc(), &LINES)
+    let alloc = rt.alloc();
+    expect_results(alloc)?;
+    expect_leaves(alloc)?;
+    expect_shown(alloc)?;
+    expect_words(alloc)
 }
 
 // The text does as many switches as `count` says. B in the second and fourth place is the word 10.
@@ -224,117 +246,65 @@ fn the_text_does_as_many(rt: HostRuntime) -> Result<(), Fail> {
 }
 
 // Two switches for each pair, and one for each entry.
-const LEAVES: [CountRow; 24] = [
-    (TOLD, "Tagged(A,3)", "value 1;calls 1;", 2, BEHIND),
-    (TOLD, "Tagged(A,4)", "value 0;calls 1;", 2, BEHIND),
-    (TOLD, "Tagged(B,4)", "value 2;calls 1;", 2, BEHIND),
-    (TOLD, "Tagged(B,3)", "value 0;calls 1;", 2, BEHIND),
-    (
-        TOLD_INSIDE,
-        "With(On(A,3),9)",
-        "value 1;calls 1;",
-        1,
-        BEHIND,
-    ),
-    (
-        TOLD_INSIDE,
-        "With(On(B,3),9)",
-        "value 2;calls 1;",
-        1,
-        BEHIND,
-    ),
-    (TOLD_INSIDE, "With(Off,9)", "value 9;calls 1;", 1, BEHIND),
-    (TOLD_ABOVE, "With(On(A,3),9)", "value 9;calls 1;", 3, BEHIND),
-    (TOLD_ABOVE, "With(On(A,4),9)", "value 1;calls 1;", 3, BEHIND),
-    (TOLD_ABOVE, "With(On(B,3),9)", "value 1;calls 1;", 2, BEHIND),
-    (TOLD_ABOVE, "With(Off,9)", "value 9;calls 1;", 1, BEHIND),
-    (
-        TOLD_TWICE,
-        "With(In(7,On(B,5)),9)",
-        "value 1;calls 1;",
-        3,
-        BEHIND,
-    ),
-    (
-        TOLD_TWICE,
-        "With(In(7,On(B,6)),9)",
-        "value 4;calls 1;",
-        3,
-        BEHIND,
-    ),
-    (
-        TOLD_TWICE,
-        "With(In(7,On(A,5)),9)",
-        "value 9;calls 1;",
-        2,
-        BEHIND,
-    ),
-    (
-        TOLD_TWICE,
-        "With(In(7,Off),9)",
-        "value 2;calls 1;",
-        2,
-        BEHIND,
-    ),
-    (TOLD_TWICE, "With(Out,9)", "value 4;calls 1;", 1, BEHIND),
-    (OPENED, "With(On(3,A),9)", "value 9;calls 1;", 3, BEHIND),
-    (OPENED, "With(On(3,B),9)", "value 9;calls 1;", 3, BEHIND),
-    (OPENED, "With(On(4,B),9)", "value 1;calls 1;", 2, BEHIND),
-    (OPENED, "With(Off,9)", "value 9;calls 1;", 1, BEHIND),
-    (MET, "With(On(A,3),A)", "value 1;calls 1;", 3, BEHIND),
-    (MET, "With(On(A,3),B)", "value 1;calls 1;", 3, BEHIND),
-    (MET, "With(On(B,3),B)", "value 3;calls 1;", 2, BEHIND),
-    (MET, "With(Off,A)", "value 2;calls 1;", 2, BEHIND),
-];
+const TOLD_COUNTS: &str = "Tagged(A,3)~value 1;calls 1;~2~blocks 0;bytes 0;
+Tagged(A,4)~value 0;calls 1;~2~blocks 0;bytes 0;
+Tagged(B,4)~value 2;calls 1;~2~blocks 0;bytes 0;
+Tagged(B,3)~value 0;calls 1;~2~blocks 0;bytes 0;";
+
+const TOLD_INSIDE_COUNTS: &str = "With(On(A,3),9)~value 1;calls 1;~1~blocks 0;bytes 0;
+With(On(B,3),9)~value 2;calls 1;~1~blocks 0;bytes 0;
+With(Off,9)~value 9;calls 1;~1~blocks 0;bytes 0;";
+
+const TOLD_ABOVE_COUNTS: &str = "With(On(A,3),9)~value 9;calls 1;~3~blocks 0;bytes 0;
+With(On(A,4),9)~value 1;calls 1;~3~blocks 0;bytes 0;
+With(On(B,3),9)~value 1;calls 1;~2~blocks 0;bytes 0;
+With(Off,9)~value 9;calls 1;~1~blocks 0;bytes 0;";
+
+const TOLD_TWICE_COUNTS: &str = "With(In(7,On(B,5)),9)~value 1;calls 1;~3~blocks 0;bytes 0;
+With(In(7,On(B,6)),9)~value 4;calls 1;~3~blocks 0;bytes 0;
+With(In(7,On(A,5)),9)~value 9;calls 1;~2~blocks 0;bytes 0;
+With(In(7,Off),9)~value 2;calls 1;~2~blocks 0;bytes 0;
+With(Out,9)~value 4;calls 1;~1~blocks 0;bytes 0;";
+
+const OPENED_COUNTS: &str = "With(On(3,A),9)~value 9;calls 1;~3~blocks 0;bytes 0;
+With(On(3,B),9)~value 9;calls 1;~3~blocks 0;bytes 0;
+With(On(4,B),9)~value 1;calls 1;~2~blocks 0;bytes 0;
+With(Off,9)~value 9;calls 1;~1~blocks 0;bytes 0;";
+
+const MET_COUNTS: &str = "With(On(A,3),A)~value 1;calls 1;~3~blocks 0;bytes 0;
+With(On(A,3),B)~value 1;calls 1;~3~blocks 0;bytes 0;
+With(On(B,3),B)~value 3;calls 1;~2~blocks 0;bytes 0;
+With(Off,A)~value 2;calls 1;~2~blocks 0;bytes 0;";
 
 // No block is made.
 const BEHIND: &str = "blocks 0;bytes 0;";
 
 #[test]
 fn a_leaf_decides_a_test(rt: HostRuntime) -> Result<(), Surprise> {
-    expect_count_rows(rt.alloc(), "count E 1 64 ", &LEAVES)
+    let alloc = rt.alloc();
+    expect_count_table(alloc, TOLD, "count E 1 64 ", TOLD_COUNTS)?;
+    expect_count_table(alloc, TOLD_INSIDE, "count E 1 64 ", TOLD_INSIDE_COUNTS)?;
+    expect_count_table(alloc, TOLD_ABOVE, "count E 1 64 ", TOLD_ABOVE_COUNTS)?;
+    expect_count_table(alloc, TOLD_TWICE, "count E 1 64 ", TOLD_TWICE_COUNTS)?;
+    expect_count_table(alloc, OPENED, "count E 1 64 ", OPENED_COUNTS)?;
+    expect_count_table(alloc, MET, "count E 1 64 ", MET_COUNTS)
 }
 
 // One switch tells whether a tree is empty; a node's color takes none, and its number one more, which tells its leaf.
-const TREES: [CountRow; 6] = [
-    (
-        COLOUR,
-        "Node(Red,Empty,7,Empty)",
-        "value Red;calls 1;",
-        1,
-        NODE,
-    ),
-    (
-        COLOUR,
-        "Node(Black,Empty,7,Empty)",
-        "value Black;calls 1;",
-        1,
-        NODE,
-    ),
-    (COLOUR, "Empty", "value Black;calls 1;", 1, BEHIND),
-    (
-        BY_COLOUR,
-        "Node(Red,Empty,7,Empty)",
-        "value 7;calls 1;",
-        2,
-        NODE,
-    ),
-    (
-        BY_COLOUR,
-        "Node(Black,Empty,7,Empty)",
-        "value 2;calls 1;",
-        2,
-        NODE,
-    ),
-    (BY_COLOUR, "Empty", "value 1;calls 1;", 1, BEHIND),
-];
+const COLOUR_COUNTS: &str = "Node(Red,Empty,7,Empty)~value Red;calls 1;~1~blocks 1;bytes 12;
+Node(Black,Empty,7,Empty)~value Black;calls 1;~1~blocks 1;bytes 12;
+Empty~value Black;calls 1;~1~blocks 0;bytes 0;";
+
+const BY_COLOUR_COUNTS: &str = "Node(Red,Empty,7,Empty)~value 7;calls 1;~2~blocks 1;bytes 12;
+Node(Black,Empty,7,Empty)~value 2;calls 1;~2~blocks 1;bytes 12;
+Empty~value 1;calls 1;~1~blocks 0;bytes 0;";
 
 // The block of the argument.
-const NODE: &str = "blocks 1;bytes 12;";
-
 #[test]
 fn leaves_are_told_apart_once(rt: HostRuntime) -> Result<(), Surprise> {
-    expect_count_rows(rt.alloc(), "count E 1 76 ", &TREES)
+    let alloc = rt.alloc();
+    expect_count_table(alloc, COLOUR, "count E 1 76 ", COLOUR_COUNTS)?;
+    expect_count_table(alloc, BY_COLOUR, "count E 1 76 ", BY_COLOUR_COUNTS)
 }
 
 // Pairs of such a pair and a byte: the bit inside tells the leaf, and has no bits of its own.
@@ -369,7 +339,7 @@ fn one_switch_for_all_numbers(rt: HostRuntime) -> Result<(), Fail> {
     let alloc = rt.alloc();
     let file = three_hundred(alloc)?;
     let text = file.as_str();
-    expect_lines(alloc, &[(text, "switch ", 1, 1)])?;
+    expect_lines(alloc, text, "switch ~1~1")?;
     let named = "value 299;calls 1;";
     expect_counts(alloc, "count E 1 64 299", text.as_bytes(), named, 1, BEHIND)?;
     let other = "value 7;calls 1;";

@@ -1,8 +1,8 @@
 //! Files whose layouts take subvalues apart: the colour of a node is told by its leaf, and stands in no part.
 //! The answers were given by the language's pages.
 
-use rb_rows_calls::counts::{CountRow, expect_count_rows, expect_counts};
-use rb_rows_calls::rows::expect_rows;
+use rb_rows_calls::counts::{expect_count_table, expect_counts};
+use rb_rows_calls::rows::expect_table;
 use rb_rows_calls::surprise::Surprise;
 
 /// The colour of a tree's root, which is made where the clause names it.
@@ -25,50 +25,35 @@ pub const INSERTED: &str =
 const UNUSED: &str =
     "type C = R | K; layout C <1> = split 0[0:1] { 0 => R : { word 1 { [0:1] = 0 } } 1 => K : { word 1 { [0:1] = 1 } } }; type D = D(C); layout D <1> = split 0[0:1] { 0 => D(R) : { word 1 { [0:1] = 0 } } 1 => D(K) : { word 1 { [0:1] = 1 } } }; fun main(): u8 = 0;";
 
-// File, words, answer.
-const ROWS: [(&str, &str, &str); 13] = [
-    (COLOUR, "run E 1 76 Node(Red,Empty,7,Empty)", "0 Red;"),
-    (COLOUR, "run E 1 76 Node(Black,Empty,7,Empty)", "0 Black;"),
-    (COLOUR, "run E 1 64 Empty", "0 Black;"),
-    (BY_COLOUR, "run E 1 76 Node(Red,Empty,7,Empty)", "0 7;"),
-    (BY_COLOUR, "run E 1 76 Node(Black,Empty,7,Empty)", "0 2;"),
-    (BY_COLOUR, "run E 1 64 Empty", "0 1;"),
-    (
-        KEPT,
-        "image E 1 76 Node(Red,Empty,7,Empty)",
-        "0 root 0x40;block 64 12 070000000000000000000000;",
-    ),
-    (
-        INSERTED,
-        "run E 3 100 Node(Black,Empty,7,Empty) 9",
-        "0 Node(Black, Empty, 7, Node(Red, Empty, 9, Empty));",
-    ),
-    (
-        INSERTED,
-        "image E 3 100 Node(Black,Empty,7,Empty) 9",
-        "0 root 0x59;block 64 12 070000000000000000000000;block 76 12 090000000000000000000000;block 88 12 07000000000000004c000000;",
-    ),
-    (
-        INSERTED,
-        "run E 3 99 Node(Black,Empty,7,Empty) 9",
-        "5 ribbit: region full: next 88, size 12, align 4, limit 99;",
-    ),
-    (
-        INSERTED,
-        "run E 2 100 Node(Black,Empty,7,Empty) 9",
-        "4 ribbit: calls spent: 2;",
-    ),
-    (UNUSED, "run E 1 64", "0 0;"),
-    (
-        UNUSED,
-        "run E 1 64 x",
-        "10 ribbit: wanted 0 arguments, found 1;",
-    ),
-];
+// For each file words, and the answer.
+const COLOUR_ROWS: &str = "run E 1 76 Node(Red,Empty,7,Empty)~0 Red;
+run E 1 76 Node(Black,Empty,7,Empty)~0 Black;
+run E 1 64 Empty~0 Black;";
+
+const BY_COLOUR_ROWS: &str = "run E 1 76 Node(Red,Empty,7,Empty)~0 7;
+run E 1 76 Node(Black,Empty,7,Empty)~0 2;
+run E 1 64 Empty~0 1;";
+
+const KEPT_ROWS: &str =
+    "image E 1 76 Node(Red,Empty,7,Empty)~0 root 0x40;block 64 12 070000000000000000000000;";
+
+const INSERTED_ROWS: &str =
+    "run E 3 100 Node(Black,Empty,7,Empty) 9~0 Node(Black, Empty, 7, Node(Red, Empty, 9, Empty));
+image E 3 100 Node(Black,Empty,7,Empty) 9~0 root 0x59;block 64 12 070000000000000000000000;block 76 12 090000000000000000000000;block 88 12 07000000000000004c000000;
+run E 3 99 Node(Black,Empty,7,Empty) 9~5 ribbit: region full: next 88, size 12, align 4, limit 99;
+run E 2 100 Node(Black,Empty,7,Empty) 9~4 ribbit: calls spent: 2;";
+
+const UNUSED_ROWS: &str = "run E 1 64~0 0;
+run E 1 64 x~10 ribbit: wanted 0 arguments, found 1;";
 
 #[test]
 fn leaves_that_take_subvalues_apart(rt: HostRuntime) -> Result<(), Surprise> {
-    expect_rows(rt.alloc(), "", &ROWS)
+    let alloc = rt.alloc();
+    expect_table(alloc, COLOUR, "", COLOUR_ROWS)?;
+    expect_table(alloc, BY_COLOUR, "", BY_COLOUR_ROWS)?;
+    expect_table(alloc, KEPT, "", KEPT_ROWS)?;
+    expect_table(alloc, INSERTED, "", INSERTED_ROWS)?;
+    expect_table(alloc, UNUSED, "", UNUSED_ROWS)
 }
 
 // Two matches on a tree may take 4 switches each, two on a comparison 1 each, and two constructions 1 each.
@@ -90,38 +75,12 @@ const PAIRED: &str =
 
 // Two leaves go the same way, and nothing of them is saved: the split between them is left out. Behind the third the
 // second field is looked at.
-const SAME_WAY: [CountRow; 4] = [
-    (
-        PAIRED,
-        "1 64 P(G,R)",
-        "value 3;calls 1;",
-        1,
-        "blocks 0;bytes 0;",
-    ),
-    (
-        PAIRED,
-        "1 64 P(B,B)",
-        "value 3;calls 1;",
-        1,
-        "blocks 0;bytes 0;",
-    ),
-    (
-        PAIRED,
-        "1 64 P(R,R)",
-        "value 1;calls 1;",
-        2,
-        "blocks 0;bytes 0;",
-    ),
-    (
-        PAIRED,
-        "1 64 P(R,B)",
-        "value 2;calls 1;",
-        2,
-        "blocks 0;bytes 0;",
-    ),
-];
+const SAME_WAY: &str = "1 64 P(G,R)~value 3;calls 1;~1~blocks 0;bytes 0;
+1 64 P(B,B)~value 3;calls 1;~1~blocks 0;bytes 0;
+1 64 P(R,R)~value 1;calls 1;~2~blocks 0;bytes 0;
+1 64 P(R,B)~value 2;calls 1;~2~blocks 0;bytes 0;";
 
 #[test]
 fn leaves_of_one_way_are_not_told_apart(rt: HostRuntime) -> Result<(), Surprise> {
-    expect_count_rows(rt.alloc(), "count E ", &SAME_WAY)
+    expect_count_table(rt.alloc(), PAIRED, "count E ", SAME_WAY)
 }

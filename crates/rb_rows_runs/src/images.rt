@@ -4,7 +4,7 @@
 use crate::deep::INSERTED;
 use crate::layouts::{BRANCH, INSERT, LIST, PAIR, PUSHED, SHAPE, TWIN};
 use rb_rows_calls::call::expect_answer;
-use rb_rows_calls::rows::expect_rows;
+use rb_rows_calls::rows::expect_table;
 use rb_rows_calls::surprise::Surprise;
 use std::alloc::{AllocError, Global};
 
@@ -76,223 +76,152 @@ const MADE_BRANCH: &str =
 const MADE_TRIO: &str =
     "type K = A | B;layout K <1> = split 0[0:1] { 0 => A : { word 1 { [0:1] = 0 } } 1 => B : { word 1 { [0:1] = 1 } } };type P = Tagged(K, u8);layout P <9> = Tagged(_, _) : { word 9 { [0:1] .0, [1:8] .1 } };type D = Trio(P, u8, P);layout D <40> = split 0[0:1] { 0 => Trio(Tagged(A, _), _, _) : { word 40 { [0:1] = 0, [1:8] .0.1, [9:8] .1, [17:9] .2 } } 1 => Trio(Tagged(B, _), _, _) : { word 40 { [0:1] = 1, [1:8] .1, [9:8] .0.1, [17:9] .2 } } };fun main(p: P, x: u8, q: P): D = Trio(p, x, q);";
 
-// File, limits and fields, answer: values as the code makes them. The words and the bytes of the blocks were worked out
-// by hand from the layouts, with the blocks of arguments first, and then inner blocks before outer ones.
-const MADE: [(&str, &str, &str); 28] = [
-    (
-        MADE_LIST,
-        "1 96",
-        "0 root 0x50;block 64 16 02000000000000000100000000000000;block 80 16 01000000000000004000000000000000;",
-    ),
-    (
-        MADE_LIST,
-        "1 95",
-        "5 ribbit: region full: next 80, size 16, align 8, limit 95;",
-    ),
-    (
-        MADE_SHAPE,
-        "1 73",
-        "0 root 0x10;block 64 9 010100000002000000;",
-    ),
-    (
-        MADE_SHAPE,
-        "1 72",
-        "5 ribbit: region full: next 64, size 9, align 4, limit 72;",
-    ),
-    (
-        MADE_PAIR,
-        "1 88",
-        "0 root 0x9;block 64 8 0600000000000000;block 72 16 05000000000000000800000000000000;",
-    ),
-    (
-        MADE_PAIR,
-        "1 87",
-        "5 ribbit: region full: next 72, size 16, align 8, limit 87;",
-    ),
-    (
-        MADE_PAIR,
-        "1 71",
-        "5 ribbit: region full: next 64, size 8, align 8, limit 71;",
-    ),
-    (MADE_NIL, "1 64", "0 root 0x1;"),
-    // behind the 9 stands the pointer to the block of the argument
-    (
-        PUSHED,
-        "1 96 Cons(1,Nil)",
-        "0 root 0x50;block 64 16 01000000000000000100000000000000;block 80 16 09000000000000004000000000000000;",
-    ),
-    (MADE_EMPTY, "1 64", "0 root 0x0;"),
-    (
-        MADE_NODE,
-        "1 76 Red 7",
-        "0 root 0x40;block 64 12 070000000000000000000000;",
-    ),
-    (
-        MADE_NODE,
-        "1 76 Black 7",
-        "0 root 0x41;block 64 12 070000000000000000000000;",
-    ),
-    (
-        MADE_TREE,
-        "1 100",
-        "0 root 0x59;block 64 12 010000000000000000000000;block 76 12 030000000000000000000000;block 88 12 02000000400000004d000000;",
-    ),
-    (
-        MADE_TREE,
-        "1 99",
-        "5 ribbit: region full: next 88, size 12, align 4, limit 99;",
-    ),
-    // a number is inserted into no node, to the left, and where it is; the node's color stays
-    (
-        INSERT,
-        "2 76 Empty 9",
-        "0 root 0x40;block 64 12 090000000000000000000000;",
-    ),
-    (
-        INSERT,
-        "3 100 Node(Red,Empty,7,Empty) 5",
-        "0 root 0x58;block 64 12 070000000000000000000000;block 76 12 050000000000000000000000;block 88 12 070000004c00000000000000;",
-    ),
-    (
-        INSERT,
-        "2 76 Node(Black,Empty,7,Empty) 7",
-        "0 root 0x41;block 64 12 070000000000000000000000;",
-    ),
-    (
-        INSERTED,
-        "2 76 Empty 9",
-        "0 root 0x40;block 64 12 090000000000000000000000;",
-    ),
-    (
-        INSERTED,
-        "3 100 Node(Red,Empty,7,Empty) 5",
-        "0 root 0x58;block 64 12 070000000000000000000000;block 76 12 050000000000000000000000;block 88 12 070000004c00000000000000;",
-    ),
-    // a block of 9 bytes behind one of 2, and one of 2 behind one of 9, each at the next multiple of 4
-    (
-        TURNED,
-        "1 77 Dot(5) 258",
-        "0 root 0x11;block 64 2 0005;block 68 9 010201000005000000;",
-    ),
-    (
-        TURNED,
-        "1 76 Dot(5) 258",
-        "5 ribbit: region full: next 66, size 9, align 4, limit 76;",
-    ),
-    (
-        TURNED,
-        "1 78 Box(258,7) 0",
-        "0 root 0x13;block 64 9 010201000007000000;block 76 2 0007;",
-    ),
-    (
-        TURNED,
-        "1 77 Box(258,7) 0",
-        "5 ribbit: region full: next 73, size 2, align 4, limit 77;",
-    ),
-    (
-        SWAPPED,
-        "1 112 Two(5,6)",
-        "0 root 0xc;block 64 8 0600000000000000;block 72 16 05000000000000000800000000000000;block 88 8 0500000000000000;block 96 16 06000000000000000b00000000000000;",
-    ),
-    // 2730 is 101010101010 in bits
-    (MADE_BRANCH, "1 64 0 1 2 4", "0 root 0x208463;"),
-    (MADE_BRANCH, "1 64 7 31 30 2730", "0 root 0xd5effa63;"),
-    (
-        MADE_TRIO,
-        "1 64 Tagged(A,5) 8 Tagged(B,3)",
-        "0 root 0xe100a;",
-    ),
-    (
-        MADE_TRIO,
-        "1 64 Tagged(B,5) 8 Tagged(A,3)",
-        "0 root 0xc0a11;",
-    ),
-];
+// For each file limits and fields, and the answer: values as the code makes them. The words and the bytes of the
+// blocks were worked out by hand from the layouts, with the blocks of arguments first, and then inner blocks before
+// outer ones.
+const MADE_AS_LIST: &str =
+    "1 96~0 root 0x50;block 64 16 02000000000000000100000000000000;block 80 16 01000000000000004000000000000000;
+1 95~5 ribbit: region full: next 80, size 16, align 8, limit 95;";
+
+const MADE_AS_SHAPE: &str = "1 73~0 root 0x10;block 64 9 010100000002000000;
+1 72~5 ribbit: region full: next 64, size 9, align 4, limit 72;";
+
+const MADE_AS_PAIR: &str =
+    "1 88~0 root 0x9;block 64 8 0600000000000000;block 72 16 05000000000000000800000000000000;
+1 87~5 ribbit: region full: next 72, size 16, align 8, limit 87;
+1 71~5 ribbit: region full: next 64, size 8, align 8, limit 71;";
+
+const MADE_AS_NIL: &str = "1 64~0 root 0x1;";
+
+// behind the 9 stands the pointer to the block of the argument
+const MADE_BY_PUSHED: &str =
+    "1 96 Cons(1,Nil)~0 root 0x50;block 64 16 01000000000000000100000000000000;block 80 16 09000000000000004000000000000000;";
+
+const MADE_AS_EMPTY: &str = "1 64~0 root 0x0;";
+
+const MADE_AS_NODE: &str = "1 76 Red 7~0 root 0x40;block 64 12 070000000000000000000000;
+1 76 Black 7~0 root 0x41;block 64 12 070000000000000000000000;";
+
+const MADE_AS_TREE: &str =
+    "1 100~0 root 0x59;block 64 12 010000000000000000000000;block 76 12 030000000000000000000000;block 88 12 02000000400000004d000000;
+1 99~5 ribbit: region full: next 88, size 12, align 4, limit 99;";
+
+// a number is inserted into no node, to the left, and where it is; the node's color stays
+const MADE_BY_INSERT: &str = "2 76 Empty 9~0 root 0x40;block 64 12 090000000000000000000000;
+3 100 Node(Red,Empty,7,Empty) 5~0 root 0x58;block 64 12 070000000000000000000000;block 76 12 050000000000000000000000;block 88 12 070000004c00000000000000;
+2 76 Node(Black,Empty,7,Empty) 7~0 root 0x41;block 64 12 070000000000000000000000;";
+
+const MADE_BY_INSERTED: &str = "2 76 Empty 9~0 root 0x40;block 64 12 090000000000000000000000;
+3 100 Node(Red,Empty,7,Empty) 5~0 root 0x58;block 64 12 070000000000000000000000;block 76 12 050000000000000000000000;block 88 12 070000004c00000000000000;";
+
+// a block of 9 bytes behind one of 2, and one of 2 behind one of 9, each at the next multiple of 4
+const MADE_BY_TURNED: &str =
+    "1 77 Dot(5) 258~0 root 0x11;block 64 2 0005;block 68 9 010201000005000000;
+1 76 Dot(5) 258~5 ribbit: region full: next 66, size 9, align 4, limit 76;
+1 78 Box(258,7) 0~0 root 0x13;block 64 9 010201000007000000;block 76 2 0007;
+1 77 Box(258,7) 0~5 ribbit: region full: next 73, size 2, align 4, limit 77;";
+
+const MADE_BY_SWAPPED: &str =
+    "1 112 Two(5,6)~0 root 0xc;block 64 8 0600000000000000;block 72 16 05000000000000000800000000000000;block 88 8 0500000000000000;block 96 16 06000000000000000b00000000000000;";
+
+// 2730 is 101010101010 in bits
+const MADE_AS_BRANCH: &str = "1 64 0 1 2 4~0 root 0x208463;
+1 64 7 31 30 2730~0 root 0xd5effa63;";
+
+const MADE_AS_TRIO: &str = "1 64 Tagged(A,5) 8 Tagged(B,3)~0 root 0xe100a;
+1 64 Tagged(B,5) 8 Tagged(A,3)~0 root 0xc0a11;";
+
+// Values that are made of numbers alone.
+fn expect_made(alloc: Global) -> Result<(), Surprise> {
+    expect_table(alloc, MADE_LIST, "image E ", MADE_AS_LIST)?;
+    expect_table(alloc, MADE_SHAPE, "image E ", MADE_AS_SHAPE)?;
+    expect_table(alloc, MADE_PAIR, "image E ", MADE_AS_PAIR)?;
+    expect_table(alloc, MADE_NIL, "image E ", MADE_AS_NIL)?;
+    expect_table(alloc, PUSHED, "image E ", MADE_BY_PUSHED)?;
+    expect_table(alloc, MADE_EMPTY, "image E ", MADE_AS_EMPTY)?;
+    expect_table(alloc, MADE_NODE, "image E ", MADE_AS_NODE)?;
+    expect_table(alloc, MADE_TREE, "image E ", MADE_AS_TREE)
+}
+
+// Values that are made of others.
+fn expect_changed(alloc: Global) -> Result<(), Surprise> {
+    expect_table(alloc, INSERT, "image E ", MADE_BY_INSERT)?;
+    expect_table(alloc, INSERTED, "image E ", MADE_BY_INSERTED)?;
+    expect_table(alloc, TURNED, "image E ", MADE_BY_TURNED)?;
+    expect_table(alloc, SWAPPED, "image E ", MADE_BY_SWAPPED)?;
+    expect_table(alloc, MADE_BRANCH, "image E ", MADE_AS_BRANCH)?;
+    expect_table(alloc, MADE_TRIO, "image E ", MADE_AS_TRIO)
+}
 
 #[test]
 fn images_of_constructions(rt: HostRuntime) -> Result<(), Surprise> {
-    expect_rows(rt.alloc(), "image E ", &MADE)
+    let alloc = rt.alloc();
+    expect_made(alloc)?;
+    expect_changed(alloc)
 }
 
-// File, limits and values, answer.
-const ROWS: [(&str, &str, &str); 20] = [
-    (
-        LIST,
-        "1 1024 Cons(1,Cons(2,Nil))",
-        "0 root 0x50;block 64 16 02000000000000000100000000000000;block 80 16 01000000000000004000000000000000;",
-    ),
-    (LIST, "1 64 Nil", "0 root 0x1;"),
-    (LIST, "0 1024 Nil", "4 ribbit: calls spent: 0;"),
-    (
-        LIST,
-        "0 64 Cons(1,Nil)",
-        "5 ribbit: region full: next 64, size 16, align 8, limit 64;",
-    ),
-    (LIST, "1 1024", "10 ribbit: wanted 1 arguments, found 0;"),
-    (
-        LIST,
-        "1 1024 Cons(1)",
-        "10 ribbit: argument 1: no value of List at byte 0;",
-    ),
-    (
-        LISTS,
-        "1 1024 Cons(5,Nil) Cons(5,Nil)",
-        "0 root 0x50;block 64 16 05000000000000000100000000000000;block 80 16 05000000000000000100000000000000;",
-    ),
-    (
-        LISTS,
-        "1 95 Cons(5,Nil) Cons(5,Nil)",
-        "5 ribbit: region full: next 80, size 16, align 8, limit 95;",
-    ),
-    (
-        INSERT,
-        "3 100 Node(Black,Empty,7,Empty) 9",
-        "0 root 0x59;block 64 12 070000000000000000000000;block 76 12 090000000000000000000000;block 88 12 07000000000000004c000000;",
-    ),
-    (
-        INSERT,
-        "3 99 Node(Black,Empty,7,Empty) 9",
-        "5 ribbit: region full: next 88, size 12, align 4, limit 99;",
-    ),
-    (
-        TREE,
-        "1 76 Node(Black,Empty,7,Empty)",
-        "0 root 0x41;block 64 12 070000000000000000000000;",
-    ),
-    (BRANCH, "1 64 Branch(0,1,2,4)", "0 root 0x208463;"),
-    (
-        SHAPE,
-        "1 1024 Box(1,2)",
-        "0 root 0x3;block 64 9 010100000002000000;",
-    ),
-    (
-        SAME,
-        "1 1024 Box(1,2)",
-        "0 root 0x10;block 64 9 010100000002000000;",
-    ),
-    (
-        PAIR,
-        "1 1024 Two(5,6)",
-        "0 root 0x9;block 64 8 0600000000000000;block 72 16 05000000000000000800000000000000;",
-    ),
-    (
-        OPTION,
-        "1 1024 Yes(Node(Black,Empty,7,Empty))",
-        "0 root 0x41;block 64 12 070000000000000000000000;",
-    ),
-    (OPTION, "1 64 No", "0 root 0x1;"),
-    (OPTION, "1 64 Yes(Empty)", "0 root 0x0;"),
-    (PADDED, "1 80 255", "0 root 0x8;block 64 6 ff00000000ff;"),
-    (
-        WIDE,
-        "1 64 18446744073709551615 4096",
-        "0 root 0x0 0x1000 0xffffffffffffffff;",
-    ),
-];
+// For each file limits and values, and the answer.
+const LIST_ROWS: &str =
+    "1 1024 Cons(1,Cons(2,Nil))~0 root 0x50;block 64 16 02000000000000000100000000000000;block 80 16 01000000000000004000000000000000;
+1 64 Nil~0 root 0x1;
+0 1024 Nil~4 ribbit: calls spent: 0;
+0 64 Cons(1,Nil)~5 ribbit: region full: next 64, size 16, align 8, limit 64;
+1 1024~10 ribbit: wanted 1 arguments, found 0;
+1 1024 Cons(1)~10 ribbit: argument 1: no value of List at byte 0;";
+
+const LISTS_ROWS: &str =
+    "1 1024 Cons(5,Nil) Cons(5,Nil)~0 root 0x50;block 64 16 05000000000000000100000000000000;block 80 16 05000000000000000100000000000000;
+1 95 Cons(5,Nil) Cons(5,Nil)~5 ribbit: region full: next 80, size 16, align 8, limit 95;";
+
+const INSERT_ROWS: &str =
+    "3 100 Node(Black,Empty,7,Empty) 9~0 root 0x59;block 64 12 070000000000000000000000;block 76 12 090000000000000000000000;block 88 12 07000000000000004c000000;
+3 99 Node(Black,Empty,7,Empty) 9~5 ribbit: region full: next 88, size 12, align 4, limit 99;";
+
+const TREE_ROWS: &str =
+    "1 76 Node(Black,Empty,7,Empty)~0 root 0x41;block 64 12 070000000000000000000000;";
+
+const BRANCH_ROWS: &str = "1 64 Branch(0,1,2,4)~0 root 0x208463;";
+
+const SHAPE_ROWS: &str = "1 1024 Box(1,2)~0 root 0x3;block 64 9 010100000002000000;";
+
+const SAME_ROWS: &str = "1 1024 Box(1,2)~0 root 0x10;block 64 9 010100000002000000;";
+
+const PAIR_ROWS: &str =
+    "1 1024 Two(5,6)~0 root 0x9;block 64 8 0600000000000000;block 72 16 05000000000000000800000000000000;";
+
+const OPTION_ROWS: &str =
+    "1 1024 Yes(Node(Black,Empty,7,Empty))~0 root 0x41;block 64 12 070000000000000000000000;
+1 64 No~0 root 0x1;
+1 64 Yes(Empty)~0 root 0x0;";
+
+const PADDED_ROWS: &str = "1 80 255~0 root 0x8;block 64 6 ff00000000ff;";
+
+const WIDE_ROWS: &str = "1 64 18446744073709551615 4096~0 root 0x0 0x1000 0xffffffffffffffff;";
+
+// Lists, trees and instructions.
+fn expect_trees(alloc: Global) -> Result<(), Surprise> {
+    expect_table(alloc, LIST, "image E ", LIST_ROWS)?;
+    expect_table(alloc, LISTS, "image E ", LISTS_ROWS)?;
+    expect_table(alloc, INSERT, "image E ", INSERT_ROWS)?;
+    expect_table(alloc, TREE, "image E ", TREE_ROWS)?;
+    expect_table(alloc, BRANCH, "image E ", BRANCH_ROWS)
+}
+
+// Shapes, pairs and words.
+fn expect_others(alloc: Global) -> Result<(), Surprise> {
+    expect_table(alloc, SHAPE, "image E ", SHAPE_ROWS)?;
+    expect_table(alloc, SAME, "image E ", SAME_ROWS)?;
+    expect_table(alloc, PAIR, "image E ", PAIR_ROWS)?;
+    expect_table(alloc, OPTION, "image E ", OPTION_ROWS)?;
+    expect_table(alloc, PADDED, "image E ", PADDED_ROWS)?;
+    expect_table(alloc, WIDE, "image E ", WIDE_ROWS)
+}
 
 #[test]
 fn images_of_values(rt: HostRuntime) -> Result<(), Surprise> {
-    expect_rows(rt.alloc(), "image E ", &ROWS)
+    let alloc = rt.alloc();
+    expect_trees(alloc)?;
+    expect_others(alloc)
 }
 
 // A number of two bytes, the lower one first, in hexadecimal digits.

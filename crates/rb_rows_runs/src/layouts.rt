@@ -2,7 +2,7 @@
 //! this one, written from the language's pages alone.
 
 use rb_rows_calls::call::{expect_answer, repeated_text};
-use rb_rows_calls::rows::{expect_rows, expect_words};
+use rb_rows_calls::rows::{expect_table, expect_words};
 use rb_rows_calls::surprise::Surprise;
 use std::alloc::{AllocError, Global};
 
@@ -42,116 +42,71 @@ pub const TWIN: &str =
 const COLOR: &str =
     "type Color = Red | Black; layout Color <1> = split 0[0:1] { 0 => Red : { word 1 { [0:1] = 0 } } 1 => Black : { word 1 { [0:1] = 1 } } }; fun other(c: Color): Color = match c { Red => Black, Black => Red }; fun main(c: Color): Color = other(c);";
 
-// File, limits and values, answer.
-const ROWS: [(&str, &str, &str); 31] = [
-    (SUM, "10 1024 Cons(1,Cons(2,Nil))", "0 3;"),
-    (SUM, "4 1024 Cons(1,Cons(2,Nil))", "0 3;"),
-    (
-        SUM,
-        "3 1024 Cons(1,Cons(2,Nil))",
-        "4 ribbit: calls spent: 3;",
-    ),
-    (SUM, "10 96 Cons(1,Cons(2,Nil))", "0 3;"),
-    (
-        SUM,
-        "10 95 Cons(1,Cons(2,Nil))",
-        "5 ribbit: region full: next 80, size 16, align 8, limit 95;",
-    ),
-    (SUM, "2 64 Nil", "0 0;"),
-    (SUM, "0 1024 Nil", "4 ribbit: calls spent: 0;"),
-    (
-        SUM,
-        "0 64 Cons(1,Nil)",
-        "5 ribbit: region full: next 64, size 16, align 8, limit 64;",
-    ),
-    (SUM, "10 1024", "10 ribbit: wanted 1 arguments, found 0;"),
-    (
-        SUM,
-        "10 1024 Nil Nil",
-        "10 ribbit: wanted 1 arguments, found 2;",
-    ),
-    (
-        SUM,
-        "10 1024 Cons(1)",
-        "10 ribbit: argument 1: no value of List at byte 0;",
-    ),
-    (
-        SUM,
-        "10 1024 Cons(1,Cons(Nil,Nil))",
-        "10 ribbit: argument 1: no value of List at byte 12;",
-    ),
-    (
-        SUM,
-        "10 1024 Cons(1,Nil",
-        "10 ribbit: argument 1: syntax at byte 10;",
-    ),
-    (
-        SUM,
-        "10 1024 Cons(1,5)",
-        "10 ribbit: argument 1: no value of List at byte 7;",
-    ),
-    (
-        LIST,
-        "1 1024 Cons(18446744073709551615,Cons(2,Nil))",
-        "0 Cons(18446744073709551615, Cons(2, Nil));",
-    ),
-    (
-        INSERT,
-        "3 100 Node(Black,Empty,7,Empty) 9",
-        "0 Node(Black, Empty, 7, Node(Red, Empty, 9, Empty));",
-    ),
-    (
-        INSERT,
-        "3 99 Node(Black,Empty,7,Empty) 9",
-        "5 ribbit: region full: next 88, size 12, align 4, limit 99;",
-    ),
-    (
-        INSERT,
-        "2 100 Node(Black,Empty,7,Empty) 9",
-        "4 ribbit: calls spent: 2;",
-    ),
-    (
-        INSERT,
-        "9 1024 Node(Black,Empty,7,Empty) 4294967296",
-        "10 ribbit: argument 2: no value of u32 at byte 0;",
-    ),
-    (
-        INSERT,
-        "9 1024 Node(Black,Empty,7,Empty) 7",
-        "0 Node(Black, Empty, 7, Empty);",
-    ),
-    (
-        INSERT,
-        "9 1024 Node(Blue,Empty,7,Empty) 7",
-        "10 ribbit: argument 1: no value of Tree at byte 5;",
-    ),
-    (SHAPE, "1 1024 Box(1,2)", "0 3;"),
-    (SHAPE, "1 1024 Dot(255)", "0 255;"),
-    (SHAPES, "1 78 Box(1,2) Dot(5)", "0 0;"),
-    (
-        SHAPES,
-        "1 77 Box(1,2) Dot(5)",
-        "5 ribbit: region full: next 73, size 2, align 4, limit 77;",
-    ),
-    (PAIR, "1 1024 Two(5,6)", "0 Two(5, 6);"),
-    (
-        BRANCH,
-        "1 64 Branch(7,31,30,2730)",
-        "0 Branch(7, 31, 30, 2730);",
-    ),
-    (
-        BRANCH,
-        "1 64 Branch(8,31,30,2730)",
-        "10 ribbit: argument 1: no value of Instr at byte 7;",
-    ),
-    (TWIN, "40 1024 2", "0 Fork(Fork(Tip, Tip), Fork(Tip, Tip));"),
-    (COLOR, "4 64 Red", "0 Black;"),
-    (COLOR, "4 64 Black", "0 Red;"),
-];
+// For each file limits and values, and the answer.
+const SUM_ROWS: &str = "10 1024 Cons(1,Cons(2,Nil))~0 3;
+4 1024 Cons(1,Cons(2,Nil))~0 3;
+3 1024 Cons(1,Cons(2,Nil))~4 ribbit: calls spent: 3;
+10 96 Cons(1,Cons(2,Nil))~0 3;
+10 95 Cons(1,Cons(2,Nil))~5 ribbit: region full: next 80, size 16, align 8, limit 95;
+2 64 Nil~0 0;
+0 1024 Nil~4 ribbit: calls spent: 0;
+0 64 Cons(1,Nil)~5 ribbit: region full: next 64, size 16, align 8, limit 64;
+10 1024~10 ribbit: wanted 1 arguments, found 0;
+10 1024 Nil Nil~10 ribbit: wanted 1 arguments, found 2;
+10 1024 Cons(1)~10 ribbit: argument 1: no value of List at byte 0;
+10 1024 Cons(1,Cons(Nil,Nil))~10 ribbit: argument 1: no value of List at byte 12;
+10 1024 Cons(1,Nil~10 ribbit: argument 1: syntax at byte 10;
+10 1024 Cons(1,5)~10 ribbit: argument 1: no value of List at byte 7;";
+
+const LIST_ROWS: &str =
+    "1 1024 Cons(18446744073709551615,Cons(2,Nil))~0 Cons(18446744073709551615, Cons(2, Nil));";
+
+const INSERT_ROWS: &str =
+    "3 100 Node(Black,Empty,7,Empty) 9~0 Node(Black, Empty, 7, Node(Red, Empty, 9, Empty));
+3 99 Node(Black,Empty,7,Empty) 9~5 ribbit: region full: next 88, size 12, align 4, limit 99;
+2 100 Node(Black,Empty,7,Empty) 9~4 ribbit: calls spent: 2;
+9 1024 Node(Black,Empty,7,Empty) 4294967296~10 ribbit: argument 2: no value of u32 at byte 0;
+9 1024 Node(Black,Empty,7,Empty) 7~0 Node(Black, Empty, 7, Empty);
+9 1024 Node(Blue,Empty,7,Empty) 7~10 ribbit: argument 1: no value of Tree at byte 5;";
+
+const SHAPE_ROWS: &str = "1 1024 Box(1,2)~0 3;
+1 1024 Dot(255)~0 255;";
+
+const SHAPES_ROWS: &str = "1 78 Box(1,2) Dot(5)~0 0;
+1 77 Box(1,2) Dot(5)~5 ribbit: region full: next 73, size 2, align 4, limit 77;";
+
+const PAIR_ROWS: &str = "1 1024 Two(5,6)~0 Two(5, 6);";
+
+const BRANCH_ROWS: &str = "1 64 Branch(7,31,30,2730)~0 Branch(7, 31, 30, 2730);
+1 64 Branch(8,31,30,2730)~10 ribbit: argument 1: no value of Instr at byte 7;";
+
+const TWIN_ROWS: &str = "40 1024 2~0 Fork(Fork(Tip, Tip), Fork(Tip, Tip));";
+
+const COLOR_ROWS: &str = "4 64 Red~0 Black;
+4 64 Black~0 Red;";
+
+// Lists and trees.
+fn expect_trees(alloc: Global) -> Result<(), Surprise> {
+    expect_table(alloc, SUM, "run E ", SUM_ROWS)?;
+    expect_table(alloc, LIST, "run E ", LIST_ROWS)?;
+    expect_table(alloc, INSERT, "run E ", INSERT_ROWS)
+}
+
+// Shapes, pairs and numbers.
+fn expect_others(alloc: Global) -> Result<(), Surprise> {
+    expect_table(alloc, SHAPE, "run E ", SHAPE_ROWS)?;
+    expect_table(alloc, SHAPES, "run E ", SHAPES_ROWS)?;
+    expect_table(alloc, PAIR, "run E ", PAIR_ROWS)?;
+    expect_table(alloc, BRANCH, "run E ", BRANCH_ROWS)?;
+    expect_table(alloc, TWIN, "run E ", TWIN_ROWS)?;
+    expect_table(alloc, COLOR, "run E ", COLOR_ROWS)
+}
 
 #[test]
 fn runs_with_layouts(rt: HostRuntime) -> Result<(), Surprise> {
-    expect_rows(rt.alloc(), "run E ", &ROWS)
+    let alloc = rt.alloc();
+    expect_trees(alloc)?;
+    expect_others(alloc)
 }
 
 // Words and answers: a million nodes and more in 304 bytes, and two billion in 480. In the third row
@@ -179,52 +134,32 @@ pub const PUSHED: &str =
 const FIRST: &str =
     "type List = Nil | Cons(u64, List); layout List <64> = split 0[0:1] { 1 => Nil : { word 64 { [0:1] = 1 } } 0 => Cons(_, _) : { word 64 { [0:1] = 0, [3:61] -> 8 { word 64 { [0:64] .0 }, inline .1 } } } };fun main(l: List): u64 = match l { Nil => 0, Cons(x, r) => x };";
 
-// File, limits and values, answer.
-const LISTS: [(&str, &str, &str); 11] = [
-    (
-        LIST,
-        "1 1024 Cons(1,Cons(2,Nil))",
-        "0 Cons(1, Cons(2, Nil));",
-    ),
-    (
-        LIST,
-        "1 1024 Cons(1,\tCons(2,\nNil))",
-        "0 Cons(1, Cons(2, Nil));",
-    ),
-    (
-        LIST,
-        "1 95 Cons(1,Cons(2,Nil))",
-        "5 ribbit: region full: next 80, size 16, align 8, limit 95;",
-    ),
-    (
-        LIST,
-        "0 64 Cons(1,Nil)",
-        "5 ribbit: region full: next 64, size 16, align 8, limit 64;",
-    ),
-    (LIST, "10 1024", "10 ribbit: wanted 1 arguments, found 0;"),
-    (
-        LIST,
-        "10 1024 Cons(1)",
-        "10 ribbit: argument 1: no value of List at byte 0;",
-    ),
-    (
-        LIST,
-        "1 64 18446744073709551616",
-        "10 ribbit: argument 1: syntax at byte 0;",
-    ),
-    (PUSHED, "1 80 Nil", "0 Cons(9, Nil);"),
-    (
-        PUSHED,
-        "1 79 Nil",
-        "5 ribbit: region full: next 64, size 16, align 8, limit 79;",
-    ),
-    (FIRST, "1 80 Cons(5,Nil)", "0 5;"),
-    (FIRST, "1 64 Nil", "0 0;"),
-];
+// The same.
+const LISTS: &str = "1 1024 Cons(1,Cons(2,Nil))~0 Cons(1, Cons(2, Nil));
+1 95 Cons(1,Cons(2,Nil))~5 ribbit: region full: next 80, size 16, align 8, limit 95;
+0 64 Cons(1,Nil)~5 ribbit: region full: next 64, size 16, align 8, limit 64;
+10 1024~10 ribbit: wanted 1 arguments, found 0;
+10 1024 Cons(1)~10 ribbit: argument 1: no value of List at byte 0;
+1 64 18446744073709551616~10 ribbit: argument 1: syntax at byte 0;";
+
+const PUSHED_LISTS: &str = "1 80 Nil~0 Cons(9, Nil);
+1 79 Nil~5 ribbit: region full: next 64, size 16, align 8, limit 79;";
+
+const FIRST_LISTS: &str = "1 80 Cons(5,Nil)~0 5;
+1 64 Nil~0 0;";
 
 #[test]
 fn lists_as_they_are(rt: HostRuntime) -> Result<(), Surprise> {
-    expect_rows(rt.alloc(), "run E ", &LISTS)
+    let alloc = rt.alloc();
+    expect_table(alloc, LIST, "run E ", LISTS)?;
+    expect_table(alloc, PUSHED, "run E ", PUSHED_LISTS)?;
+    expect_table(alloc, FIRST, "run E ", FIRST_LISTS)?;
+    expect_answer(
+        alloc,
+        "run E 1 1024 Cons(1,\tCons(2,\nNil))",
+        LIST.as_bytes(),
+        "0 Cons(1, Cons(2, Nil));",
+    )
 }
 
 // A list of so many ones, with this between a number and the rest.

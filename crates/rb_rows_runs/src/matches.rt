@@ -4,31 +4,32 @@
 
 use crate::counts::FOUR;
 use rb_rows_calls::counts::expect_counts;
-use rb_rows_calls::rows::expect_rows;
+use rb_rows_calls::rows::expect_table;
 use rb_rows_calls::surprise::Surprise;
 
 // Two pairs of a bit and a byte, with a byte between; which bit the first has its leaf tells alone.
 const BETWEEN: &str =
     "type K = A | B;layout K <1> = split 0[0:1] { 0 => A : { word 1 { [0:1] = 0 } } 1 => B : { word 1 { [0:1] = 1 } } };type P = Tagged(K, u8);layout P <9> = Tagged(_, _) : { word 9 { [0:1] .0, [1:8] .1 } };type D = Trio(P, u8, P);layout D <40> = split 0[0:1] { 0 => Trio(Tagged(A, _), _, _) : { word 40 { [0:1] = 0, [1:8] .0.1, [9:8] .1, [17:9] .2 } } 1 => Trio(Tagged(B, _), _, _) : { word 40 { [0:1] = 1, [1:8] .1, [9:8] .0.1, [17:9] .2 } } };fun main(d: D): u8 = match d { Trio(Tagged(A, 3), 7, Tagged(A, _)) => 1, Trio(_, 7, Tagged(B, _)) => 2, Trio(Tagged(B, x), 8, _) => x, Trio(p, _, q) => match p { Tagged(_, y) => y } };";
 
-// File, value, answer.
-const ROWS: [(&str, &str, &str); 11] = [
-    (FOUR, "Q4(A,A,B,B)", "0 1;"),
-    (FOUR, "Q4(B,A,A,A)", "0 2;"),
-    (FOUR, "Q4(A,B,A,B)", "0 3;"),
-    (BETWEEN, "Trio(Tagged(A,3),7,Tagged(A,9))", "0 1;"),
-    (BETWEEN, "Trio(Tagged(A,3),7,Tagged(B,9))", "0 2;"),
-    (BETWEEN, "Trio(Tagged(B,5),7,Tagged(B,1))", "0 2;"),
-    (BETWEEN, "Trio(Tagged(B,5),8,Tagged(A,0))", "0 5;"),
-    (BETWEEN, "Trio(Tagged(A,4),7,Tagged(A,0))", "0 4;"),
-    (BETWEEN, "Trio(Tagged(A,6),8,Tagged(A,0))", "0 6;"),
-    (BETWEEN, "Trio(Tagged(B,250),7,Tagged(A,0))", "0 250;"),
-    (BETWEEN, "Trio(Tagged(B,255),9,Tagged(B,0))", "0 255;"),
-];
+// For each file values, and their answers.
+const FOUR_ROWS: &str = "Q4(A,A,B,B)~0 1;
+Q4(B,A,A,A)~0 2;
+Q4(A,B,A,B)~0 3;";
+
+const BETWEEN_ROWS: &str = "Trio(Tagged(A,3),7,Tagged(A,9))~0 1;
+Trio(Tagged(A,3),7,Tagged(B,9))~0 2;
+Trio(Tagged(B,5),7,Tagged(B,1))~0 2;
+Trio(Tagged(B,5),8,Tagged(A,0))~0 5;
+Trio(Tagged(A,4),7,Tagged(A,0))~0 4;
+Trio(Tagged(A,6),8,Tagged(A,0))~0 6;
+Trio(Tagged(B,250),7,Tagged(A,0))~0 250;
+Trio(Tagged(B,255),9,Tagged(B,0))~0 255;";
 
 #[test]
 fn clauses_of_values(rt: HostRuntime) -> Result<(), Surprise> {
-    expect_rows(rt.alloc(), "run E 1 64 ", &ROWS)
+    let alloc = rt.alloc();
+    expect_table(alloc, FOUR, "run E 1 64 ", FOUR_ROWS)?;
+    expect_table(alloc, BETWEEN, "run E 1 64 ", BETWEEN_ROWS)
 }
 
 // The whole may cost two switches, each of two bits and two numbers one.
@@ -68,50 +69,51 @@ const SLICED: &str =
 const FORKED: &str =
     "type Twin = Tip | Fork(Twin, Twin);layout Twin <64> = split 0[0:1] { 1 => Tip : { word 64 { [0:1] = 1 } } 0 => Fork(_, _) : { word 64 { [0:1] = 0, [3:61] -> 8 { inline .0, inline .1 } } } };fun main(t: Twin): u8 = match t { Tip => 1, Fork(Tip, Tip) => 2, Fork(Fork(_, _), Tip) => 3, Fork(_, Fork(x, _)) => match x { Tip => 4, Fork(_, _) => 5 } };";
 
-// File, value, answer: for each clause of each match a value that takes it. Where a later clause would match the value,
-// too, it would answer something else.
-const CLAUSES: [(&str, &str, &str); 30] = [
-    (LISTED, "Nil", "0 1;"),
-    (LISTED, "Cons(5,Nil)", "0 2;"),
-    (LISTED, "Cons(9,Nil)", "0 9;"),
-    (LISTED, "Cons(5,Cons(0,Nil))", "0 3;"),
-    (LISTED, "Cons(5,Cons(6,Nil))", "0 106;"),
-    (LISTED, "Cons(5,Cons(6,Cons(8,Nil)))", "0 8;"),
-    (GROWN, "Empty", "0 1;"),
-    (GROWN, "Node(Red,Node(Black,Empty,8,Empty),9,Empty)", "0 8;"),
-    (GROWN, "Node(Black,Empty,7,Empty)", "0 2;"),
-    (
-        GROWN,
-        "Node(Black,Empty,7,Node(Red,Empty,40,Empty))",
-        "0 40;",
-    ),
-    (
-        GROWN,
-        "Node(Black,Empty,7,Node(Black,Empty,40,Empty))",
-        "0 3;",
-    ),
-    (GROWN, "Node(Red,Node(Red,Empty,8,Empty),9,Empty)", "0 9;"),
-    (GROWN, "Node(Black,Empty,6,Empty)", "0 6;"),
-    (SHAPED, "Dot(0)", "0 1;"),
-    (SHAPED, "Dot(255)", "0 255;"),
-    (SHAPED, "Box(3,5)", "0 3;"),
-    (SHAPED, "Box(3,6)", "0 6;"),
-    (SHAPED, "Box(2,2)", "0 7;"),
-    (PAIRED, "Two(5,6)", "0 6;"),
-    (PAIRED, "Two(4,6)", "0 4;"),
-    (PAIRED, "Two(6,5)", "0 7;"),
-    (SLICED, "Branch(7,1,2,2730)", "0 2730;"),
-    (SLICED, "Branch(6,31,2,2730)", "0 1;"),
-    (SLICED, "Branch(6,31,30,2729)", "0 30;"),
-    (SLICED, "Branch(6,30,31,0)", "0 9;"),
-    (FORKED, "Tip", "0 1;"),
-    (FORKED, "Fork(Tip,Tip)", "0 2;"),
-    (FORKED, "Fork(Fork(Tip,Tip),Tip)", "0 3;"),
-    (FORKED, "Fork(Tip,Fork(Tip,Tip))", "0 4;"),
-    (FORKED, "Fork(Tip,Fork(Fork(Tip,Tip),Tip))", "0 5;"),
-];
+// For each file values, and their answers: for each clause of each match a value that takes it. Where a later clause
+// would match the value, too, it would answer something else.
+const LISTED_ROWS: &str = "Nil~0 1;
+Cons(5,Nil)~0 2;
+Cons(9,Nil)~0 9;
+Cons(5,Cons(0,Nil))~0 3;
+Cons(5,Cons(6,Nil))~0 106;
+Cons(5,Cons(6,Cons(8,Nil)))~0 8;";
+
+const GROWN_ROWS: &str = "Empty~0 1;
+Node(Red,Node(Black,Empty,8,Empty),9,Empty)~0 8;
+Node(Black,Empty,7,Empty)~0 2;
+Node(Black,Empty,7,Node(Red,Empty,40,Empty))~0 40;
+Node(Black,Empty,7,Node(Black,Empty,40,Empty))~0 3;
+Node(Red,Node(Red,Empty,8,Empty),9,Empty)~0 9;
+Node(Black,Empty,6,Empty)~0 6;";
+
+const SHAPED_ROWS: &str = "Dot(0)~0 1;
+Dot(255)~0 255;
+Box(3,5)~0 3;
+Box(3,6)~0 6;
+Box(2,2)~0 7;";
+
+const PAIRED_ROWS: &str = "Two(5,6)~0 6;
+Two(4,6)~0 4;
+Two(6,5)~0 7;";
+
+const SLICED_ROWS: &str = "Branch(7,1,2,2730)~0 2730;
+Branch(6,31,2,2730)~0 1;
+Branch(6,31,30,2729)~0 30;
+Branch(6,30,31,0)~0 9;";
+
+const FORKED_ROWS: &str = "Tip~0 1;
+Fork(Tip,Tip)~0 2;
+Fork(Fork(Tip,Tip),Tip)~0 3;
+Fork(Tip,Fork(Tip,Tip))~0 4;
+Fork(Tip,Fork(Fork(Tip,Tip),Tip))~0 5;";
 
 #[test]
 fn each_clause_is_taken(rt: HostRuntime) -> Result<(), Surprise> {
-    expect_rows(rt.alloc(), "run E 1 1024 ", &CLAUSES)
+    let alloc = rt.alloc();
+    expect_table(alloc, LISTED, "run E 1 1024 ", LISTED_ROWS)?;
+    expect_table(alloc, GROWN, "run E 1 1024 ", GROWN_ROWS)?;
+    expect_table(alloc, SHAPED, "run E 1 1024 ", SHAPED_ROWS)?;
+    expect_table(alloc, PAIRED, "run E 1 1024 ", PAIRED_ROWS)?;
+    expect_table(alloc, SLICED, "run E 1 1024 ", SLICED_ROWS)?;
+    expect_table(alloc, FORKED, "run E 1 1024 ", FORKED_ROWS)
 }

@@ -7,7 +7,7 @@ use crate::images::{OPTION, PADDED};
 use crate::layouts::{INSERT, LIST, PAIR, PUSHED, SHAPE, SHAPES, SUM, TWIN};
 use crate::long::UP;
 use rb_rows_calls::call::expect_answer;
-use rb_rows_calls::rows::expect_rows;
+use rb_rows_calls::rows::expect_table;
 use rb_rows_calls::surprise::Surprise;
 use std::alloc::Global;
 
@@ -170,33 +170,20 @@ fn others_at_their_needs(rt: HostRuntime) -> Result<(), Surprise> {
     expect_needs(rt.alloc(), &OF_OTHERS)
 }
 
-// File, limits and values, answer: where both limits would be passed, the first is named.
-const FIRST: [(&str, &str, &str); 6] = [
-    (UP, "3 111 3", "4 ribbit: calls spent: 3;"),
-    (
-        UP,
-        "4 111 3",
-        "5 ribbit: region full: next 96, size 16, align 8, limit 111;",
-    ),
-    (BUILT, "4 64 3", "4 ribbit: calls spent: 4;"),
-    (
-        BUILT,
-        "5 64 3",
-        "5 ribbit: region full: next 64, size 16, align 8, limit 64;",
-    ),
-    (
-        INSERT,
-        "2 76 Node(Black,Empty,7,Empty) 9",
-        "4 ribbit: calls spent: 2;",
-    ),
-    (
-        INSERT,
-        "3 76 Node(Black,Empty,7,Empty) 9",
-        "5 ribbit: region full: next 76, size 12, align 4, limit 76;",
-    ),
-];
+// For each file limits and values, and the answer: where both limits would be passed, the first is named.
+const UP_FIRST: &str = "3 111 3~4 ribbit: calls spent: 3;
+4 111 3~5 ribbit: region full: next 96, size 16, align 8, limit 111;";
+
+const BUILT_FIRST: &str = "4 64 3~4 ribbit: calls spent: 4;
+5 64 3~5 ribbit: region full: next 64, size 16, align 8, limit 64;";
+
+const INSERT_FIRST: &str = "2 76 Node(Black,Empty,7,Empty) 9~4 ribbit: calls spent: 2;
+3 76 Node(Black,Empty,7,Empty) 9~5 ribbit: region full: next 76, size 12, align 4, limit 76;";
 
 #[test]
 fn the_limit_that_is_passed_first(rt: HostRuntime) -> Result<(), Surprise> {
-    expect_rows(rt.alloc(), "run E ", &FIRST)
+    let alloc = rt.alloc();
+    expect_table(alloc, UP, "run E ", UP_FIRST)?;
+    expect_table(alloc, BUILT, "run E ", BUILT_FIRST)?;
+    expect_table(alloc, INSERT, "run E ", INSERT_FIRST)
 }

@@ -44,7 +44,7 @@ const RING: &str =
     "root 0x50;block 64 16 02000000000000005000000000000000;block 80 16 01000000000000004000000000000000;";
 
 // Parts of a list.
-const LISTS: [Part; 32] = [
+const LISTS: [Part; 16] = [
     // the whole
     (ITEMS, ".", "0 Cons(1, Cons(2, Nil));"),
     // its first item
@@ -93,6 +93,10 @@ const LISTS: [Part; 32] = [
         ".1.0",
         "0 2;",
     ),
+];
+
+// Parts of lists at fault, or beside a fault.
+const TORN_LISTS: [Part; 16] = [
     // no root word
     ("root;", ".0", "16 ribbit: image 42: word 0;"),
     // one too many
@@ -513,7 +517,8 @@ const INTEGERS: [Part; 5] = [
 
 #[test]
 fn lists(rt: HostRuntime) -> Result<(), Surprise> {
-    expect_parts(rt.alloc(), LIST, &LISTS)
+    expect_parts(rt.alloc(), LIST, &LISTS)?;
+    expect_parts(rt.alloc(), LIST, &TORN_LISTS)
 }
 
 #[test]

@@ -5,393 +5,219 @@ use crate::images::{OPTION, SAME, TREE};
 use crate::layouts::{BRANCH, LIST, PAIR, TWIN};
 use rb_rows_calls::call::{answer, call, lines};
 use rb_rows_calls::rows::{ImageRow, expect_held, expect_image};
-use rb_rows_calls::surprise::{Surprise, another};
+use rb_rows_calls::surprise::{Surprise, another, no_row};
 use std::alloc::Global;
 use std::str;
 use std::test::Fail;
 
-// Looks what `value` answers to each image of a file, which has the name `I`.
-fn expect_values(alloc: Global, file: &str, rows: &[(&str, &str)]) -> Result<(), Surprise> {
-    for (image, wanted) in rows {
-        let image = lines(alloc, image)?;
-        expect_image(
-            alloc,
-            "value E I",
-            file.as_bytes(),
-            image.as_slice(),
-            wanted,
-        )?;
+// Looks what `value` answers to each image of a file, which has the name `I`. Each line of the table is an image, a
+// `~`, and the answer; one that begins with a `#` says something of the next.
+fn expect_values(alloc: Global, file: &str, table: &str) -> Result<(), Surprise> {
+    for line in table.split('\n') {
+        expect_value(alloc, file, line)?;
     }
     Ok(())
 }
 
+// Looks so at a line.
+fn expect_value(alloc: Global, file: &str, line: &str) -> Result<(), Surprise> {
+    if line.starts_with('#') {
+        return Ok(());
+    }
+    let Some((image, wanted)) = line.split_once('~') else {
+        return no_row(alloc, line);
+    };
+    let image = lines(alloc, image)?;
+    expect_image(
+        alloc,
+        "value E I",
+        file.as_bytes(),
+        image.as_slice(),
+        wanted,
+    )
+}
+
 // Images of a list.
-const LISTS: [(&str, &str); 40] = [
-    // as `image` writes it
-    (
-        "root 0x50;block 64 16 02000000000000000100000000000000;block 80 16 01000000000000004000000000000000;",
-        "0 Cons(1, Cons(2, Nil));",
-    ),
-    // the inner one; the other block is not reached
-    (
-        "root 0x40;block 64 16 02000000000000000100000000000000;block 80 16 01000000000000004000000000000000;",
-        "0 Cons(2, Nil);",
-    ),
-    // the tag of Nil, beside which all bits are free
-    (
-        "root 0x51;block 64 16 02000000000000000100000000000000;block 80 16 01000000000000004000000000000000;",
-        "0 Nil;",
-    ),
-    // free bits
-    (
-        "root 0x56;block 64 16 02000000000000000100000000000000;block 80 16 01000000000000004000000000000000;",
-        "0 Cons(1, Cons(2, Nil));",
-    ),
-    // the middle of a block
-    (
-        "root 0x48;block 64 16 02000000000000000100000000000000;block 80 16 01000000000000004000000000000000;",
-        "16 ribbit: image 44: base 0, address 72;",
-    ),
-    // the middle of the last block
-    (
-        "root 0x58;block 64 16 02000000000000000100000000000000;block 80 16 01000000000000004000000000000000;",
-        "16 ribbit: image 44: base 0, address 88;",
-    ),
-    // behind the last block
-    (
-        "root 0x60;block 64 16 02000000000000000100000000000000;block 80 16 01000000000000004000000000000000;",
-        "16 ribbit: image 44: base 0, address 96;",
-    ),
-    // before the first block
-    (
-        "root 0x10;block 64 16 02000000000000000100000000000000;block 80 16 01000000000000004000000000000000;",
-        "16 ribbit: image 44: base 0, address 16;",
-    ),
-    // nothing stands at 0
-    (
-        "root 0x0;block 64 16 02000000000000000100000000000000;block 80 16 01000000000000004000000000000000;",
-        "16 ribbit: image 44: base 0, address 0;",
-    ),
-    // an equal address: a cycle of one block
-    (
-        "root 0x50;block 64 16 02000000000000000100000000000000;block 80 16 01000000000000005000000000000000;",
-        "16 ribbit: image 44: base 80, address 80;",
-    ),
-    // upward, into the own block
-    (
-        "root 0x50;block 64 16 02000000000000000100000000000000;block 80 16 01000000000000005800000000000000;",
-        "16 ribbit: image 44: base 80, address 88;",
-    ),
-    // upward, to the end
-    (
-        "root 0x50;block 64 16 02000000000000000100000000000000;block 80 16 01000000000000006000000000000000;",
-        "16 ribbit: image 44: base 80, address 96;",
-    ),
-    // the middle of the block below
-    (
-        "root 0x50;block 64 16 02000000000000000100000000000000;block 80 16 01000000000000004800000000000000;",
-        "16 ribbit: image 44: base 80, address 72;",
-    ),
-    // the highest bit of the pointer
-    (
-        "root 0x50;block 64 16 02000000000000000100000000000000;block 80 16 01000000000000004000000000000080;",
-        "16 ribbit: image 44: base 80, address 9223372036854775872;",
-    ),
-    // the tag of the tail
-    (
-        "root 0x50;block 64 16 02000000000000000100000000000000;block 80 16 01000000000000004100000000000000;",
-        "0 Cons(1, Nil);",
-    ),
-    // the number of an item
-    (
-        "root 0x50;block 64 16 02000000000000000100000000000000;block 80 16 ff000000000000004000000000000000;",
-        "0 Cons(255, Cons(2, Nil));",
-    ),
-    // its highest byte
-    (
-        "root 0x50;block 64 16 02000000000000000100000000000000;block 80 16 01000000000000014000000000000000;",
-        "0 Cons(72057594037927937, Cons(2, Nil));",
-    ),
-    // the tail of the inner one leads to 0
-    (
-        "root 0x50;block 64 16 02000000000000000000000000000000;block 80 16 01000000000000004000000000000000;",
-        "16 ribbit: image 44: base 64, address 0;",
-    ),
-    // upward: a cycle of two blocks
-    (
-        "root 0x50;block 64 16 02000000000000005000000000000000;block 80 16 01000000000000004000000000000000;",
-        "16 ribbit: image 44: base 64, address 80;",
-    ),
-    // a cycle behind a block
-    (
-        "root 0x50;block 64 16 02000000000000004000000000000000;block 80 16 01000000000000004000000000000000;",
-        "16 ribbit: image 44: base 64, address 64;",
-    ),
-    // a free bit beside the tag of Nil
-    (
-        "root 0x50;block 64 16 02000000000000000300000000000000;block 80 16 01000000000000004000000000000000;",
-        "0 Cons(1, Cons(2, Nil));",
-    ),
-    // a digit behind fifteen bytes
-    (
-        "root 0x50;block 64 15 02000000000000000100000000000000;block 80 16 01000000000000004000000000000000;",
-        "16 ribbit: image 40 at byte 52;",
-    ),
-    // a line that ends behind sixteen
-    (
-        "root 0x50;block 64 17 02000000000000000100000000000000;block 80 16 01000000000000004000000000000000;",
-        "16 ribbit: image 40 at byte 54;",
-    ),
-    // one byte into the next
-    (
-        "root 0x50;block 65 16 02000000000000000100000000000000;block 80 16 01000000000000004000000000000000;",
-        "16 ribbit: image 41: block 1;",
-    ),
-    // below 64
-    (
-        "root 0x50;block 44 16 02000000000000000100000000000000;block 80 16 01000000000000004000000000000000;",
-        "16 ribbit: image 41: block 0;",
-    ),
-    // into the one before
-    (
-        "root 0x50;block 64 16 02000000000000000100000000000000;block 70 16 01000000000000004000000000000000;",
-        "16 ribbit: image 41: block 1;",
-    ),
-    // one byte further: nothing begins at 80
-    (
-        "root 0x50;block 64 16 02000000000000000100000000000000;block 81 16 01000000000000004000000000000000;",
-        "16 ribbit: image 44: base 0, address 80;",
-    ),
-    // a capital digit
-    (
-        "root 0x50;block 64 16 02000000000000000100000000000000;block 80 16 0100000000000000400000000000000A;",
-        "16 ribbit: image 40 at byte 98;",
-    ),
-    // no digit
-    (
-        "root 0x5g;block 64 16 02000000000000000100000000000000;block 80 16 01000000000000004000000000000000;",
-        "16 ribbit: image 40 at byte 8;",
-    ),
-    // a digit behind 0
-    (
-        "root 0x00;block 64 16 02000000000000000100000000000000;block 80 16 01000000000000004000000000000000;",
-        "16 ribbit: image 40 at byte 8;",
-    ),
-    // another word
-    (
-        "Root 0x50;block 64 16 02000000000000000100000000000000;block 80 16 01000000000000004000000000000000;",
-        "16 ribbit: image 40 at byte 0;",
-    ),
-    // a capital X
-    (
-        "root 0X50;block 64 16 02000000000000000100000000000000;block 80 16 01000000000000004000000000000000;",
-        "16 ribbit: image 40 at byte 6;",
-    ),
-    // the line does not end
-    (
-        "root 0x50;block 64 16 02000000000000000100000000000000;block 80 16 01000000000000004000000000000000",
-        "16 ribbit: image 40 at byte 99;",
-    ),
-    // nothing at all
-    ("", "16 ribbit: image 40 at byte 0;"),
-    // no text goes on so
-    ("rott", "16 ribbit: image 40 at byte 2;"),
-    // no root word
-    ("root;", "16 ribbit: image 42: word 0;"),
-    // one too many
-    (
-        "root 0x50 0x1;block 64 16 02000000000000000100000000000000;block 80 16 01000000000000004000000000000000;",
-        "16 ribbit: image 42: word 1;",
-    ),
-    // 42 before 44
-    (
-        "root 0x48 0x1;block 64 16 02000000000000000100000000000000;block 80 16 01000000000000004000000000000000;",
-        "16 ribbit: image 42: word 1;",
-    ),
-    // 41, though no block is reached
-    (
-        "root 0x1;block 64 16 00000000000000000000000000000000;block 72 8 0000000000000000;",
-        "16 ribbit: image 41: block 1;",
-    ),
-    // one block that holds itself
-    (
-        "root 0x40;block 64 16 02000000000000004000000000000000;",
-        "16 ribbit: image 44: base 64, address 64;",
-    ),
-];
+const LISTS: &str = "# as `image` writes it
+root 0x50;block 64 16 02000000000000000100000000000000;block 80 16 01000000000000004000000000000000;~0 Cons(1, Cons(2, Nil));
+# the inner one; the other block is not reached
+root 0x40;block 64 16 02000000000000000100000000000000;block 80 16 01000000000000004000000000000000;~0 Cons(2, Nil);
+# the tag of Nil, beside which all bits are free
+root 0x51;block 64 16 02000000000000000100000000000000;block 80 16 01000000000000004000000000000000;~0 Nil;
+# free bits
+root 0x56;block 64 16 02000000000000000100000000000000;block 80 16 01000000000000004000000000000000;~0 Cons(1, Cons(2, Nil));
+# the middle of a block
+root 0x48;block 64 16 02000000000000000100000000000000;block 80 16 01000000000000004000000000000000;~16 ribbit: image 44: base 0, address 72;
+# the middle of the last block
+root 0x58;block 64 16 02000000000000000100000000000000;block 80 16 01000000000000004000000000000000;~16 ribbit: image 44: base 0, address 88;
+# behind the last block
+root 0x60;block 64 16 02000000000000000100000000000000;block 80 16 01000000000000004000000000000000;~16 ribbit: image 44: base 0, address 96;
+# before the first block
+root 0x10;block 64 16 02000000000000000100000000000000;block 80 16 01000000000000004000000000000000;~16 ribbit: image 44: base 0, address 16;
+# nothing stands at 0
+root 0x0;block 64 16 02000000000000000100000000000000;block 80 16 01000000000000004000000000000000;~16 ribbit: image 44: base 0, address 0;
+# an equal address: a cycle of one block
+root 0x50;block 64 16 02000000000000000100000000000000;block 80 16 01000000000000005000000000000000;~16 ribbit: image 44: base 80, address 80;
+# upward, into the own block
+root 0x50;block 64 16 02000000000000000100000000000000;block 80 16 01000000000000005800000000000000;~16 ribbit: image 44: base 80, address 88;
+# upward, to the end
+root 0x50;block 64 16 02000000000000000100000000000000;block 80 16 01000000000000006000000000000000;~16 ribbit: image 44: base 80, address 96;
+# the middle of the block below
+root 0x50;block 64 16 02000000000000000100000000000000;block 80 16 01000000000000004800000000000000;~16 ribbit: image 44: base 80, address 72;
+# the highest bit of the pointer
+root 0x50;block 64 16 02000000000000000100000000000000;block 80 16 01000000000000004000000000000080;~16 ribbit: image 44: base 80, address 9223372036854775872;
+# the tag of the tail
+root 0x50;block 64 16 02000000000000000100000000000000;block 80 16 01000000000000004100000000000000;~0 Cons(1, Nil);
+# the number of an item
+root 0x50;block 64 16 02000000000000000100000000000000;block 80 16 ff000000000000004000000000000000;~0 Cons(255, Cons(2, Nil));
+# its highest byte
+root 0x50;block 64 16 02000000000000000100000000000000;block 80 16 01000000000000014000000000000000;~0 Cons(72057594037927937, Cons(2, Nil));
+# the tail of the inner one leads to 0
+root 0x50;block 64 16 02000000000000000000000000000000;block 80 16 01000000000000004000000000000000;~16 ribbit: image 44: base 64, address 0;
+# upward: a cycle of two blocks
+root 0x50;block 64 16 02000000000000005000000000000000;block 80 16 01000000000000004000000000000000;~16 ribbit: image 44: base 64, address 80;
+# a cycle behind a block
+root 0x50;block 64 16 02000000000000004000000000000000;block 80 16 01000000000000004000000000000000;~16 ribbit: image 44: base 64, address 64;
+# a free bit beside the tag of Nil
+root 0x50;block 64 16 02000000000000000300000000000000;block 80 16 01000000000000004000000000000000;~0 Cons(1, Cons(2, Nil));
+# a digit behind fifteen bytes
+root 0x50;block 64 15 02000000000000000100000000000000;block 80 16 01000000000000004000000000000000;~16 ribbit: image 40 at byte 52;
+# a line that ends behind sixteen
+root 0x50;block 64 17 02000000000000000100000000000000;block 80 16 01000000000000004000000000000000;~16 ribbit: image 40 at byte 54;
+# one byte into the next
+root 0x50;block 65 16 02000000000000000100000000000000;block 80 16 01000000000000004000000000000000;~16 ribbit: image 41: block 1;
+# below 64
+root 0x50;block 44 16 02000000000000000100000000000000;block 80 16 01000000000000004000000000000000;~16 ribbit: image 41: block 0;
+# into the one before
+root 0x50;block 64 16 02000000000000000100000000000000;block 70 16 01000000000000004000000000000000;~16 ribbit: image 41: block 1;
+# one byte further: nothing begins at 80
+root 0x50;block 64 16 02000000000000000100000000000000;block 81 16 01000000000000004000000000000000;~16 ribbit: image 44: base 0, address 80;
+# a capital digit
+root 0x50;block 64 16 02000000000000000100000000000000;block 80 16 0100000000000000400000000000000A;~16 ribbit: image 40 at byte 98;
+# no digit
+root 0x5g;block 64 16 02000000000000000100000000000000;block 80 16 01000000000000004000000000000000;~16 ribbit: image 40 at byte 8;
+# a digit behind 0
+root 0x00;block 64 16 02000000000000000100000000000000;block 80 16 01000000000000004000000000000000;~16 ribbit: image 40 at byte 8;
+# another word
+Root 0x50;block 64 16 02000000000000000100000000000000;block 80 16 01000000000000004000000000000000;~16 ribbit: image 40 at byte 0;
+# a capital X
+root 0X50;block 64 16 02000000000000000100000000000000;block 80 16 01000000000000004000000000000000;~16 ribbit: image 40 at byte 6;
+# the line does not end
+root 0x50;block 64 16 02000000000000000100000000000000;block 80 16 01000000000000004000000000000000~16 ribbit: image 40 at byte 99;
+# nothing at all
+~16 ribbit: image 40 at byte 0;
+# no text goes on so
+rott~16 ribbit: image 40 at byte 2;
+# no root word
+root;~16 ribbit: image 42: word 0;
+# one too many
+root 0x50 0x1;block 64 16 02000000000000000100000000000000;block 80 16 01000000000000004000000000000000;~16 ribbit: image 42: word 1;
+# 42 before 44
+root 0x48 0x1;block 64 16 02000000000000000100000000000000;block 80 16 01000000000000004000000000000000;~16 ribbit: image 42: word 1;
+# 41, though no block is reached
+root 0x1;block 64 16 00000000000000000000000000000000;block 72 8 0000000000000000;~16 ribbit: image 41: block 1;
+# one block that holds itself
+root 0x40;block 64 16 02000000000000004000000000000000;~16 ribbit: image 44: base 64, address 64;";
 
 // Images of a shape, whose tag stands behind its pointer.
-const SHAPES: [(&str, &str); 11] = [
-    // as `image` writes it
-    ("root 0x10;block 64 9 010100000002000000;", "0 Box(1, 2);"),
-    // the other leaf
-    ("root 0x10;block 64 2 0005;", "0 Dot(5);"),
-    // a split without an arm for 7
-    (
-        "root 0x10;block 64 2 0705;",
-        "16 ribbit: image 43: base 64, place 0;",
-    ),
-    // the tag of Dot, whose block has two bytes
-    (
-        "root 0x10;block 64 9 000100000002000000;",
-        "16 ribbit: image 44: base 0, address 64;",
-    ),
-    // no arm for 2
-    (
-        "root 0x10;block 64 9 020100000002000000;",
-        "16 ribbit: image 43: base 64, place 0;",
-    ),
-    // the highest byte of a field
-    (
-        "root 0x10;block 64 9 010100000002000080;",
-        "0 Box(1, 2147483650);",
-    ),
-    // the tag of Box, whose block has nine
-    (
-        "root 0x10;block 64 2 0105;",
-        "16 ribbit: image 44: base 0, address 64;",
-    ),
-    // a split behind a pointer to no block
-    (
-        "root 0x11;block 64 9 010100000002000000;",
-        "16 ribbit: image 44: base 0, address 68;",
-    ),
-    // the greatest pointer
-    (
-        "root 0xffffffff;block 64 9 010100000002000000;",
-        "16 ribbit: image 44: base 0, address 17179869180;",
-    ),
-    // 33 bits
-    (
-        "root 0x100000010;block 64 9 010100000002000000;",
-        "16 ribbit: image 42: word 0;",
-    ),
-    // 42 before 43
-    (
-        "root 0x100000010;block 64 2 0705;",
-        "16 ribbit: image 42: word 0;",
-    ),
-];
+const SHAPES: &str = "# as `image` writes it
+root 0x10;block 64 9 010100000002000000;~0 Box(1, 2);
+# the other leaf
+root 0x10;block 64 2 0005;~0 Dot(5);
+# a split without an arm for 7
+root 0x10;block 64 2 0705;~16 ribbit: image 43: base 64, place 0;
+# the tag of Dot, whose block has two bytes
+root 0x10;block 64 9 000100000002000000;~16 ribbit: image 44: base 0, address 64;
+# no arm for 2
+root 0x10;block 64 9 020100000002000000;~16 ribbit: image 43: base 64, place 0;
+# the highest byte of a field
+root 0x10;block 64 9 010100000002000080;~0 Box(1, 2147483650);
+# the tag of Box, whose block has nine
+root 0x10;block 64 2 0105;~16 ribbit: image 44: base 0, address 64;
+# a split behind a pointer to no block
+root 0x11;block 64 9 010100000002000000;~16 ribbit: image 44: base 0, address 68;
+# the greatest pointer
+root 0xffffffff;block 64 9 010100000002000000;~16 ribbit: image 44: base 0, address 17179869180;
+# 33 bits
+root 0x100000010;block 64 9 010100000002000000;~16 ribbit: image 42: word 0;
+# 42 before 43
+root 0x100000010;block 64 2 0705;~16 ribbit: image 42: word 0;";
 
 // Images of a tree, a node's color in the lowest bit of a pointer.
-const TREES: [(&str, &str); 9] = [
-    // as `image` writes it
-    (
-        "root 0x41;block 64 12 070000000000000000000000;",
-        "0 Node(Black, Empty, 7, Empty);",
-    ),
-    // the other colour
-    (
-        "root 0x40;block 64 12 070000000000000000000000;",
-        "0 Node(Red, Empty, 7, Empty);",
-    ),
-    // a block that is not reached
-    ("root 0x0;block 64 12 070000000000000000000000;", "0 Empty;"),
-    // a colour, and nothing behind it
-    (
-        "root 0x1;block 64 12 070000000000000000000000;",
-        "16 ribbit: image 44: base 0, address 0;",
-    ),
-    // free bits on both sides
-    (
-        "root 0xff000042;block 64 12 070000000000000000000000;",
-        "0 Node(Red, Empty, 7, Empty);",
-    ),
-    // the left tree is a colour alone
-    (
-        "root 0x41;block 64 12 070000000100000000000000;",
-        "16 ribbit: image 44: base 64, address 0;",
-    ),
-    // the right tree is the whole
-    (
-        "root 0x41;block 64 12 070000000000000040000000;",
-        "16 ribbit: image 44: base 64, address 64;",
-    ),
-    // both, of which the left one is named
-    (
-        "root 0x41;block 64 12 070000004000000001000000;",
-        "16 ribbit: image 44: base 64, address 64;",
-    ),
-    // a block of another size
-    (
-        "root 0x41;block 64 11 0700000000000000000000;",
-        "16 ribbit: image 44: base 0, address 64;",
-    ),
-];
+const TREES: &str = "# as `image` writes it
+root 0x41;block 64 12 070000000000000000000000;~0 Node(Black, Empty, 7, Empty);
+# the other colour
+root 0x40;block 64 12 070000000000000000000000;~0 Node(Red, Empty, 7, Empty);
+# a block that is not reached
+root 0x0;block 64 12 070000000000000000000000;~0 Empty;
+# a colour, and nothing behind it
+root 0x1;block 64 12 070000000000000000000000;~16 ribbit: image 44: base 0, address 0;
+# free bits on both sides
+root 0xff000042;block 64 12 070000000000000000000000;~0 Node(Red, Empty, 7, Empty);
+# the left tree is a colour alone
+root 0x41;block 64 12 070000000100000000000000;~16 ribbit: image 44: base 64, address 0;
+# the right tree is the whole
+root 0x41;block 64 12 070000000000000040000000;~16 ribbit: image 44: base 64, address 64;
+# both, of which the left one is named
+root 0x41;block 64 12 070000004000000001000000;~16 ribbit: image 44: base 64, address 64;
+# a block of another size
+root 0x41;block 64 11 0700000000000000000000;~16 ribbit: image 44: base 0, address 64;";
 
 // Images of an instruction, which has no split.
-const INSTRUCTIONS: [(&str, &str); 4] = [
-    // as `image` writes it
-    ("root 0x208463;", "0 Branch(0, 1, 2, 4);"),
-    // a constant that differs
-    ("root 0x208462;", "16 ribbit: image 43: base 0, place 0;"),
-    // in another of its bits
-    ("root 0x208423;", "16 ribbit: image 43: base 0, place 0;"),
-    // a bit too many
-    ("root 0x100208463;", "16 ribbit: image 42: word 0;"),
-];
+const INSTRUCTIONS: &str = "# as `image` writes it
+root 0x208463;~0 Branch(0, 1, 2, 4);
+# a constant that differs
+root 0x208462;~16 ribbit: image 43: base 0, place 0;
+# in another of its bits
+root 0x208423;~16 ribbit: image 43: base 0, place 0;
+# a bit too many
+root 0x100208463;~16 ribbit: image 42: word 0;";
 
 // Images of a pair in two blocks.
-const PAIRS: [(&str, &str); 4] = [
-    // as `image` writes it
-    (
-        "root 0x9;block 64 8 0600000000000000;block 72 16 05000000000000000800000000000000;",
-        "0 Two(5, 6);",
-    ),
-    // the inner block for the outer
-    (
-        "root 0x8;block 64 8 0600000000000000;block 72 16 05000000000000000800000000000000;",
-        "16 ribbit: image 44: base 0, address 64;",
-    ),
-    // the outer one for the inner
-    (
-        "root 0x9;block 64 8 0600000000000000;block 72 16 05000000000000000900000000000000;",
-        "16 ribbit: image 44: base 72, address 72;",
-    ),
-    // an address of more than 64 bits
-    (
-        "root 0x9;block 64 8 0600000000000000;block 72 16 050000000000000008000000000000ff;",
-        "16 ribbit: image 44: base 72, address 146997491837372989504;",
-    ),
-];
+const PAIRS: &str = "# as `image` writes it
+root 0x9;block 64 8 0600000000000000;block 72 16 05000000000000000800000000000000;~0 Two(5, 6);
+# the inner block for the outer
+root 0x8;block 64 8 0600000000000000;block 72 16 05000000000000000800000000000000;~16 ribbit: image 44: base 0, address 64;
+# the outer one for the inner
+root 0x9;block 64 8 0600000000000000;block 72 16 05000000000000000900000000000000;~16 ribbit: image 44: base 72, address 72;
+# an address of more than 64 bits
+root 0x9;block 64 8 0600000000000000;block 72 16 050000000000000008000000000000ff;~16 ribbit: image 44: base 72, address 146997491837372989504;";
 
 // An integer's image is one word.
-const INTEGERS: [(&str, &str); 5] = [
-    ("root 0xff;", "0 255;"),
-    ("root 0x0;block 64 1 00;", "0 0;"),
-    ("root 0x100;", "16 ribbit: image 42: word 0;"),
-    ("root;", "16 ribbit: image 42: word 0;"),
-    ("root 0x1 0x1;", "16 ribbit: image 42: word 1;"),
-];
+const INTEGERS: &str = "root 0xff;~0 255;
+root 0x0;block 64 1 00;~0 0;
+root 0x100;~16 ribbit: image 42: word 0;
+root;~16 ribbit: image 42: word 0;
+root 0x1 0x1;~16 ribbit: image 42: word 1;";
 
 #[test]
 fn lists(rt: HostRuntime) -> Result<(), Surprise> {
-    expect_values(rt.alloc(), LIST, &LISTS)
+    expect_values(rt.alloc(), LIST, LISTS)
 }
 
 #[test]
 fn shapes(rt: HostRuntime) -> Result<(), Surprise> {
-    expect_values(rt.alloc(), SAME, &SHAPES)
+    expect_values(rt.alloc(), SAME, SHAPES)
 }
 
 #[test]
 fn trees(rt: HostRuntime) -> Result<(), Surprise> {
-    expect_values(rt.alloc(), TREE, &TREES)
+    expect_values(rt.alloc(), TREE, TREES)
 }
 
 #[test]
 fn instructions(rt: HostRuntime) -> Result<(), Surprise> {
-    expect_values(rt.alloc(), BRANCH, &INSTRUCTIONS)
+    expect_values(rt.alloc(), BRANCH, INSTRUCTIONS)
 }
 
 #[test]
 fn pairs(rt: HostRuntime) -> Result<(), Surprise> {
-    expect_values(rt.alloc(), PAIR, &PAIRS)
+    expect_values(rt.alloc(), PAIR, PAIRS)
 }
 
 #[test]
 fn integers(rt: HostRuntime) -> Result<(), Surprise> {
-    expect_values(rt.alloc(), "fun main(x: u1): u8 = 7;", &INTEGERS)
+    expect_values(rt.alloc(), "fun main(x: u1): u8 = 7;", INTEGERS)
 }
 
 // Words of `main` that gives back its argument, or a value of its own.
