@@ -65,49 +65,24 @@ fn words_and_blocks(rt: HostRuntime) -> Result<(), Surprise> {
 }
 
 // File, and what is refused.
-const REFUSED: [(&str, &str); 8] = [
-    (
-        "type List = Nil | Cons(u64, List); layout List = packed;",
-        "List: packed: recursive",
-    ),
-    (
-        "type Wide = Wd(u64, u1); layout Wide = packed;",
-        "Wide: packed: 65 bits",
-    ),
-    (
-        "type Wide = A(u64) | B; layout Wide = packed;",
-        "Wide: packed: 65 bits",
-    ),
-    // a boxed type is a word of 64 bits to the types that hold it
-    (
-        "type A = A; layout A = boxed; type Wide = W(A, u1); layout Wide = packed;",
-        "Wide: packed: 65 bits",
-    ),
-    // a type reaches itself whatever the layouts between
-    (
-        "type A = A(B) | E; layout A = packed; type B = B(A); layout B = boxed;",
-        "A: packed: recursive",
-    ),
-    // the first in the file's order
-    (
-        "type A = A(u64, u64); type B = B(u64, u2); layout B = packed; layout A = packed;",
-        "B: packed: 66 bits",
-    ),
-    // before the rules of written layouts
-    (
-        "type U = U; layout U <0> = U : { word 0 { } }; type A = A(u64, u64); layout A = packed;",
-        "A: packed: 128 bits",
-    ),
-    // the rules hold with derived layouts too: a type may not flatten a boxed one
-    (
-        "type A = A(u8); layout A = boxed; type B = B(A); layout B <64> = B(A(_)) : { word 64 { [0:8] .0.0 } };",
-        "B: A9: A has a pointer",
-    ),
-];
+const REFUSED: &str =
+    "type List = Nil | Cons(u64, List); layout List = packed;~List: packed: recursive
+type Wide = Wd(u64, u1); layout Wide = packed;~Wide: packed: 65 bits
+type Wide = A(u64) | B; layout Wide = packed;~Wide: packed: 65 bits
+# a boxed type is a word of 64 bits to the types that hold it
+type A = A; layout A = boxed; type Wide = W(A, u1); layout Wide = packed;~Wide: packed: 65 bits
+# a type reaches itself whatever the layouts between
+type A = A(B) | E; layout A = packed; type B = B(A); layout B = boxed;~A: packed: recursive
+# the first in the file's order
+type A = A(u64, u64); type B = B(u64, u2); layout B = packed; layout A = packed;~B: packed: 66 bits
+# before the rules of written layouts
+type U = U; layout U <0> = U : { word 0 { } }; type A = A(u64, u64); layout A = packed;~A: packed: 128 bits
+# the rules hold with derived layouts too: a type may not flatten a boxed one
+type A = A(u8); layout A = boxed; type B = B(A); layout B <64> = B(A(_)) : { word 64 { [0:8] .0.0 } };~B: A9: A has a pointer";
 
 #[test]
 fn layouts_that_are_refused(rt: HostRuntime) -> Result<(), Surprise> {
-    expect_refused(rt.alloc(), &REFUSED)
+    expect_refused(rt.alloc(), REFUSED)
 }
 
 // File, and what refuses it before a layout does that cannot be derived.

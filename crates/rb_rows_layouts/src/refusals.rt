@@ -1,19 +1,31 @@
 //! What `check` answers to files of layouts, to each of which a `main` is added.
 
 use rb_rows_calls::call::{answer, expect_answer};
-use rb_rows_calls::surprise::{Surprise, another};
+use rb_rows_calls::surprise::{Surprise, another, no_row};
 use std::alloc::Global;
 
-/// Looks whether files are refused, each for its reason.
+/// Looks whether files are refused, each for its reason. Each line of the table is a file, a `~`, and the reason. A line
+/// that begins with a `#` says something of those below it.
 ///
 /// # Errors
 ///
-/// Another answer, or want of memory.
-pub fn expect_refused(alloc: Global, rows: &[(&str, &str)]) -> Result<(), Surprise> {
-    for (file, reason) in rows {
-        expect_refusal(alloc, file, reason)?;
+/// Another answer, a line without a `~`, or want of memory.
+pub fn expect_refused(alloc: Global, table: &str) -> Result<(), Surprise> {
+    for line in table.split('\n') {
+        expect_line(alloc, line)?;
     }
     Ok(())
+}
+
+// Looks whether the file of a line is refused for its reason.
+fn expect_line(alloc: Global, line: &str) -> Result<(), Surprise> {
+    if line.starts_with('#') {
+        return Ok(());
+    }
+    let Some((file, reason)) = line.split_once('~') else {
+        return no_row(alloc, line);
+    };
+    expect_refusal(alloc, file, reason)
 }
 
 /// Looks whether a file is refused for this reason.
@@ -44,18 +56,6 @@ pub fn expect_either(alloc: Global, rows: &[Either]) -> Result<(), Surprise> {
         if answer.as_slice() != one.as_bytes() && answer.as_slice() != other.as_bytes() {
             another(alloc, "check E", answer.as_slice(), one.as_bytes())?;
         }
-    }
-    Ok(())
-}
-
-/// Looks whether files are accepted.
-///
-/// # Errors
-///
-/// Another answer, or want of memory.
-pub fn expect_all_agreed(alloc: Global, files: &[&str]) -> Result<(), Surprise> {
-    for file in files {
-        expect_agreed(alloc, file)?;
     }
     Ok(())
 }
