@@ -63,8 +63,8 @@ pub fn expect_lines(alloc: Global, words: &str, table: &str) -> Result<(), Surpr
     Ok(())
 }
 
-/// Looks whether words have their answers to one file. Each line of the table is what stands behind `front` in the words,
-/// a `~`, and the answer. A line that begins with a `#` says something of those below it.
+/// Looks whether words have their answers to one file. Each line of the table is what stands behind `front` in the
+/// words, a `~`, and the answer. A line that begins with a `#` says something of those below it.
 ///
 /// # Errors
 ///
