@@ -143,7 +143,7 @@ fn expect_row(alloc: Global, code: &[u8], row: &str) -> Result<(), Surprise> {
 }
 
 // Looks at each line of a table so, over the code of one file.
-fn expect_lines(alloc: Global, file: &str, table: &str) -> Result<(), Surprise> {
+fn expect_code_lines(alloc: Global, file: &str, table: &str) -> Result<(), Surprise> {
     let code = code_text(alloc, file)?;
     for row in table.split('\n') {
         expect_row(alloc, code.as_slice(), row)?;
@@ -155,63 +155,63 @@ fn expect_lines(alloc: Global, file: &str, table: &str) -> Result<(), Surprise> 
 // Arms, and tests of numbers.
 fn expect_results(alloc: Global) -> Result<(), Surprise> {
     // an arm whose value is the function's result returns it
-    expect_lines(alloc, SUM, "return ~3~3\ncopy ~0~0\njump ~0~0")?;
-    expect_lines(alloc, RESULTS, "return ~3~3\ncopy ~0~0\njump ~0~0")?;
+    expect_code_lines(alloc, SUM, "return ~3~3\ncopy ~0~0\njump ~0~0")?;
+    expect_code_lines(alloc, RESULTS, "return ~3~3\ncopy ~0~0\njump ~0~0")?;
     // the arms of a match in an operand leave theirs in one slot, one as a number and one copied, and go on behind it,
     // where the last one ends
-    expect_lines(alloc, OPERAND, "return ~1~1\ncopy ~1~1\njump ~1~1")?;
+    expect_code_lines(alloc, OPERAND, "return ~1~1\ncopy ~1~1\njump ~1~1")?;
     // four tests of a field, each once: as a tree they were six
-    expect_lines(alloc, FOUR, "switch ~0~4")
+    expect_code_lines(alloc, FOUR, "switch ~0~4")
 }
 
 // Leaves that tell what stands in them.
 fn expect_leaves(alloc: Global) -> Result<(), Surprise> {
     // one switch finds the leaf, and each way has one for its byte: the bit is tested by none
-    expect_lines(alloc, TOLD, "switch ~3~3")?;
+    expect_code_lines(alloc, TOLD, "switch ~3~3")?;
     // one switch finds the leaf, which tells an entry and its bit: neither is tested
-    expect_lines(alloc, TOLD_INSIDE, "switch ~1~1")?;
+    expect_code_lines(alloc, TOLD_INSIDE, "switch ~1~1")?;
     // one finds the leaf, which tells an entry, and each of the bit and the byte below it has one; they are read from
     // the pair, so that no entry is put together
-    expect_lines(alloc, TOLD_ABOVE, "switch ~3~3\nput ~0~0")?;
+    expect_code_lines(alloc, TOLD_ABOVE, "switch ~3~3\nput ~0~0")?;
     // one finds the leaf; behind it the bit and the byte have one each, and the number of the other way one
-    expect_lines(alloc, TOLD_TWICE, "switch ~4~4\nput ~0~0")?;
+    expect_code_lines(alloc, TOLD_TWICE, "switch ~4~4\nput ~0~0")?;
     // one finds the leaf, for two ways of which the byte has one; where it is bound, one finds the leaf again. No entry
     // is put together
-    expect_lines(alloc, OPENED, "switch ~3~3\nput ~0~0")?;
+    expect_code_lines(alloc, OPENED, "switch ~3~3\nput ~0~0")?;
     // one finds the leaf, and each field has one
-    expect_lines(alloc, MET, "switch ~4~4")
+    expect_code_lines(alloc, MET, "switch ~4~4")
 }
 
 // Constructors that the file shows, and colours.
 fn expect_shown(alloc: Global) -> Result<(), Surprise> {
     // a constructor that the file shows is not looked at, and a variable's is, once
-    expect_lines(alloc, SHOWN, "switch ~0~0")?;
-    expect_lines(alloc, UNSHOWN, "switch ~1~1")?;
+    expect_code_lines(alloc, SHOWN, "switch ~0~0")?;
+    expect_code_lines(alloc, UNSHOWN, "switch ~1~1")?;
     // one switch tells the match whether the tree is empty; the color is the bit that tells a node's leaf, so that both
     // ways return that bit, and no switch tells them apart
-    expect_lines(
+    expect_code_lines(
         alloc,
         COLOUR,
         "switch ~1~1\njump ~0~0\nconst ~1~1\nreturn ~2~2",
     )?;
     // the match tells all three leaves apart, and a red node's number is where the leaf of red nodes has it
-    expect_lines(alloc, BY_COLOUR, "switch ~2~2")
+    expect_code_lines(alloc, BY_COLOUR, "switch ~2~2")
 }
 
 // What is read of words and blocks.
-fn expect_words(alloc: Global) -> Result<(), Surprise> {
+fn expect_reads(alloc: Global) -> Result<(), Surprise> {
     // a number in a block is loaded where the body uses it, and a tail where it is tested
-    expect_lines(alloc, UNUSED, "load ~0~0")?;
-    expect_lines(alloc, USED, "load ~1~1")?;
+    expect_code_lines(alloc, UNUSED, "load ~0~0")?;
+    expect_code_lines(alloc, USED, "load ~1~1")?;
     // the address of the block of which both are loaded is made once
-    expect_lines(alloc, TESTED, "load ~2~2\nalu ~1~1")?;
+    expect_code_lines(alloc, TESTED, "load ~2~2\nalu ~1~1")?;
     // where the file shows what stands in an argument there is none; where it does not, one finds its leaf, which tells
     // its bit
-    expect_lines(alloc, SHOWN_INSIDE, "switch ~1~1")?;
+    expect_code_lines(alloc, SHOWN_INSIDE, "switch ~1~1")?;
     // a word that is tested in all its bits is tested as it is
-    expect_lines(alloc, WHOLE, "take ~0~0")?;
+    expect_code_lines(alloc, WHOLE, "take ~0~0")?;
     // bits of a field are taken from the word in which the field stands
-    expect_lines(alloc, INNER, "take ~1~1")
+    expect_code_lines(alloc, INNER, "take ~1~1")
 }
 
 #[test]
@@ -220,7 +220,7 @@ fn lines_of_code(rt: HostRuntime) -> Result<(), Surprise> {
     expect_results(alloc)?;
     expect_leaves(alloc)?;
     expect_shown(alloc)?;
-    expect_words(alloc)
+    expect_reads(alloc)
 }
 
 // The text does as many switches as `count` says. B in the second and fourth place is the word 10.
@@ -339,7 +339,7 @@ fn one_switch_for_all_numbers(rt: HostRuntime) -> Result<(), Fail> {
     let alloc = rt.alloc();
     let file = three_hundred(alloc)?;
     let text = file.as_str();
-    expect_lines(alloc, text, "switch ~1~1")?;
+    expect_code_lines(alloc, text, "switch ~1~1")?;
     let named = "value 299;calls 1;";
     expect_counts(alloc, "count E 1 64 299", text.as_bytes(), named, 1, BEHIND)?;
     let other = "value 7;calls 1;";
