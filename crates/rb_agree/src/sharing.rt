@@ -203,7 +203,7 @@ fn groups(alloc: Global, heads: &[Option<u32>]) -> Result<Seq<Seq<u32>>, AllocEr
 }
 
 // Whether leaf `n` shares a value of type `ty` with leaf `m`, where there is such a leaf and it is a
-// later one.
+// later one. False is proved of what is so; that true is right no clause says.
 fn shares_later(
     alloc: Global,
     types: &[DataDecl],
@@ -226,7 +226,8 @@ fn shares_later(
     }
 }
 
-// Whether leaf `n` shares a value of type `ty` with a later one of these members.
+// Whether leaf `n` shares a value of type `ty` with a later one of these members. False is proved of
+// what is so; that true is right no clause says.
 fn shares_with(
     alloc: Global,
     types: &[DataDecl],

@@ -138,7 +138,7 @@ pub(crate) fn leaf_known(known: &[Known], ty: u32, position: &[u32]) -> Option<u
     None
 }
 
-/// Whether a spot is known to hold its part.
+/// Whether a spot is known to hold its part. True is proved of what is so; that false is right no clause says.
 pub fn saved_known(known: &[Known], spot: usize) -> bool
     ensures { result ≡ true → FollowsSaved known.now spot }
 {
@@ -261,7 +261,8 @@ fn meet<'a>(
 }
 
 /// What is known at a node by whatever edge it is reached: the facts that all edges to it carry, in
-/// the order of the first. None where no edge leads there.
+/// the order of the first. None where no edge leads there. They are proved to be so wherever those of one of these
+/// edges are; that no common fact is left out no clause says.
 ///
 /// # Errors
 ///

@@ -212,8 +212,8 @@ fn place_inside(
 ///
 /// # Errors
 ///
-/// Want of memory, or a part on the way to the position whose leaf is not known or has taken the
-/// next field apart.
+/// Want of memory, an integer on the way to the position, or a part there whose leaf is not known or
+/// has taken the next field apart.
 pub fn place_of_part(
     alloc: Global,
     agreed: &Agreed,
@@ -258,7 +258,7 @@ fn has_place(types: &[DataDecl], ty: Ty, pat: &Pat, position: &[u32], at: Ty) ->
 }
 
 /// Whether some of the patterns, taken at type `ty`, has a number or a constructor at a position,
-/// where type `at` is.
+/// where type `at` is. True is proved of what is so; that false is right no clause says.
 pub fn is_looked_at(types: &[DataDecl], ty: Ty, pats: &[Pat], position: &[u32], at: Ty) -> bool
     ensures { result ≡ true → IsLookedAt types.now ty pats.now position.now at }
 {

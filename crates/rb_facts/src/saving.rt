@@ -124,7 +124,8 @@ fn slots_are_apart(slots: &[usize], others: &[usize]) -> bool
     true
 }
 
-/// The number of the spot for a part of this type at a position; None where there is no such spot.
+/// The number of the spot for a part of this type at a position; None where there is no such spot. That there is none
+/// then, no clause says.
 pub fn spot_at(spots: &[Spot], position: &[u32], ty: Ty) -> Option<usize>
     ensures { IfSome result (λ k. IsSpotAt spots.now position.now ty k) }
 {
@@ -298,7 +299,8 @@ fn save_below<'a>(
 ///
 /// # Errors
 ///
-/// Want of memory, a part whose leaf its type lacks, or a spot that shares slots with the part.
+/// Want of memory, a part whose leaf its type lacks, a field that its constructor's declaration lacks, or a spot that
+/// shares slots with the part.
 pub fn save_fields<'a>(
     alloc: Global,
     body: &mut Body,

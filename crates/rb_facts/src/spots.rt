@@ -68,7 +68,8 @@ fn has_constructor(subs: &[Pat]) -> bool
     false
 }
 
-/// Whether some leaf of a type takes a subvalue apart; false where the type has no layout.
+/// Whether some leaf of a type takes a subvalue apart; false where the type has no layout. True is proved of what is
+/// so; that false is right no clause says.
 pub fn is_deep(agreed: &Agreed, ty: u32) -> bool
     ensures { result ≡ true → takes_none_apart agreed.now.layouts ty ≡ false }
 {
@@ -288,7 +289,7 @@ fn copy_position(alloc: Global, position: &[u32]) -> Result<Seq<u32>, AllocError
 }
 
 /// Slots for some parts, a spot for each, in their order: new slots, one for each word of the
-/// part's type.
+/// part's type. Which part a spot is for no clause says: who takes a part from a spot compares its position first.
 ///
 /// # Errors
 ///

@@ -14,8 +14,8 @@ ghost use Rattle.rb_image.specs.inner.Viewing.{parts_of};
 use rb_layout::layout::{FlatWord, Kind, Leaf, Part};
 use std::alloc::{AllocError, Global};
 
-/// A part of a leaf, and the word that it is of: a root word with this number, or the word of a block that begins at
-/// this byte.
+/// A part of a leaf, and the word that it is of: word number `word` of the root, where `block` is None, or of the block
+/// with that number. The word begins at byte `byte` and has `width` bits.
 #[derive(Clone, Copy, Drop)]
 pub struct Spot<'a> {
     pub block: Option<u32>,

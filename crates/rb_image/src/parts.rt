@@ -130,8 +130,9 @@ fn examine_part(
     }
 }
 
-/// Examines the parts of a leaf in their order, where `words` are those of its root, and `memory` has the blocks of an
-/// image, by address: gives the addresses of the leaf's blocks by number, 0 for one to which no pointer leads.
+/// Examines the parts of a leaf in their order, which is `order`, as `order_of` gives it; `words` are those of its
+/// root, and `memory` has the blocks of an image, by address. Gives the addresses of the leaf's blocks by number, 0 for
+/// one to which no pointer leads.
 ///
 /// # Errors
 ///
